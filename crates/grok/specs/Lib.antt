@@ -1,0 +1,10 @@
+pub mod Pieces
+pub mod Views
+pub mod Rest
+pub mod Grammar
+pub mod Texts
+pub mod Joined
+pub mod Spans
+pub mod Sources
+pub mod Maps
+pub mod Ten

@@ -1,0 +1,75 @@
+-- The pieces of a text, kept as ranges of it.
+use Rattle.std.specs.Prelude.{◌≡◌, ℕ, ◌+◌, ◌-◌, ◌≤◌, if◌then◌else◌, ◌==◌, List, All, map, length, slice_range, IsCharBoundary}
+use Rattle.grok.specs.declared.defs.spans.Place.{Place}
+use Rattle.grok.specs.declared.defs.spans.Places.{Places}
+use Rattle.grok.specs.declared.defs.spans.Span.{Span}
+use Rattle.grok.specs.declared.defs.spans.Span.TheVariants.{Regular, Placeholder, Malformed}
+use Rattle.grok.specs.Pieces as spec
+
+-- ---- reading a span
+
+-- what stands in the range
+abbrev pub text_in : List ℕ → Place → List ℕ
+text_in T p = slice_range T p.from p.to
+
+abbrev pub parts_in : List ℕ → Places → spec.Parts
+parts_in T p = record { name = text_in T p.name; alias = text_in T p.alias; extract = text_in T p.extract; definition = text_in T p.definition }
+
+-- the piece that a span of the text stands for
+abbrev pub piece_in : List ℕ → Span → spec.Piece
+piece_in T (Regular p) = spec.Regular p.from p.to (text_in T p)
+piece_in T (Placeholder p parts) = spec.Placeholder p.from p.to (text_in T p) (parts_in T parts)
+piece_in T (Malformed f) = spec.Malformed f
+
+-- the range begins and ends where characters of the text do
+pub record IsPlaceOf (T : List ℕ) (p : Place) : Type 0 where
+  pub ordered : p.from ≤ p.to
+  pub begins : IsCharBoundary T p.from
+  pub ends : IsCharBoundary T p.to
+
+pub record ArePlacesOf (T : List ℕ) (p : Places) : Type 0 where
+  pub name : IsPlaceOf T p.name
+  pub alias : IsPlaceOf T p.alias
+  pub extract : IsPlaceOf T p.extract
+  pub definition : IsPlaceOf T p.definition
+
+-- each range of the span is one of the text
+abbrev pub IsSpanOf : List ℕ → Span → Type 0
+IsSpanOf T (Regular p) = IsPlaceOf T p
+IsSpanOf T (Placeholder p parts) = IsPlaceOf T p × ArePlacesOf T parts
+IsSpanOf T (Malformed f) = Unit {0}
+
+-- the spans, read in the text, are its pieces
+pub record AreSpansOf (T : List ℕ) (spans : List Span) : Type 0 where
+  pub reads : map (piece_in T) spans ≡ spec.pieces T
+  pub within : All (IsSpanOf T) spans
+
+-- ---- where the parts of a piece stand
+
+-- the range of so many bytes from there on; a part that is empty stands at the start of the text
+abbrev pub placed : ℕ → ℕ → Place
+placed from len = if len == 0 then record { from = 0; to = 0 } else record { from = from; to = from + len }
+
+-- the part stands there
+pub record StandsAt (T : List ℕ) (from : ℕ) (part : List ℕ) : Type 0 where
+  pub place : IsPlaceOf T (placed from (length part))
+  pub reads : text_in T (placed from (length part)) ≡ part
+
+-- the parts of the placeholder from s to e, which is spelled `%{name:alias:extract=definition}`
+pub record PartsStand (T : List ℕ) (s e : ℕ) (p : spec.Parts) : Type 0 where
+  pub fits : s + 2 + length p.name + length p.alias + length p.extract + length p.definition + 1 ≤ e
+  pub name : StandsAt T (s + 2) p.name
+  pub alias : StandsAt T (s + 2 + length p.name + 1) p.alias
+  pub extract : StandsAt T (s + 2 + length p.name + 1 + length p.alias + 1) p.extract
+  pub definition : StandsAt T (e - 1 - length p.definition) p.definition
+
+-- the piece from s to e has the text that stands there
+pub record PieceStands (T : List ℕ) (s e : ℕ) (text : List ℕ) : Type 0 where
+  pub place : IsPlaceOf T (record { from = s; to = e })
+  pub reads : text ≡ slice_range T s e
+
+-- each text of the piece stands in T where the piece says
+abbrev pub IsPieceOf : List ℕ → spec.Piece → Type 0
+IsPieceOf T (spec.Regular s e text) = PieceStands T s e text
+IsPieceOf T (spec.Placeholder s e text parts) = PieceStands T s e text × PartsStand T s e parts
+IsPieceOf T (spec.Malformed f) = Unit {0}
