@@ -14,3 +14,4 @@ pub mod Stands
 pub mod Kept
 pub mod NamedTexts
 pub mod Sets
+pub mod Rows

@@ -8,3 +8,6 @@ pub mod Spans
 pub mod Sources
 pub mod Maps
 pub mod Ten
+pub mod Tree
+pub mod Keys
+pub mod Expanded

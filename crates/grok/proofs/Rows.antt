@@ -1,0 +1,27 @@
+-- Worked patterns, by computation.
+use Rattle.std.proofs.Common.{◌≡◌, ℕ, cond, false, true, List, [], ◌∷◌, length, Some, None, refl}
+use Rattle.std.specs.Prelude.{codes}
+use Rattle.std.specs.Str.{bytes_eq}
+use Rattle.grok.specs.Pieces.{pieces_after, first_piece, regular_len, regular_skip, placeholder_at, alias_at, extract_at, close_at, definition_at, word_at}
+use Rattle.grok.specs.Tree.{Definitions, tree, Missing, no_definitions}
+use Rattle.grok.specs.Keys.{keys, recorded, first_fault, Structural, Clash, extract_of}
+use Rattle.grok.specs.Expanded.{expanded, groups, nesting}
+
+abbrev from_table : List (List ℕ × List ℕ) → Definitions
+from_table [] name = None
+from_table (row ∷ rows) name = cond (bytes_eq row.0 name) (Some row.1) (from_table rows name)
+
+abbrev A_and_B : Definitions
+A_and_B = from_table ((codes "A", codes "a") ∷ (codes "B", codes "%{A}%{A}") ∷ [])
+
+repeated_text : expanded false (tree A_and_B (codes "%{B}")) ≡ codes "(?<_n_0>(?<_n_1>a)(?<_n_2>a))"
+unfolding tree pieces_after first_piece regular_len regular_skip placeholder_at alias_at extract_at close_at definition_at word_at
+repeated_text = refl
+
+repeated_keys : keys (recorded false (tree A_and_B (codes "%{B}"))) ≡ codes "B" ∷ codes "A" ∷ codes "A[1]" ∷ []
+unfolding tree pieces_after first_piece regular_len regular_skip placeholder_at alias_at extract_at close_at definition_at word_at
+repeated_keys = refl
+
+both_orders : first_fault false (tree no_definitions (codes "%{P:x=a}%{P:x:int=b}%{P:x[1]=c}")) ≡ Some (Clash (codes "x[1]"))
+unfolding tree pieces_after first_piece regular_len regular_skip placeholder_at alias_at extract_at close_at definition_at word_at
+both_orders = refl

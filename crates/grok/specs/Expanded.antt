@@ -1,0 +1,34 @@
+-- The text that a clean tree stands for, and its size.
+use Rattle.std.specs.Prelude.{ℕ, suc, ◌-◌, max, Bool, List, [], ◌∷◌, ◌++◌, length, if◌then◌else◌, codes}
+use Rattle.grok.specs.Tree.{Event, Text, Open, Close, Fails}
+use Rattle.grok.specs.Keys.{numeral, is_recorded, recorded}
+
+-- the text of events that stand after so many recorded opens: the one of number k writes `(?<_n_k>`, and one that isn't recorded `(?:`
+abbrev pub text_after : Bool → ℕ → List Event → List ℕ
+text_after alias_only count [] = []
+text_after alias_only count (Text text ∷ events) = text ++ text_after alias_only count events
+text_after alias_only count (Close ∷ events) = codes ")" ++ text_after alias_only count events
+text_after alias_only count (Fails fault ∷ events) = text_after alias_only count events
+text_after alias_only count (Open label meaning ∷ events) =
+    if is_recorded alias_only label
+    then codes "(?<_n_" ++ numeral count ++ codes ">" ++ text_after alias_only (suc count) events
+    else codes "(?:" ++ text_after alias_only count events
+
+-- the text of a clean tree
+abbrev pub expanded : Bool → List Event → List ℕ
+expanded alias_only tree = text_after alias_only 0 tree
+
+-- how many groups the text names by number
+abbrev pub groups : Bool → List Event → ℕ
+groups alias_only tree = length (recorded alias_only tree)
+
+-- the greatest nesting of an open, where so many are open already, and 0 if there is none
+abbrev pub nesting_after : ℕ → List Event → ℕ
+nesting_after depth [] = 0
+nesting_after depth (Text text ∷ events) = nesting_after depth events
+nesting_after depth (Close ∷ events) = nesting_after (depth - 1) events
+nesting_after depth (Fails fault ∷ events) = nesting_after depth events
+nesting_after depth (Open label meaning ∷ events) = max (suc depth) (nesting_after (suc depth) events)
+
+abbrev pub nesting : List Event → ℕ
+nesting tree = nesting_after 0 tree
