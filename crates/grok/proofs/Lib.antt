@@ -15,3 +15,4 @@ pub mod Kept
 pub mod NamedTexts
 pub mod Sets
 pub mod Rows
+pub mod Writing

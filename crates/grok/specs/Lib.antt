@@ -11,3 +11,4 @@ pub mod Ten
 pub mod Tree
 pub mod Keys
 pub mod Expanded
+pub mod Items

@@ -2,6 +2,9 @@
 #![tactic(auto)]
 
 pub mod defs;
+mod items;
 pub mod parser;
+mod structural;
 
 pub use defs::{Grok, patterns};
+pub use structural::Fault;
