@@ -12,3 +12,4 @@ pub mod Tree
 pub mod Keys
 pub mod Expanded
 pub mod Items
+pub mod Errors

@@ -3,8 +3,10 @@
 
 pub mod defs;
 mod items;
+mod errors;
 pub mod parser;
 mod structural;
 
 pub use defs::{Grok, patterns};
 pub use structural::Fault;
+pub use errors::Error;
