@@ -16,3 +16,6 @@ pub mod NamedTexts
 pub mod Sets
 pub mod Rows
 pub mod Writing
+pub mod KeyLaws
+pub mod Cuts
+pub mod Numerals

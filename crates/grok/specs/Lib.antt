@@ -13,3 +13,5 @@ pub mod Keys
 pub mod Expanded
 pub mod Items
 pub mod Errors
+pub mod Given
+pub mod FirstFault

@@ -4,6 +4,7 @@
 pub mod defs;
 mod items;
 mod errors;
+pub mod key_laws;
 pub mod parser;
 mod structural;
 
