@@ -11,3 +11,5 @@ pub mod Ten
 pub mod Tree
 pub mod Keys
 pub mod Expanded
+pub mod Tiles
+pub mod Named

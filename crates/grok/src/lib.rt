@@ -2,6 +2,7 @@
 #![tactic(auto)]
 
 pub mod defs;
+pub mod laws;
 pub mod parser;
 
 pub use defs::{Grok, patterns};
