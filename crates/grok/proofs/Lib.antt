@@ -9,7 +9,7 @@ pub mod Written
 pub mod Found
 pub mod Faults
 pub mod Adequate
-pub mod Laws
+pub mod PieceLaws
 pub mod Stands
 pub mod Kept
 pub mod NamedTexts

@@ -15,3 +15,5 @@ pub mod Items
 pub mod Errors
 pub mod Given
 pub mod FirstFault
+pub mod Tiles
+pub mod Named
