@@ -15,3 +15,7 @@ pub mod Kept
 pub mod NamedTexts
 pub mod Sets
 pub mod Rows
+pub mod SizeLaws
+pub mod TreeSizes
+pub mod Flat
+pub mod Remembering

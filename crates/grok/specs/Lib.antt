@@ -11,3 +11,6 @@ pub mod Ten
 pub mod Tree
 pub mod Keys
 pub mod Expanded
+pub mod Sizes
+pub mod Remembered
+pub mod Measured
