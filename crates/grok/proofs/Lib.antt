@@ -19,3 +19,4 @@ pub mod SizeLaws
 pub mod TreeSizes
 pub mod Flat
 pub mod Remembering
+pub mod Meeting
