@@ -20,3 +20,4 @@ pub mod TreeSizes
 pub mod Flat
 pub mod Remembering
 pub mod Meeting
+pub mod Counting
