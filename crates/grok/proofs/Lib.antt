@@ -19,3 +19,9 @@ pub mod Writing
 pub mod KeyLaws
 pub mod Cuts
 pub mod Numerals
+pub mod SizeLaws
+pub mod TreeSizes
+pub mod Flat
+pub mod Remembering
+pub mod Meeting
+pub mod Counting

@@ -17,3 +17,6 @@ pub mod Given
 pub mod FirstFault
 pub mod Tiles
 pub mod Named
+pub mod Sizes
+pub mod Remembered
+pub mod Measured
