@@ -15,3 +15,7 @@ pub mod Kept
 pub mod NamedTexts
 pub mod Sets
 pub mod Rows
+pub mod Writing
+pub mod KeyLaws
+pub mod Cuts
+pub mod Numerals

@@ -11,3 +11,7 @@ pub mod Ten
 pub mod Tree
 pub mod Keys
 pub mod Expanded
+pub mod Items
+pub mod Errors
+pub mod Given
+pub mod FirstFault

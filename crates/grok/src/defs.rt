@@ -4,7 +4,7 @@ ghost use Rattle.std.specs.FinMap as finite;
 ghost use Rattle.grok.specs.Maps.{set_all, pair_texts};
 ghost use Rattle.grok.specs.Ten.{ten};
 
-mod pieces;
+pub(crate) mod pieces;
 mod spans;
 pub(crate) mod stored;
 
