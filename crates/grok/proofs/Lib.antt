@@ -21,3 +21,4 @@ pub mod Flat
 pub mod Remembering
 pub mod Meeting
 pub mod Counting
+pub mod Bracketing
