@@ -22,3 +22,4 @@ pub mod Remembering
 pub mod Meeting
 pub mod Counting
 pub mod Bracketing
+pub mod Flagging
