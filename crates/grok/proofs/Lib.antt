@@ -9,12 +9,16 @@ pub mod Written
 pub mod Found
 pub mod Faults
 pub mod Adequate
-pub mod Laws
+pub mod PieceLaws
 pub mod Stands
 pub mod Kept
 pub mod NamedTexts
 pub mod Sets
 pub mod Rows
+pub mod Writing
+pub mod KeyLaws
+pub mod Cuts
+pub mod Numerals
 pub mod SizeLaws
 pub mod TreeSizes
 pub mod Flat
