@@ -27,3 +27,6 @@ pub mod Meeting
 pub mod Counting
 pub mod Bracketing
 pub mod Flagging
+pub mod Sound
+pub mod Defined
+pub mod Whole
