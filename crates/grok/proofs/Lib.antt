@@ -30,3 +30,5 @@ pub mod Flagging
 pub mod Sound
 pub mod Defined
 pub mod Whole
+pub mod Places
+pub mod Fits

@@ -81,6 +81,10 @@ visit alias_only resolve (suc levels) name text st =
 abbrev pub look_within : Bool → (List ℕ → List Item) → ℕ → List Item → State → Answer
 look_within alias_only resolve levels items st = look alias_only (visit alias_only resolve levels) (inlined levels) items st
 
+-- one item, where so many levels may still be opened
+abbrev pub item_within : Bool → (List ℕ → List Item) → ℕ → Item → State → Answer
+item_within alias_only resolve levels item st = item_answer alias_only (visit alias_only resolve levels) (inlined levels) item st
+
 abbrev pub nothing_met : State
 nothing_met = record { marks = λ name. None; looks = 0; ends = 0; bracket = false }
 
