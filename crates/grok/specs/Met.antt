@@ -47,6 +47,11 @@ pub record Gives (r : Result Sum Fault) (met : Met) (answer : Answer) : Type 0 w
   pub same : result_view r ≡ shown_result answer.0
   pub leaves : Shows met answer.1
 
+-- the same, where nothing is left different
+pub record Knows (r : Result Sum Fault) (st : State) (answer : Answer) : Type 0 where
+  pub same : result_view r ≡ shown_result answer.0
+  pub stays : answer.1 ≡ st
+
 -- what contracts see of an answer
 abbrev pub measure_view : Measure → Measured
 measure_view (measure.Fault fault) = Faulty (fault_view fault)

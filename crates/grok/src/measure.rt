@@ -1,12 +1,12 @@
 //! The size of what a pattern stands for, without expanding it.
-ghost use Rattle.std.specs.Prelude.{◌≡◌, ℕ, ◌+◌, ◌*◌, ◌<◌, ◌≤◌, ◌^◌, max, [], ◌∷◌, ◌||◌, length, IfOk, MatchOption, None as nothing};
+ghost use Rattle.std.specs.Prelude.{◌≡◌, ℕ, Option, Result, option_map, OnOk, ◌+◌, ◌*◌, ◌<◌, ◌≤◌, ◌^◌, max, [], ◌∷◌, ◌||◌, length, IfOk, MatchOption, None as nothing};
 ghost use Rattle.std.specs.FinMap as finite;
 ghost use Rattle.grok.specs.Tree as spec;
 ghost use Rattle.grok.specs.Keys.{is_recorded, ends_in_bracket, has_bracket};
-ghost use Rattle.grok.specs.Sizes.{Size, plus, bracketed as bracket, length_of, places_from, size_of_bytes};
-ghost use Rattle.grok.specs.Remembered.{State, visit as visited, look_within, item_within};
+ghost use Rattle.grok.specs.Sizes.{Size, plus, bracketed as bracket, wrapped, length_of, places_from, size_of_bytes};
+ghost use Rattle.grok.specs.Remembered.{State, Answer, inlined, labelled, with_mark, by_mark, visit as visited, look_within, item_within};
 ghost use Rattle.grok.specs.Measured.{measured_tree, size_within, counted, reached_pieces, reached_texts};
-ghost use Rattle.grok.specs.Met.{fit, shown, measure_view, Shows, Gives};
+ghost use Rattle.grok.specs.Met.{fit, shown, shown_result, result_view, mark_of, measure_view, Shows, Gives, Knows};
 ghost use Rattle.grok.specs.Items.{label_view, item_view};
 
 use crate::defs::Grok;
@@ -190,4 +190,136 @@ fn look<'a>(items: &mut Items<'a>, looks: &mut Looks) -> Result<Option<Item<'a>>
         None => looks.ends = looks.ends.saturating_add(1),
     }
     Ok(found)
+}
+
+/// The sum of a definition that is written in the text: no placeholder stands in it.
+fn measure_inline<'a>(text: &'a str, levels: usize) -> Result<Sum, Fault<'a>>
+    ensures gives { result_view result ≡ shown_result (inlined levels text.now) }
+    ensures low { IfOk result (λ sum. sum.height < levels) }
+{
+    if levels == 0 {
+        return Err(Fault::TooDeep);
+    }
+    Ok(sum_of_bytes(text))
+}
+
+/// The sum of an opened text with the brackets of its open.
+fn wrap<'a>(
+    mode: Mode<'a>,
+    label: Label<'a>,
+    inner: Result<Sum, Fault<'a>>,
+) -> Result<Sum, Fault<'a>>
+    requires { IfOk inner (λ sum. sum.height < 2 ^ 32) }
+    ensures gives { (r : Result Size spec.Fault) → result_view inner.entry ≡ shown_result r → result_view result ≡ shown_result (wrapped mode.entry.with_alias_only (label_view label.entry) r) }
+    ensures height { IfOk result (λ sum. IfOk inner.entry (λ inner. sum.height ≡ inner.height + 1)) }
+{
+    match inner {
+        Ok(sum) => Ok(bracketed(label, mode.with_alias_only, sum)),
+        Err(fault) => Err(fault),
+    }
+}
+
+impl<'a> Met<'a> {
+    /// The answer for a name that was met, where so many levels may be opened; nothing for one that was not.
+    fn known(&self, name: &'a str, levels: usize) -> Option<Result<Sum, Fault<'a>>>
+        ensures known { MatchOption result (mark_of self.now.marks name.now ≡ nothing) (λ r. (st : State) → Shows self.now st → (fresh : Answer) → Knows r st (by_mark (st.marks name.now) levels st fresh)) }
+        ensures low { MatchOption result (length name.now ≡ length name.now) (λ r. IfOk r (λ sum. sum.height < levels)) }
+    {
+        match self.marks.get(&name).copied() {
+            None => None,
+            Some(Some(sum)) if sum.height < levels => Some(Ok(sum)),
+            Some(_) => Some(Err(Fault::TooDeep)),
+        }
+    }
+
+    /// Marks a name as open, or with its sum.
+    fn mark(&mut self, name: &'a str, mark: Option<Sum>) -> Result<(), AllocError>
+        ensures { OnOk result ((st : State) (size : Option Size) → mark ≡ option_map shown size → Shows self.old st → Shows self.new (with_mark st name.now size)) }
+    {
+        self.marks.insert(name, mark)?;
+        Ok(())
+    }
+
+    /// Keeps in mind whether the alias ends in `]`.
+    fn label(&mut self, label: Label<'a>)
+        ensures { (st : State) → Shows self.old st → Shows self.new (labelled (label_view label.entry) st) }
+    {
+        self.has_bracket = ends_in_bracket(label.alias) || self.has_bracket;
+    }
+}
+
+/// The sum of the text of a name, or its first fault, where so many levels may be opened, itself among them.
+#[cycle(measure)]
+fn visit<'a>(
+    mode: Mode<'a>,
+    met: &mut Met<'a>,
+    name: &'a str,
+    stored: &'a Stored,
+    levels: usize,
+) -> Result<Result<Sum, Fault<'a>>, AllocError>
+    requires { levels < 2 ^ 31 }
+    ensures gives { IfOk result (λ r. (st : State) → Shows met.old st → Gives r met.new (visited mode.entry.with_alias_only (spec.items_of (finite.get mode.entry.grok.now)) levels name.now stored.now st)) }
+    ensures low { IfOk result (λ r. IfOk r (λ sum. sum.height < levels)) }
+{
+    if levels == 0 {
+        return Ok(Err(Fault::TooDeep));
+    }
+    if let Some(known) = met.known(name, levels) {
+        return Ok(known);
+    }
+    met.mark(name, None)?;
+    let items = Items::of_stored(mode.alloc, mode.grok, stored);
+    let measured = measure_items(mode, met, items, levels - 1)?;
+    if let Ok(sum) = measured {
+        met.mark(name, Some(sum))?;
+    }
+    Ok(measured)
+}
+
+/// The sum of an item that was taken, or its first fault.
+#[cycle(measure)]
+fn measure_item<'a>(
+    mode: Mode<'a>,
+    met: &mut Met<'a>,
+    item: Item<'a>,
+    levels: usize,
+) -> Result<Result<Sum, Fault<'a>>, AllocError>
+    requires { levels < 2 ^ 31 }
+    ensures gives { IfOk result (λ r. (st : State) → Shows met.old st → Gives r met.new (item_within mode.entry.with_alias_only (spec.items_of (finite.get mode.entry.grok.now)) levels (item_view item.entry) st)) }
+    ensures low { IfOk result (λ r. IfOk r (λ sum. sum.height ≤ levels)) }
+{
+    match item {
+        Item::Bytes(text) => Ok(Ok(sum_of_bytes(text))),
+        Item::Broken(fault) => Ok(Err(fault)),
+        Item::Opening(label, meaning) => {
+            met.label(label);
+            let inner = match meaning {
+                Meaning::Inline(text) => measure_inline(text, levels),
+                Meaning::Stored(stored) => visit(mode, met, label.name, stored, levels)?,
+            };
+            Ok(wrap(mode, label, inner))
+        }
+    }
+}
+
+/// The sum of the items of a text, or its first fault, where so many levels may be opened in it.
+#[cycle(measure)]
+fn measure_items<'a>(
+    mode: Mode<'a>,
+    met: &mut Met<'a>,
+    mut items: Items<'a>,
+    levels: usize,
+) -> Result<Result<Sum, Fault<'a>>, AllocError>
+    requires { levels < 2 ^ 31 }
+    ensures gives { IfOk result (λ r. (st : State) → Shows met.old st → Gives r met.new (look_within mode.entry.with_alias_only (spec.items_of (finite.get mode.entry.grok.now)) levels items.entry st)) }
+    ensures low { IfOk result (λ r. IfOk r (λ sum. sum.height ≤ levels)) }
+{
+    let mut sum = sum_of_bytes("");
+    'items: while let Some(item) = look(&mut items, &mut met.looks)? {
+        match measure_item(mode, met, item, levels)? {
+            Ok(one) => sum = add(sum, one),
+            Err(fault) => return Ok(Err(fault)),
+        }
+    }
+    Ok(Ok(sum))
 }
