@@ -25,3 +25,10 @@ pub mod Flat
 pub mod Remembering
 pub mod Meeting
 pub mod Counting
+pub mod Bracketing
+pub mod Flagging
+pub mod Sound
+pub mod Defined
+pub mod Whole
+pub mod Places
+pub mod Fits

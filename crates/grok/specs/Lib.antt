@@ -20,3 +20,4 @@ pub mod Named
 pub mod Sizes
 pub mod Remembered
 pub mod Measured
+pub mod Met

@@ -6,9 +6,11 @@ mod errors;
 mod items;
 pub mod key_laws;
 pub mod laws;
+mod measure;
 pub mod parser;
 mod structural;
 
 pub use defs::{Grok, patterns};
 pub use errors::Error;
+pub use measure::{Looks, Measure};
 pub use structural::Fault;
