@@ -15,3 +15,9 @@ pub mod Kept
 pub mod NamedTexts
 pub mod Sets
 pub mod Rows
+pub mod Captured
+pub mod SameBytes
+pub mod Decimals
+pub mod MeantKeys
+pub mod Extending
+pub mod Halving

@@ -11,3 +11,9 @@ pub mod Ten
 pub mod Tree
 pub mod Keys
 pub mod Expanded
+pub mod Captures
+pub mod RegexFinds
+pub mod Engines
+pub mod EngineLaws
+pub mod KeyTable
+pub mod KeyPlaces
