@@ -17,3 +17,4 @@ pub mod Engines
 pub mod EngineLaws
 pub mod KeyTable
 pub mod KeyPlaces
+pub mod Answers

@@ -126,7 +126,8 @@ fn extend(
 impl KeyTable {
     /// The table of the keys and groups of a map.
     fn new(alloc: Global, groups: &BTreeMap<&str, usize>) -> Result<KeyTable, AllocError>
-        ensures { IfOk result (λ table. table ≡ map entry_of groups.now.entries) }
+        ensures entries { IfOk result (λ table. table ≡ map entry_of groups.now.entries) }
+        ensures sorted { IfOk result (λ table. IsStrictlySortedBy (slice_cmp nat_cmp) (keys_of table)) }
     {
         let mut text = String::new(alloc);
         let mut places = Vec::with_capacity(alloc, groups.len())?;
