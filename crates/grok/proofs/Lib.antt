@@ -21,3 +21,4 @@ pub mod Decimals
 pub mod MeantKeys
 pub mod Extending
 pub mod Halving
+pub mod AnswerLemmas

@@ -20,4 +20,4 @@ as_many_captures pattern count line =
 
 -- group 0 has no name
 pub whole_has_no_name : (regex : Regex) → ∥ IsReadByDefault regex ∥₁ → slice_get (regex_names regex) 0 ≡ Some None
-whole_has_no_name regex is = ∥∥₁_elim is hlevel (λ (read : IsReadByDefault regex). group_zero _ _ _ _ read.1)
+whole_has_no_name regex is = ∥∥₁_elim is (hlevel) (λ (read : IsReadByDefault regex). group_zero _ _ _ _ read.1)

@@ -77,6 +77,7 @@ fn capture_of<'a>(captures: &[Option<&'a str>], group: usize) -> Option<&'a str>
 
 impl<E: Engine> PatternOf<E> {
     /// The pattern of these parts.
+    #[tactic(auto, using(crate::proofs::AnswerLemmas::extract_found))]
     pub(crate) fn new(
         alloc: Global,
         engine: E,
@@ -142,11 +143,14 @@ impl<E: Engine> PatternOf<E> {
     }
 
     /// The extract of a key. Whether the key has a group doesn't matter.
+    #[tactic(auto, using(crate::proofs::AnswerLemmas::extract_found))]
     pub fn get_extract(&self, name: &str) -> Option<&str>
         ensures { option_map text_of result ≡ finite.get self.now.extracts name.now }
     {
-        let extract = self.extracts.get(name)?;
-        Some(extract.as_str())
+        match self.extracts.get(name) {
+            Some(extract) => Some(extract.as_str()),
+            None => None,
+        }
     }
 }
 
@@ -253,7 +257,7 @@ pub struct MatchesIter<'a> {
 
 // Contracts see the pairs that are left.
 impl<'a> Model for MatchesIter<'a> {
-    ghost use Rattle.std.specs.Prelude.{ℕ, List, ◌×◌};
+    ghost use Rattle.std.specs.Prelude.{ℕ, List};
     ghost use Rattle.grok.specs.Captures.{capture_texts};
     ghost use Rattle.grok.specs.Answers.{walk};
 
