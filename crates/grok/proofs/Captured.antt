@@ -1,5 +1,5 @@
 -- The captures that a search gives are those of its match.
-use Rattle.std.proofs.Common.{◌≡◌, ℕ, zero, suc, ◌+◌, ◌≤◌, List, Option, Some, length, ap, ap₂, arith}
+use Rattle.std.proofs.Common.{◌≡◌, ℕ, zero, suc, List, Option, Some, length, ap, ap₂, arith}
 use mathlib.Core.Path.{fun_ext}
 use Rattle.regex.specs.Patterns.{Re, Match, find_str}
 use Rattle.regex.specs.Search.{group_span}

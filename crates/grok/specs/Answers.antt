@@ -1,5 +1,5 @@
 -- What contracts see of a pattern and of a match, and what a match answers.
-use Rattle.std.specs.Prelude.{◌≡◌, ℕ, List, [], ◌∷◌, Option, None, Some, String, map, option_map, option_and_then, filter_map, slice_index_or, string_bytes, refl}
+use Rattle.std.specs.Prelude.{ℕ, List, Option, None, String, map, option_map, option_and_then, filter_map, slice_index_or, string_bytes, refl}
 use Rattle.std.specs.Coded.{Coded, code_by, coded×, coded_list, coded_option, coded_ℕ}
 use Rattle.std.specs.FinMap as finite
 use Rattle.grok.specs.Maps.{Texts, texts_code}

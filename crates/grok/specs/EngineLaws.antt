@@ -1,7 +1,8 @@
 -- Why the engine over `regex` keeps the laws of engines.
-use Rattle.std.proofs.Common.{◌≡◌, ℕ, List, Option, None, Some, IfSome, length, option_map}
+use Rattle.std.proofs.Common.{◌≡◌, ℕ, List, None, Some, IfSome, length, option_map}
 use Rattle.std.specs.List.{slice_get}
 use mathlib.Core.Logic.{∥∥₁_elim}
+use Rattle.std.specs.Coded.{Coded-set, coded_option, coded_list, coded_ℕ}
 use Rattle.std.proofs.lemmas.List.FromFn.{length-map-range_with_len}
 use Rattle.regex.specs.Patterns.{Re, find_str}
 use Rattle.regex.specs.Strings.{regex_names}
@@ -20,4 +21,4 @@ as_many_captures pattern count line =
 
 -- group 0 has no name
 pub whole_has_no_name : (regex : Regex) → ∥ IsReadByDefault regex ∥₁ → slice_get (regex_names regex) 0 ≡ Some None
-whole_has_no_name regex is = ∥∥₁_elim is (hlevel) (λ (read : IsReadByDefault regex). group_zero _ _ _ _ read.1)
+whole_has_no_name regex is = ∥∥₁_elim is (Coded-set (coded_option (coded_option (coded_list coded_ℕ))) _ _) (λ (read : IsReadByDefault regex). group_zero _ _ _ _ read.1)

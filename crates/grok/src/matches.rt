@@ -203,10 +203,7 @@ impl<'a, E: Engine> MatchesOf<'a, E> {
     }
 
     /// The pairs of `iter`, as a map.
-    pub fn collect_map(
-        &'a self,
-        alloc: Global,
-    ) -> Result<BTreeMap<&'a str, &'a str>, AllocError>
+    pub fn collect_map(&'a self, alloc: Global) -> Result<BTreeMap<&'a str, &'a str>, AllocError>
         ensures { IfOk result (λ pairs. map pair_texts pairs.entries ≡ walk self.now.pattern.keys self.now.captures) }
     {
         let mut pairs = BTreeMap::new(alloc);

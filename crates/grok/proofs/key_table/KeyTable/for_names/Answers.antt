@@ -1,4 +1,4 @@
-use Rattle.std.proofs.Common.{◌≡◌, ℕ, List, Result, Ok, Err, map, ◌∙◌, ap, IfOk}
+use Rattle.std.proofs.Common.{◌≡◌, Result, Ok, Err, map, ◌∙◌, ap, IfOk}
 use Rattle.std.specs.String.{string_bytes}
 use Rattle.std.specs.List.Sorted.{IsStrictlySortedBy}
 use Rattle.std.specs.Map.{keys_of}

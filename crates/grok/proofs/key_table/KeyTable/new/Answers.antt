@@ -3,9 +3,8 @@ use Rattle.std.specs.List.Sorted.{IsStrictlySortedBy}
 use Rattle.std.specs.Map.{keys_of}
 use Rattle.std.specs.Cmp.Lexicographic.{slice_cmp}
 use Rattle.std.specs.Ordering.{nat_cmp}
-use Rattle.std.specs.String.{string_bytes}
 use Rattle.grok.specs.KeyTable.{Entries}
-use Rattle.grok.specs.KeyPlaces.{entries_at, entry_of}
+use Rattle.grok.specs.KeyPlaces.{entry_of}
 use Rattle.grok.proofs.Extending.{sorted_shown}
 use Rattle.grok.proofs.key_table.KeyTable.new.Goals as goal
 
