@@ -32,3 +32,10 @@ pub mod Defined
 pub mod Whole
 pub mod Places
 pub mod Fits
+pub mod Captured
+pub mod SameBytes
+pub mod Decimals
+pub mod MeantKeys
+pub mod Extending
+pub mod Halving
+pub mod AnswerLemmas
