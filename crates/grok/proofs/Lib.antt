@@ -9,7 +9,7 @@ pub mod Written
 pub mod Found
 pub mod Faults
 pub mod Adequate
-pub mod Laws
+pub mod PieceLaws
 pub mod Stands
 pub mod Kept
 pub mod NamedTexts
@@ -19,3 +19,9 @@ pub mod Writing
 pub mod KeyLaws
 pub mod Cuts
 pub mod Numerals
+pub mod SizeLaws
+pub mod TreeSizes
+pub mod Flat
+pub mod Remembering
+pub mod Meeting
+pub mod Counting

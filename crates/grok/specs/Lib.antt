@@ -15,3 +15,8 @@ pub mod Items
 pub mod Errors
 pub mod Given
 pub mod FirstFault
+pub mod Tiles
+pub mod Named
+pub mod Sizes
+pub mod Remembered
+pub mod Measured

@@ -5,6 +5,7 @@ pub mod defs;
 mod errors;
 mod items;
 pub mod key_laws;
+pub mod laws;
 pub mod parser;
 mod structural;
 
