@@ -3,9 +3,9 @@ ghost use Rattle.std.specs.Prelude.{◌≡◌};
 ghost use Rattle.grok.specs.Pieces.{pieces};
 ghost use Rattle.grok.specs.Views.{piece_view};
 
-use crate::parser::{GrokComponent, GrokSplit, grok_split};
 use crate::defs::spans::{Span, read_span};
 use crate::defs::stored::Stored;
+use crate::parser::{GrokComponent, GrokSplit, grok_split};
 use std::marker::Model;
 
 /// Where pieces come from.
