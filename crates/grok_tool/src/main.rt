@@ -9,6 +9,8 @@ ghost use Rattle.grok_tool.specs.Traffic.{traffic};
 
 mod command;
 mod fault;
+mod json_object;
+mod line_answers;
 mod output;
 mod prompt;
 mod split;
