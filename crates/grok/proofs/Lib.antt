@@ -32,3 +32,4 @@ pub mod Defined
 pub mod Whole
 pub mod Places
 pub mod Fits
+pub mod Going

@@ -211,7 +211,7 @@ fn wrap<'a>(
 ) -> Result<Sum, Fault<'a>>
     requires { IfOk inner (λ sum. sum.height < 2 ^ 32) }
     ensures gives { (r : Result Size spec.Fault) → result_view inner.entry ≡ shown_result r → result_view result ≡ shown_result (wrapped mode.entry.with_alias_only (label_view label.entry) r) }
-    ensures height { IfOk result (λ sum. IfOk inner.entry (λ inner. sum.height ≡ inner.height + 1)) }
+    ensures low { (most : ℕ) → IfOk inner.entry (λ sum. sum.height < most) → IfOk result (λ sum. sum.height ≤ most) }
 {
     match inner {
         Ok(sum) => Ok(bracketed(label, mode.with_alias_only, sum)),
@@ -269,11 +269,13 @@ fn visit<'a>(
     }
     met.mark(name, None)?;
     let items = Items::of_stored(mode.alloc, mode.grok, stored);
-    let measured = measure_items(mode, met, items, levels - 1)?;
-    if let Ok(sum) = measured {
-        met.mark(name, Some(sum))?;
+    match measure_items(mode, met, items, levels - 1)? {
+        Ok(sum) => {
+            met.mark(name, Some(sum))?;
+            Ok(Ok(sum))
+        }
+        Err(fault) => Ok(Err(fault)),
     }
-    Ok(measured)
 }
 
 /// The sum of an item that was taken, or its first fault.
