@@ -32,6 +32,7 @@ pub mod Defined
 pub mod Whole
 pub mod Places
 pub mod Fits
+pub mod Going
 pub mod Captured
 pub mod SameBytes
 pub mod Decimals
@@ -39,3 +40,4 @@ pub mod MeantKeys
 pub mod Extending
 pub mod Halving
 pub mod AnswerLemmas
+pub mod Answered
