@@ -22,3 +22,4 @@ pub mod MeantKeys
 pub mod Extending
 pub mod Halving
 pub mod AnswerLemmas
+pub mod WalkLaws

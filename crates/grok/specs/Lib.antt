@@ -18,3 +18,4 @@ pub mod EngineLaws
 pub mod KeyTable
 pub mod KeyPlaces
 pub mod Answers
+pub mod AnswerLaws
