@@ -11,6 +11,16 @@ pub mod Ten
 pub mod Tree
 pub mod Keys
 pub mod Expanded
+pub mod Items
+pub mod Errors
+pub mod Given
+pub mod FirstFault
+pub mod Tiles
+pub mod Named
+pub mod Sizes
+pub mod Remembered
+pub mod Measured
+pub mod Met
 pub mod Captures
 pub mod RegexFinds
 pub mod Engines

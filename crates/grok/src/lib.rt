@@ -3,13 +3,22 @@
 
 pub mod answer_laws;
 pub mod defs;
+mod errors;
+mod items;
+pub mod key_laws;
+pub mod laws;
+mod measure;
 mod engine;
 mod key_table;
 mod line_matcher;
 mod matches;
 pub mod parser;
+mod structural;
 
 pub use defs::{Grok, patterns};
+pub use errors::Error;
+pub use measure::{Looks, Measure};
+pub use structural::Fault;
 pub use engine::kept::{Afresh, KeepsSearch, RegexSearch, Search};
 pub use engine::{Engine, Refusal, RegexEngine};
 pub use line_matcher::LineMatcherOf;

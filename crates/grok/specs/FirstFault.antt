@@ -1,0 +1,65 @@
+-- The first fault and the extracts of a tree, said by where the list of its events, or of its recorded opens, is cut.
+use Rattle.std.specs.Prelude.{◌≡◌, ℕ, Bool, true, false, List, [], ◌∷◌, ◌++◌, Option, Some, None}
+use Rattle.grok.specs.Tree.{Definitions, is_absent, Label, Meaning, Fault, Event, Open, Fails}
+use Rattle.grok.specs.Keys.{is_recorded, recorded, key_after, keys, Finding, Structural, Clash, is_among, first_fault, extract_of}
+
+-- the event, which stands behind these others, is the fault: it is a fault event, or a recorded open whose key is that of an earlier one
+pub data IsFaultBehind (alias_only : Bool) (before : List Event) : Event → Finding → Type 0 where
+  Breaks : (fault : Fault) → IsFaultBehind alias_only before (Fails fault) (Structural fault)
+  Meets : (label : Label) (meaning : Meaning) → is_recorded alias_only label ≡ true
+      → is_among (key_after (recorded alias_only before) label) (keys (recorded alias_only before)) ≡ true
+      → IsFaultBehind alias_only before (Open label meaning) (Clash (key_after (recorded alias_only before) label))
+
+-- wherever the events are cut, the event that comes next is no fault
+abbrev pub HasNoFault : Bool → List Event → Type 0
+HasNoFault alias_only events =
+    (before : List Event) (event : Event) (after : List Event) (finding : Finding)
+    → events ≡ before ++ event ∷ after → IsFaultBehind alias_only before event finding → ⊥
+
+-- the events can be cut before this fault, so that there is none before it
+pub record HasFirstFault (alias_only : Bool) (events : List Event) (finding : Finding) : Type 0 where
+  pub before : List Event
+  pub event : Event
+  pub after : List Event
+  pub cut : events ≡ before ++ event ∷ after
+  pub none : HasNoFault alias_only before
+  pub is : IsFaultBehind alias_only before event finding
+
+-- what `first_fault` gives
+pub record FindsFirstFault (alias_only : Bool) (tree : List Event) : Type 0 where
+  pub some : (finding : Finding) → first_fault alias_only tree ≡ Some finding → HasFirstFault alias_only tree finding
+  pub only : (finding : Finding) → HasFirstFault alias_only tree finding → first_fault alias_only tree ≡ Some finding
+  pub none : first_fault alias_only tree ≡ None → HasNoFault alias_only tree
+  pub clean : HasNoFault alias_only tree → first_fault alias_only tree ≡ None
+
+abbrev pub FirstFaultIsFirst : Type 0
+FirstFaultIsFirst = (alias_only : Bool) (tree : List Event) → FindsFirstFault alias_only tree
+
+-- ---- extracts
+
+-- of the opens that stand behind these others, none that has the key has an extract
+abbrev pub HasNoExtract : List Label → List Label → List ℕ → Type 0
+HasNoExtract earlier labels key =
+    (before : List Label) (label : Label) (after : List Label)
+    → labels ≡ before ++ label ∷ after → key_after (earlier ++ before) label ≡ key → is_absent label.extract ≡ true
+
+-- an open has the key and this extract, which isn't empty, and no later one of that key has an extract
+pub record HasLastExtract (labels : List Label) (key : List ℕ) (extract : List ℕ) : Type 0 where
+  pub before : List Label
+  pub label : Label
+  pub after : List Label
+  pub cut : labels ≡ before ++ label ∷ after
+  pub has_key : key_after before label ≡ key
+  pub has_extract : label.extract ≡ extract
+  pub some : is_absent extract ≡ false
+  pub last : HasNoExtract (before ++ label ∷ []) after key
+
+-- what `extract_of` gives
+pub record FindsLastExtract (alias_only : Bool) (tree : List Event) (key : List ℕ) : Type 0 where
+  pub some : (extract : List ℕ) → extract_of alias_only tree key ≡ Some extract → HasLastExtract (recorded alias_only tree) key extract
+  pub only : (extract : List ℕ) → HasLastExtract (recorded alias_only tree) key extract → extract_of alias_only tree key ≡ Some extract
+  pub none : extract_of alias_only tree key ≡ None → HasNoExtract [] (recorded alias_only tree) key
+  pub nothing : HasNoExtract [] (recorded alias_only tree) key → extract_of alias_only tree key ≡ None
+
+abbrev pub ExtractIsLast : Type 0
+ExtractIsLast = (alias_only : Bool) (tree : List Event) (key : List ℕ) → FindsLastExtract alias_only tree key

@@ -1,0 +1,36 @@
+-- What contracts see of the items of a text.
+use Rattle.std.specs.Prelude.{ℕ, List}
+use Rattle.std.specs.Option.{option_map}
+use Rattle.std.specs.Ordering.{nat_cmp}
+use Rattle.std.specs.Cmp.Lexicographic.{slice_cmp}
+use Rattle.std.specs.BTreeMap.{BTreeMap, get_by}
+use Rattle.std.specs.Borrow.{Bor}
+use Rattle.grok.specs.Tree as tree
+use Rattle.grok.specs.declared.structural.Fault.{Fault}
+use Rattle.grok.specs.declared.structural.Fault.TheVariants as fault
+use Rattle.grok.specs.declared.items.Label.{Label}
+use Rattle.grok.specs.declared.items.Meaning.{Meaning}
+use Rattle.grok.specs.declared.items.Meaning.TheVariants as meaning
+use Rattle.grok.specs.declared.items.Item.{Item}
+use Rattle.grok.specs.declared.items.Item.TheVariants as item
+
+abbrev pub fault_view : Fault → tree.Fault
+fault_view (fault.Malformed f) = tree.BadPiece f
+fault_view (fault.Missing name) = tree.Missing name.now
+fault_view fault.TooDeep = tree.TooDeep
+
+abbrev pub label_view : Label → tree.Label
+label_view label = record { name = label.name.now; alias = label.alias.now; extract = label.extract.now }
+
+abbrev pub meaning_view : Meaning → tree.Meaning
+meaning_view (meaning.Inline text) = tree.Inline text.now
+meaning_view (meaning.Stored stored) = tree.Stored stored.now
+
+abbrev pub item_view : Item → tree.Item
+item_view (item.Bytes text) = tree.Bytes text.now
+item_view (item.Broken f) = tree.Broken (fault_view f)
+item_view (item.Opening label m) = tree.Opening (label_view label) (meaning_view m)
+
+-- the definitions that a map from names to texts holds
+abbrev pub written_in : BTreeMap (Bor (List ℕ)) (Bor (List ℕ)) → tree.Definitions
+written_in written name = option_map (λ (text : Bor (List ℕ)). text.now) (get_by (λ (key : Bor (List ℕ)). slice_cmp nat_cmp name key.now) written)
