@@ -33,8 +33,6 @@ pub mod Whole
 pub mod Places
 pub mod Fits
 pub mod Captured
-pub mod SameBytes
-pub mod Decimals
 pub mod MeantKeys
 pub mod Extending
 pub mod Halving

@@ -15,7 +15,7 @@ use Rattle.std.proofs.lemmas.Map.Views.{Contains-from_lookup, lookup-from_Contai
 use Rattle.grok.specs.KeyTable.{Entries, group_in, generated, meant_from}
 use Rattle.grok.specs.Answers.{capture_at, answer_of, walk}
 use Rattle.grok.specs.AnswerLaws.{Rises, WalksHaveTheAnsweredKeys, AnswersAreThoseOfTheWalk, GeneratedNamesMeanTheirKeys, OtherNamesMeanThemselves}
-use Rattle.grok.proofs.SameBytes.{same_text, text_same}
+use Rattle.grok.proofs.KeyLaws.{same_text, text_same}
 use Rattle.grok.proofs.MeantKeys.{meant_given, meant_itself}
 use Rattle.grok.proofs.AnswerLemmas.{above_walk, walk_rises}
 
