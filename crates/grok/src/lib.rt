@@ -1,6 +1,7 @@
 // Grok patterns.
 #![tactic(auto)]
 
+pub mod answer_laws;
 pub mod defs;
 mod engine;
 mod errors;
