@@ -19,3 +19,5 @@ pub mod Writing
 pub mod KeyLaws
 pub mod Cuts
 pub mod Numerals
+pub mod GivenSteps
+pub mod Walking

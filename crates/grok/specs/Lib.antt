@@ -15,3 +15,4 @@ pub mod Items
 pub mod Errors
 pub mod Given
 pub mod FirstFault
+pub mod Walks

@@ -3,6 +3,7 @@
 
 pub mod defs;
 mod errors;
+mod expand;
 mod items;
 pub mod key_laws;
 pub mod parser;

@@ -1,0 +1,4 @@
+//! The expansion of a pattern: its keys, its extracts and its text, or the first fault.
+
+pub(crate) mod given;
+pub(crate) mod walk;
