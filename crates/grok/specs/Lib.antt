@@ -16,3 +16,9 @@ pub mod Errors
 pub mod Given
 pub mod FirstFault
 pub mod Walks
+pub mod Writes
+pub mod Tiles
+pub mod Named
+pub mod Sizes
+pub mod Remembered
+pub mod Measured

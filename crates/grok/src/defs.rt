@@ -1,4 +1,4 @@
-//! Definitions by name.
+//! Definitions by name, and the ten that a library may begin with.
 ghost use Rattle.std.specs.Prelude.{◌≡◌, OnOk, OnErr, IfOk, map, option_copied};
 ghost use Rattle.std.specs.FinMap as finite;
 ghost use Rattle.grok.specs.Maps.{set_all, pair_texts};
@@ -14,7 +14,7 @@ use std::collections::BTreeMap;
 use std::fmt;
 use std::marker::Model;
 
-/// Each name with its definition.
+/// Each name with its definition, as [`patterns`] gives them.
 const PATTERNS: [(&str, &str); 10] = [
     ("USERNAME", r"[a-zA-Z0-9._-]+"),
     ("USER", r"%{USERNAME}"),
@@ -34,14 +34,17 @@ const PATTERNS: [(&str, &str); 10] = [
     ("COMMONMAC", r"(?:(?:[A-Fa-f0-9]{2}:){5}[A-Fa-f0-9]{2})"),
 ];
 
-/// The definitions that a library begins with.
+/// The ten names with their definitions that [`Grok::with_default_patterns`] sets, in this order.
 pub fn patterns() -> &'static [(&'static str, &'static str)]
     ensures { map pair_texts result.now ≡ ten }
 {
     &PATTERNS
 }
 
-/// A library of definitions: each name has a text.
+/// A library of definitions: names, each with the text that it stands for.
+///
+/// Any text is accepted as a name and as a definition, the empty one too. What is malformed in a
+/// definition is answered only where an expansion reaches it.
 #[derive(Drop)]
 pub struct Grok {
     alloc: Global,
@@ -60,7 +63,7 @@ impl Model for Grok {
 }
 
 impl Grok {
-    /// No definition.
+    /// A library without a definition. It takes no memory yet.
     pub fn empty(alloc: Global) -> Grok
         ensures { result ≡ finite.empty }
     {
@@ -70,21 +73,22 @@ impl Grok {
         }
     }
 
-    /// The definitions of `patterns`.
+    /// A library of the ten definitions of [`patterns`]. The only error is want of memory.
     pub fn with_default_patterns(alloc: Global) -> Result<Grok, AllocError>
         ensures { IfOk result (λ grok. grok ≡ set_all finite.empty ten) }
     {
         Grok::from_iter(alloc, patterns())
     }
 
-    /// The definitions of `patterns`.
+    /// A library of the ten definitions of [`patterns`], as [`Grok::with_default_patterns`] makes it.
     pub fn default(alloc: Global) -> Result<Grok, AllocError>
         ensures { IfOk result (λ grok. grok ≡ set_all finite.empty ten) }
     {
         Grok::with_default_patterns(alloc)
     }
 
-    /// The definitions of the pairs, set one after another.
+    /// A library of the pairs of a name and its definition, set one after another: a later pair of a
+    /// name replaces an earlier one. The only error is want of memory.
     pub fn from_iter(alloc: Global, pairs: &[(&str, &str)]) -> Result<Grok, AllocError>
         ensures { IfOk result (λ grok. grok ≡ set_all finite.empty (map pair_texts pairs.now)) }
     {
@@ -95,7 +99,7 @@ impl Grok {
         Ok(grok)
     }
 
-    /// The same definitions.
+    /// A library of its own with the same definitions. The only error is want of memory.
     pub fn clone(&self) -> Result<Grok, AllocError>
         ensures { IfOk result (λ grok. grok ≡ self.now) }
     {
@@ -106,7 +110,8 @@ impl Grok {
         })
     }
 
-    /// Sets the text of a name. A refusal changes nothing.
+    /// Sets the definition of a name, in place of an earlier one, and leaves every other name as it
+    /// was. The only error is want of memory, and then no definition has changed.
     pub fn add_pattern(&mut self, name: &str, pattern: &str) -> Result<(), AllocError>
         ensures ok { OnOk result (self.new ≡ finite.insert self.old name.now pattern.now) }
         ensures err { OnErr result (self.new ≡ self.old) }
@@ -117,7 +122,7 @@ impl Grok {
         Ok(())
     }
 
-    /// The text of a name with its pieces.
+    /// The definition of a name with its pieces, if there is one.
     pub(crate) fn stored(&self, name: &str) -> Option<&Stored>
         ensures { option_copied result ≡ finite.get self.now name.now }
     {
@@ -125,17 +130,14 @@ impl Grok {
     }
 }
 
+/// The definitions by name, in the byte order of the names.
 impl fmt::Debug for Grok {
     ghost use Rattle.std.specs.Prelude.{None};
 
     ghost debug_output = { λ _. None };
 
     fn fmt<W: fmt::Write>(&self, f: &mut fmt::Formatter<W>) -> fmt::Result {
-        f.write_str("Grok {")?;
-        for (name, stored) in &self.stored {
-            let text = stored.text();
-            write!(f, " {name:?}: {text:?},")?;
-        }
-        f.write_str(" }")
+        let stored = &self.stored;
+        write!(f, "Grok {stored:?}")
     }
 }

@@ -2,3 +2,4 @@
 
 pub(crate) mod given;
 pub(crate) mod walk;
+pub(crate) mod write;

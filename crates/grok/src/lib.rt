@@ -6,6 +6,7 @@ mod errors;
 mod expand;
 mod items;
 pub mod key_laws;
+pub mod laws;
 pub mod parser;
 mod structural;
 

@@ -4,6 +4,7 @@ ghost use Rattle.grok.specs.Spans.{AreSpansOf};
 
 use crate::defs::spans::{Span, spans_of};
 use std::alloc::{AllocError, Global};
+use std::fmt;
 use std::marker::Model;
 
 /// A text that was split once, with its pieces as ranges of it.
@@ -37,6 +38,7 @@ impl Stored {
         })
     }
 
+    /// The text.
     pub fn text(&self) -> &str
         ensures { result.now ≡ self.now }
     {
@@ -48,6 +50,17 @@ impl Stored {
         ensures { AreSpansOf self.now result.now }
     {
         self.spans.as_slice()
+    }
+}
+
+impl fmt::Debug for Stored {
+    ghost use Rattle.std.specs.Fmt.{debug_str};
+
+    ghost debug_output = { debug_str };
+
+    fn fmt<W: fmt::Write>(&self, f: &mut fmt::Formatter<W>) -> fmt::Result {
+        let text = self.text();
+        write!(f, "{text:?}")
     }
 }
 

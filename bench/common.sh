@@ -1,0 +1,36 @@
+# What the scripts of this folder share. They are run by hand and are no part of the tests.
+root=$(cd "$(dirname "${BASH_SOURCE[0]}")/.." && pwd)
+room=$(mktemp -d)
+trap 'rm -rf "$room"' EXIT
+export LC_ALL=C
+
+# The path of a program of this repository, built where that is needed: `program NAME`.
+program() {
+    "$root/tests/built" "$1"
+}
+
+# The microseconds that a command takes from its start to its end, into `took`: `time_once INPUT OUTPUT WORD..`.
+# A command may end with status 1, as grep does where no line matches, and with no other.
+time_once() {
+    local input=$1 output=$2 start end status=0
+    shift 2
+    start=${EPOCHREALTIME/./}
+    "$@" <"$input" >"$output" 2>"$room/complaint" || status=$?
+    end=${EPOCHREALTIME/./}
+    if [ "$status" -gt 1 ]; then
+        echo "$1 ended with status $status: $(head -c 300 "$room/complaint")" >&2
+        exit 1
+    fi
+    took=$((end - start))
+}
+
+# The first word over the second, with so many places: `ratio A B [PLACES]`.
+ratio() {
+    awk -v a="$1" -v b="$2" -v places="${3:-2}" 'BEGIN { if (b == 0) print "-"; else printf "%.*f", places, a / b }'
+}
+
+# What the machine is and how busy it is.
+machine() {
+    echo "$(nproc) processors, $(awk -F: '/model name/ { print $2; exit }' /proc/cpuinfo | xargs)," \
+        "load $(cut -d' ' -f1-3 /proc/loadavg)"
+}

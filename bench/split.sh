@@ -1,0 +1,29 @@
+#!/usr/bin/env bash
+# How fast a text is split into its pieces, beside `grep -c '%{'` on the same text. Time should grow with the length
+# alone. A program's words are too short for such a text, so it goes through standard input of grok_bench.
+#
+#   bench/split.sh [MEGABYTES..]        1 10 100 where no number is given
+set -euo pipefail
+source "$(dirname "$0")/common.sh"
+grok_bench=$(program grok_bench)
+rounds=3
+[ $# -gt 0 ] || set -- 1 10 100
+
+echo "Machine: $(machine)."
+echo
+echo "| Text | Pieces | Split alone, MB/s | With reading, MB/s | \`grep -c '%{'\`, MB/s | Split alone to grep |"
+echo "|---|---|---|---|---|---|"
+for megabytes in "$@"; do
+    "$root/bench/make_pattern" "$megabytes" >"$room/text"
+    bytes=$(stat -c %s "$room/text")
+    alone='' whole='' grep=''
+    for ((round = 0; round < rounds; round++)); do
+        time_once "$room/text" "$room/pieces" "$grok_bench" split
+        own=$(sed -n 's/^split \([0-9]*\) us$/\1/p' "$room/complaint")
+        [ -n "$alone" ] && [ "$alone" -le "$own" ] || alone=$own
+        [ -n "$whole" ] && [ "$whole" -le "$took" ] || whole=$took
+        time_once "$room/text" "$room/count" grep -c '%{'
+        [ -n "$grep" ] && [ "$grep" -le "$took" ] || grep=$took
+    done
+    echo "| $megabytes MB | $(awk '{ print $2 + $4 + $6 }' "$room/pieces") | $(ratio "$bytes" "$alone" 0) | $(ratio "$bytes" "$whole" 0) | $(ratio "$bytes" "$grep" 0) | $(ratio "$grep" "$alone") |"
+done

@@ -1,0 +1,58 @@
+-- What measuring a pattern answers, as read off its tree; and how much of the definitions is read for it.
+use Rattle.std.specs.Prelude.{◌≡◌, ℕ, ◌+◌, ◌-◌, ◌^◌, min, Bool, true, false, List, [], ◌∷◌, length, if◌then◌else◌, nat_lt, Option, Some, None}
+use Rattle.std.specs.Str.{bytes_eq}
+use Rattle.std.specs.FinMap as finite
+use Rattle.grok.specs.Pieces.{pieces}
+use Rattle.grok.specs.Maps.{Texts}
+use Rattle.grok.specs.Tree.{Fault, Label, Inline, Stored, Event, Text, Open, Close, Fails, tree, first_structural, reached}
+use Rattle.grok.specs.Expanded.{expanded, groups, nesting}
+
+-- ---- the answer
+
+pub data Measured : Type 0 where
+  Faulty : (fault : Fault) → Measured
+  Sized : (length groups nesting : ℕ) → Measured
+  PastLimit : Measured
+
+-- the size of a clean tree, if its text is no longer than the greatest `usize`
+abbrev pub size_within : ℕ → ℕ → ℕ → Measured
+size_within length groups nesting = if nat_lt length (2 ^ 64) then Sized length groups nesting else PastLimit
+
+-- the first structural fault, or else the size of the text that the tree stands for
+abbrev pub fault_or : Option Fault → Measured → Measured
+fault_or (Some fault) size = Faulty fault
+fault_or None size = size
+
+abbrev pub measured_tree : Bool → List Event → Measured
+measured_tree alias_only tree = fault_or (first_structural tree) (size_within (length (expanded alias_only tree)) (groups alias_only tree) (nesting tree))
+
+-- ---- what is read
+
+-- whether an open of this name that stands for its stored text is among the events
+abbrev pub reaches : List ℕ → List Event → Bool
+reaches name [] = false
+reaches name (Text text ∷ events) = reaches name events
+reaches name (Close ∷ events) = reaches name events
+reaches name (Fails fault ∷ events) = reaches name events
+reaches name (Open label (Inline text) ∷ events) = reaches name events
+reaches name (Open label (Stored text) ∷ events) = if bytes_eq label.name name then true else reaches name events
+
+-- what the chosen ones of these named texts weigh together
+abbrev pub weighed : (List ℕ → ℕ) → (List ℕ → Bool) → List (List ℕ × List ℕ) → ℕ
+weighed weight is_chosen [] = 0
+weighed weight is_chosen (entry ∷ entries) = (if is_chosen entry.0 then weight entry.1 else 0) + weighed weight is_chosen entries
+
+-- what the pattern weighs, and each stored text whose name is reached, once
+abbrev pub reached_weight : (List ℕ → ℕ) → Texts → List ℕ → ℕ
+reached_weight weight texts pattern = weight pattern + weighed weight (λ name. reaches name (reached (tree (finite.get texts) pattern))) (finite.entries texts)
+
+-- THE PIECES of all these texts, and HOW MANY TEXTS they are
+abbrev pub reached_pieces : Texts → List ℕ → ℕ
+reached_pieces texts pattern = reached_weight (λ text. length (pieces text)) texts pattern
+
+abbrev pub reached_texts : Texts → List ℕ → ℕ
+reached_texts texts pattern = reached_weight (λ text. 1) texts pattern
+
+-- the greatest count that a counter shows
+abbrev pub counted : ℕ → ℕ
+counted n = min n (2 ^ 64 - 1)

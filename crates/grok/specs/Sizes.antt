@@ -1,0 +1,61 @@
+-- The size of what a text stands for, added up item by item.
+use Rattle.std.specs.Prelude.{ℕ, zero, suc, ◌+◌, max, Bool, List, [], ◌∷◌, length, if◌then◌else◌, Result, Ok, Err}
+use Rattle.grok.specs.Tree.{Fault, TooDeep, Label, text_of, Item, Bytes, Broken, Opening}
+use Rattle.grok.specs.Keys.{numeral, is_recorded}
+
+-- The bytes without the numbers of groups, the groups, and how deep the opens go, 0 if there is none.
+pub record Size : Type 0 where
+  pub bytes : ℕ
+  pub groups : ℕ
+  pub height : ℕ
+
+abbrev pub no_size : Size
+no_size = record { bytes = 0; groups = 0; height = 0 }
+
+abbrev pub size_of_bytes : List ℕ → Size
+size_of_bytes text = record { bytes = length text; groups = 0; height = 0 }
+
+abbrev pub plus : Size → Size → Size
+plus a b = record { bytes = a.bytes + b.bytes; groups = a.groups + b.groups; height = max a.height b.height }
+
+-- one after the other: the first fault, or the sum
+abbrev pub both : Result Size Fault → Result Size Fault → Result Size Fault
+both (Err fault) s = Err fault
+both (Ok a) (Err fault) = Err fault
+both (Ok a) (Ok b) = Ok (plus a b)
+
+-- the brackets of an open around what is inside: `(?<_n_` `>` `)` without the number, or `(?:` `)`
+abbrev pub bracketed : Bool → Label → Size → Size
+bracketed alias_only label inner = record {
+  bytes = (if is_recorded alias_only label then 8 else 4) + inner.bytes;
+  groups = (if is_recorded alias_only label then 1 else 0) + inner.groups;
+  height = suc inner.height;
+}
+
+abbrev pub wrapped : Bool → Label → Result Size Fault → Result Size Fault
+wrapped alias_only label (Err fault) = Err fault
+wrapped alias_only label (Ok inner) = Ok (bracketed alias_only label inner)
+
+-- the size of an item, where `inner` is that of the text of an open
+abbrev pub size_of : Bool → (List ℕ → Result Size Fault) → Item → Result Size Fault
+size_of alias_only inner (Bytes text) = Ok (size_of_bytes text)
+size_of alias_only inner (Broken fault) = Err fault
+size_of alias_only inner (Opening label meaning) = wrapped alias_only label (inner (text_of meaning))
+
+abbrev pub sizes : Bool → (List ℕ → Result Size Fault) → List Item → Result Size Fault
+sizes alias_only inner [] = Ok no_size
+sizes alias_only inner (item ∷ items) = both (size_of alias_only inner item) (sizes alias_only inner items)
+
+-- The size of an opened text, where so many levels may still be opened, itself among them. `resolve` gives the items of each text.
+abbrev pub measured : Bool → (List ℕ → List Item) → ℕ → List ℕ → Result Size Fault
+measured alias_only resolve zero text = Err TooDeep
+measured alias_only resolve (suc levels) text = sizes alias_only (measured alias_only resolve levels) (resolve text)
+
+-- the decimal places of so many numbers in a row, from the first on
+abbrev pub places_from : ℕ → ℕ → ℕ
+places_from first zero = 0
+places_from first (suc count) = length (numeral first) + places_from (suc first) count
+
+-- the length of a text of this size: it doesn't ask which group stands where
+abbrev pub length_of : Size → ℕ
+length_of size = size.bytes + places_from 0 size.groups

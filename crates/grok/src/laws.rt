@@ -1,0 +1,40 @@
+//! Laws of the definitions that the contracts speak of. Each function does nothing; its contract
+//! is what is proved.
+ghost use Rattle.std.specs.Prelude.{◌≡◌, ◌≢◌, ℕ, ◌++◌, List, [], ◌∷◌, Some, None};
+ghost use Rattle.std.specs.FinMap as finite;
+ghost use Rattle.grok.specs.Grammar.{NonePass};
+ghost use Rattle.grok.specs.Joined.{joined, IsClean, AreRegular};
+ghost use Rattle.grok.specs.Maps.{Texts, set_all};
+ghost use Rattle.grok.specs.Named.{NoneNames};
+ghost use Rattle.grok.specs.Pieces.{Piece, Parts, Placeholder, Malformed, pieces, is_brace};
+ghost use Rattle.grok.specs.Tiles.{Tile};
+
+use crate::parser::GrokPatternError;
+
+/// Laws of the pieces of a text.
+///
+/// The ranges tile the text up to a fault, and a fault is the last piece, so there is one at most.
+/// Joining the pieces of a text without a fault gives the text back. A text without braces has
+/// regular pieces only, which join to it, and the definition in a placeholder is such a text.
+#[tactic(auto, using(crate::proofs::PieceLaws::laws))]
+pub fn pieces()
+    ensures tile { (text : List ℕ) → Tile text 0 (pieces text) }
+    ensures last { (text : List ℕ) (before after : List Piece) (fault : GrokPatternError) → pieces text ≡ before ++ Malformed fault ∷ after → after ≡ [] }
+    ensures join { (text : List ℕ) → IsClean (pieces text) → joined (pieces text) ≡ text }
+    ensures regular { (text : List ℕ) → NonePass is_brace text → AreRegular (pieces text) × (joined (pieces text) ≡ text) }
+    ensures inline { (text : List ℕ) (before after : List Piece) (from to : ℕ) (pattern : List ℕ) (parts : Parts) →
+        pieces text ≡ before ++ Placeholder from to pattern parts ∷ after → NonePass is_brace parts.definition }
+{}
+
+/// Laws of the definitions of a library.
+///
+/// Without a definition no name has a text. A text that is set stands at its name and leaves every
+/// other name as it was. Of the pairs that are set one after another, the last one of a name counts.
+#[tactic(auto, using(crate::proofs::Sets::sets))]
+pub fn definitions()
+    ensures none { (name : List ℕ) → finite.get (let texts : Texts = finite.empty in texts) name ≡ None }
+    ensures set { (texts : Texts) (name text : List ℕ) → finite.get (finite.insert texts name text) name ≡ Some text }
+    ensures kept { (texts : Texts) (name text other : List ℕ) → other ≢ name → finite.get (finite.insert texts name text) other ≡ finite.get texts other }
+    ensures last { (texts : Texts) (before after : List (List ℕ × List ℕ)) (name text : List ℕ) → NoneNames after name → finite.get (set_all texts (before ++ (name, text) ∷ after)) name ≡ Some text }
+    ensures others { (texts : Texts) (pairs : List (List ℕ × List ℕ)) (name : List ℕ) → NoneNames pairs name → finite.get (set_all texts pairs) name ≡ finite.get texts name }
+{}
