@@ -19,14 +19,11 @@ pub mod Writing
 pub mod KeyLaws
 pub mod Cuts
 pub mod Numerals
-<<<<<<< HEAD
 pub mod GivenSteps
 pub mod Walking
-=======
 pub mod SizeLaws
 pub mod TreeSizes
 pub mod Flat
 pub mod Remembering
 pub mod Meeting
 pub mod Counting
->>>>>>> 9ebe7145bfca99953ef306e59c06449ac604386e
