@@ -27,3 +27,4 @@ pub mod Flat
 pub mod Remembering
 pub mod Meeting
 pub mod Counting
+pub mod WriteSteps

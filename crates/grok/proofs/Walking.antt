@@ -68,7 +68,7 @@ module _ (alias_only : Bool) where
   walks_close before xs g None p = passed_then before xs (Close ∷ []) g g p (record { none = refl; shows = p.shows })
   walks_close before xs g (Some f) p = stopped_first before xs (Close ∷ []) f p
 
-  events_more : (inner : List ℕ → List Event) (x : Item) (xs : List Item) → events inner (x ∷ xs) ≡ events inner (x ∷ []) ++ events inner xs
+  pub events_more : (inner : List ℕ → List Event) (x : Item) (xs : List Item) → events inner (x ∷ xs) ≡ events inner (x ∷ []) ++ events inner xs
   events_more inner (Bytes text) xs = refl
   events_more inner (Broken fault) xs = refl
   events_more inner (Opening label meaning) xs = ap (λ es. Open label meaning ∷ es ++ events inner xs) (sym (append-nil (inner (text_of meaning))))

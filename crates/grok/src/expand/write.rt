@@ -1,6 +1,6 @@
 //! Writes the text of a tree that has no structural fault.
 
-ghost use Rattle.std.specs.Prelude.{◌≡◌, ◌+◌, ◌<◌, ◌≤◌, ◌^◌, List, [], ◌∷◌, ◌++◌, length, IfOk, OnOk, if◌then◌else◌, None};
+ghost use Rattle.std.specs.Prelude.{◌≡◌, ◌+◌, ◌<◌, ◌≤◌, ◌^◌, List, [], ◌∷◌, ◌++◌, length, IfOk, OnOk, if◌then◌else◌, true, None};
 ghost use Rattle.std.specs.String.{string_bytes, string_len, string_capacity};
 ghost use Rattle.std.specs.FinMap as finite;
 ghost use Rattle.grok.specs.Tree as tree;
@@ -73,7 +73,7 @@ fn write_opening<'a>(
     alias_only: bool,
     out: &mut Output,
 ) -> Result<(), AllocError>
-    requires { IsReady alias_only (events (inside (items_of (finite.get grok.now)) levels) (tree.Opening (label_view label.entry) (meaning_view meaning.entry) ∷ [])) out.old }
+    requires { IsReady alias_only (events (inside (items_of (finite.get grok.now)) levels) (tree.Opening (label_view label) (meaning_view meaning) ∷ [])) out.old }
     ensures { OnOk result (Wrote alias_only (events (inside (items_of (finite.get grok.now)) levels) (tree.Opening (label_view label.entry) (meaning_view meaning.entry) ∷ [])) out.old out.new) }
 {
     put_head(out, is_recorded(alias_only, label));
@@ -93,7 +93,7 @@ fn write_item<'a>(
     alias_only: bool,
     out: &mut Output,
 ) -> Result<(), AllocError>
-    requires { IsReady alias_only (events (inside (items_of (finite.get grok.now)) levels) (item_view item.entry ∷ [])) out.old }
+    requires { IsReady alias_only (events (inside (items_of (finite.get grok.now)) levels) (item_view item ∷ [])) out.old }
     ensures { OnOk result (Wrote alias_only (events (inside (items_of (finite.get grok.now)) levels) (item_view item.entry ∷ [])) out.old out.new) }
 {
     match item {
@@ -118,7 +118,7 @@ fn write_items<'a>(
     alias_only: bool,
     out: &mut Output,
 ) -> Result<(), AllocError>
-    requires { IsReady alias_only (events (inside (items_of (finite.get grok.now)) levels) items.entry) out.old }
+    requires { IsReady alias_only (events (inside (items_of (finite.get grok.now)) levels) items) out.old }
     ensures { OnOk result (Wrote alias_only (events (inside (items_of (finite.get grok.now)) levels) items.entry) out.old out.new) }
 {
     'items: while let Some(item) = items.next()? {
