@@ -28,3 +28,17 @@ pub mod Remembering
 pub mod Meeting
 pub mod Counting
 pub mod WriteSteps
+pub mod Bracketing
+pub mod Flagging
+pub mod Sound
+pub mod Defined
+pub mod Whole
+pub mod Places
+pub mod Fits
+pub mod Captured
+pub mod SameBytes
+pub mod Decimals
+pub mod MeantKeys
+pub mod Extending
+pub mod Halving
+pub mod AnswerLemmas

@@ -1,13 +1,16 @@
 -- Laws of the pieces of a text, from the grammar alone.
-use Rattle.std.proofs.Common.{◌≡◌, ℕ, suc, zero, ◌+◌, ◌-◌, ◌<◌, ◌≤◌, Bool, false, List, [], ◌∷◌, ◌++◌, length, get_or, take, drop, Option, Some, None, subst, sym, ap, ◌∙◌, arith, drop-drop}
+use Rattle.std.proofs.Common.{◌≡◌, ℕ, suc, zero, ◌+◌, ◌-◌, ◌<◌, ◌≤◌, Bool, false, List, [], ◌∷◌, ◌++◌, length, get_or, take, drop, Option, Some, None, refl, subst, sym, ap, ◌∙◌, arith, drop-drop, length-drop, append-nil}
 use Rattle.std.specs.List.{slice_range}
-use Rattle.std.proofs.lemmas.List.{take-append-drop, drop_all}
+use Rattle.std.proofs.lemmas.List.{take-append-drop, drop_all, length-append}
+use Rattle.std.proofs.Math.Seq.{take-append_seam, take-length}
+use Rattle.grok.proofs.Open.{is_open_split}
+use Rattle.grok.proofs.Regular.{behind_two}
 use Rattle.grok.specs.Pieces.{Piece, Parts, Regular, Placeholder, Malformed, pieces, is_brace}
-use Rattle.grok.specs.Grammar.{ArePieces, NonePass, HasByteAt, MayDefine, or_empty}
+use Rattle.grok.specs.Grammar.{ArePieces, NonePass, HasByteAt, IsOpenAt, IsPlaceholder, ReadsParts, MayDefine, or_empty, written}
 use Rattle.grok.specs.Tiles.{Tile}
 use Rattle.grok.specs.declared.parser.GrokPatternError.{GrokPatternError}
 use Rattle.grok.specs.Joined.{joined, IsClean, AreRegular}
-use Rattle.grok.proofs.Adequate.{pieces_are, regular_within, placeholder_within}
+use Rattle.grok.proofs.Adequate.{pieces_are, pieces_are_only, open_from, regular_within, placeholder_within}
 
 -- a range and what stands behind it
 range_and_rest : (T : List ℕ) (s e : ℕ) → s ≤ e → slice_range T s e ++ drop e T ≡ drop s T
@@ -85,6 +88,43 @@ inline_without_braces T front rest a e text parts is =
     let r = h.1.1.reads in
     subst (NonePass is_brace) (sym r.definition_is) (defined_without_braces r.definition r.defined)
 
+-- ---- a placeholder alone
+
+-- what the placeholder of a range is spelled as
+spelled_as : (T : List ℕ) (s e : ℕ) (parts : Parts) (h : IsPlaceholder T s e parts) → slice_range T s e ≡ 37 ∷ 123 ∷ written parts.name h.reads.alias h.reads.extract h.reads.definition
+spelled_as T s e parts h =
+    let r = h.reads in
+    let W = written parts.name r.alias r.extract r.definition in
+    let X = 37 ∷ 123 ∷ W in
+    let b = placeholder_within T s e parts h in
+    let whole : drop s T ≡ X ++ drop e T = is_open_split (drop s T) (open_from T s h.opens) ∙ ap (λ xs. 37 ∷ 123 ∷ xs) (behind_two T s ∙ r.spelled) in
+    let front = length-drop s T in
+    let back = length-drop e T in
+    let sum = ap length whole ∙ length-append X (drop e T) in
+    let count : e - s ≡ length X = omega arith in
+    ap (λ k. take k (drop s T)) count ∙ (ap (take (length X)) whole ∙ take-append_seam X (drop e T))
+
+alone_is : (parts : Parts) (alias extract definition : Option (List ℕ)) (X : List ℕ) → X ≡ 37 ∷ 123 ∷ written parts.name alias extract definition →
+    ((text rest : List ℕ) → text ≡ written parts.name alias extract definition ++ rest → ReadsParts text parts rest) → pieces X ≡ Placeholder 0 (length X) X parts ∷ []
+alone_is parts alias extract definition X is reads =
+    let W = written parts.name alias extract definition in
+    let n = length X in
+    let long = ap length is in
+    let first : get_or X 0 0 ≡ 37 = ap (λ xs. get_or xs 0 0) is in
+    let second : get_or X (0 + 1) 0 ≡ 123 = ap (λ xs. get_or xs 1 0) is in
+    let opens : IsOpenAt X 0 = ((omega arith, first), (omega arith, second)) in
+    let inner : drop (0 + 2) X ≡ W ++ drop n X = ap (drop 2) is ∙ (sym (append-nil W) ∙ ap (λ xs. W ++ xs) (sym (drop_all n X (omega arith)))) in
+    let range : X ≡ slice_range X 0 n = sym (take-length X) ∙ ap (λ k. take k X) (let k : n ≡ n - 0 = omega arith in k) in
+    let placeholder : IsPlaceholder X 0 n parts = record { opens = opens; within = omega arith; reads = reads (drop (0 + 2) X) (drop n X) inner } in
+    sym (pieces_are_only X (Placeholder 0 n X parts ∷ []) (refl, placeholder, range, refl))
+
+pub placeholder_alone : (T : List ℕ) (front rest : List Piece) (a e : ℕ) (text : List ℕ) (parts : Parts) → pieces T ≡ front ++ Placeholder a e text parts ∷ rest → pieces text ≡ Placeholder 0 (length text) text parts ∷ []
+placeholder_alone T front rest a e text parts is =
+    let h = behind T 0 front (Placeholder a e text parts) rest (subst (ArePieces T 0) is (pieces_are T)) in
+    let r = h.1.1.reads in
+    alone_is parts r.alias r.extract r.definition text (h.1.2 ∙ spelled_as T h.0 e parts h.1.1)
+    (λ xs ys spelled. record { alias = r.alias; extract = r.extract; definition = r.definition; spelled = spelled; named = r.named; nonempty = r.nonempty; words = r.words; defined = r.defined; alias_is = r.alias_is; extract_is = r.extract_is; definition_is = r.definition_is })
+
 -- ---- the laws
 
 clean : (items : List Piece) → AreRegular items → IsClean items
@@ -99,4 +139,4 @@ joined_pieces T c = joined_clean T 0 (pieces T) (pieces_are T) c
 pub regular_pieces : (T : List ℕ) → NonePass is_brace T → AreRegular (pieces T) × (joined (pieces T) ≡ T)
 regular_pieces T n = let h = regular_alone T 0 (pieces T) n (pieces_are T) in (h, joined_pieces T (clean (pieces T) h))
 
-pub ruleset laws = (tiles, fault_last, joined_pieces, regular_pieces, inline_without_braces)
+pub ruleset laws = (tiles, fault_last, joined_pieces, regular_pieces, inline_without_braces, placeholder_alone)

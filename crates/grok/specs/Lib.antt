@@ -22,3 +22,11 @@ pub mod Named
 pub mod Sizes
 pub mod Remembered
 pub mod Measured
+pub mod Met
+pub mod Captures
+pub mod RegexFinds
+pub mod Engines
+pub mod EngineLaws
+pub mod KeyTable
+pub mod KeyPlaces
+pub mod Answers

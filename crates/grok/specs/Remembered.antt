@@ -22,9 +22,12 @@ with_mark st name mark = record { marks = marked st.marks name mark; looks = st.
 abbrev pub looked : State → State
 looked st = record { marks = st.marks; looks = st.looks + 1; ends = st.ends; bracket = st.bracket }
 
--- a placeholder was taken that opens a text
+-- a placeholder opens a text under this label
+abbrev pub labelled : Label → State → State
+labelled label st = record { marks = st.marks; looks = st.looks; ends = st.ends; bracket = ends_in_bracket label.alias || st.bracket }
+
 abbrev pub opened : Label → State → State
-opened label st = record { marks = st.marks; looks = st.looks + 1; ends = st.ends; bracket = ends_in_bracket label.alias || st.bracket }
+opened label st = labelled label (looked st)
 
 -- the end of a text was met
 abbrev pub ended : State → State
@@ -43,16 +46,19 @@ abbrev pub then_rest : Result Size Fault → State → (State → Answer) → An
 then_rest (Err fault) st rest = (Err fault, st)
 then_rest (Ok size) st rest = (both (Ok size) (rest st).0, (rest st).1)
 
+-- one item that was taken, where `visit` answers for the text of a name, and `inline` for a definition that is written in the text
+abbrev pub item_answer : Bool → (List ℕ → List ℕ → State → Answer) → (List ℕ → Result Size Fault) → Item → State → Answer
+item_answer alias_only visit inline (Bytes text) st = (Ok (size_of_bytes text), st)
+item_answer alias_only visit inline (Broken fault) st = (Err fault, st)
+item_answer alias_only visit inline (Opening label (Inline text)) st = (wrapped alias_only label (inline text), labelled label st)
+item_answer alias_only visit inline (Opening label (Stored text)) st =
+    (wrapped alias_only label (visit label.name text (labelled label st)).0, (visit label.name text (labelled label st)).1)
+
 -- the items of a text, one after another
 abbrev pub look : Bool → (List ℕ → List ℕ → State → Answer) → (List ℕ → Result Size Fault) → List Item → State → Answer
 look alias_only visit inline [] st = (Ok no_size, ended st)
-look alias_only visit inline (Bytes text ∷ items) st =
-    then_rest (Ok (size_of_bytes text)) (looked st) (look alias_only visit inline items)
-look alias_only visit inline (Broken fault ∷ items) st = (Err fault, looked st)
-look alias_only visit inline (Opening label (Inline text) ∷ items) st =
-    then_rest (wrapped alias_only label (inline text)) (opened label st) (look alias_only visit inline items)
-look alias_only visit inline (Opening label (Stored text) ∷ items) st =
-    then_rest (wrapped alias_only label (visit label.name text (opened label st)).0) (visit label.name text (opened label st)).1 (look alias_only visit inline items)
+look alias_only visit inline (item ∷ items) st =
+    then_rest (item_answer alias_only visit inline item (looked st)).0 (item_answer alias_only visit inline item (looked st)).1 (look alias_only visit inline items)
 
 abbrev pub finish : List ℕ → Answer → Answer
 finish name (Ok size, st) = (Ok size, with_mark st name (Some size))
@@ -74,6 +80,10 @@ visit alias_only resolve (suc levels) name text st =
 -- the items of a text, where so many levels may still be opened
 abbrev pub look_within : Bool → (List ℕ → List Item) → ℕ → List Item → State → Answer
 look_within alias_only resolve levels items st = look alias_only (visit alias_only resolve levels) (inlined levels) items st
+
+-- one item, where so many levels may still be opened
+abbrev pub item_within : Bool → (List ℕ → List Item) → ℕ → Item → State → Answer
+item_within alias_only resolve levels item st = item_answer alias_only (visit alias_only resolve levels) (inlined levels) item st
 
 abbrev pub nothing_met : State
 nothing_met = record { marks = λ name. None; looks = 0; ends = 0; bracket = false }

@@ -1,0 +1,7 @@
+// Tests of the crate `grok`, as tables.
+#![tactic(auto)]
+
+#[cfg(test)]
+mod definitions;
+#[cfg(test)]
+mod pieces;
