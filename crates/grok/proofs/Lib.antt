@@ -19,12 +19,15 @@ pub mod Writing
 pub mod KeyLaws
 pub mod Cuts
 pub mod Numerals
+pub mod GivenSteps
+pub mod Walking
 pub mod SizeLaws
 pub mod TreeSizes
 pub mod Flat
 pub mod Remembering
 pub mod Meeting
 pub mod Counting
+pub mod WriteSteps
 pub mod Bracketing
 pub mod Flagging
 pub mod Sound

@@ -5,6 +5,7 @@ pub mod answer_laws;
 pub mod defs;
 mod engine;
 mod errors;
+mod expand;
 mod items;
 pub mod key_laws;
 mod key_table;
