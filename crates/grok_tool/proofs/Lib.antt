@@ -1,1 +1,4 @@
 pub mod Answering
+pub mod Cuts
+pub mod LineLemmas
+pub mod Steps

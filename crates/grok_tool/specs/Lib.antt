@@ -4,4 +4,7 @@ pub mod Answers
 pub mod Split
 pub mod Faults
 pub mod Runs
+pub mod Lines
+pub mod Traffic
+pub mod Streams
 pub mod Progress
