@@ -41,3 +41,4 @@ pub mod Extending
 pub mod Halving
 pub mod AnswerLemmas
 pub mod Answered
+pub mod TreeFaults
