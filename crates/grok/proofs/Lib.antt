@@ -42,3 +42,4 @@ pub mod Halving
 pub mod AnswerLemmas
 pub mod Answered
 pub mod TreeFaults
+pub mod MeasuredCases

@@ -108,18 +108,18 @@ module _ (stored other : Definitions) where
       left name = elim (agree name) [
         | inl same ↦ inl same
         | inr unused ↦ inr (
-            false_from_ne_true (reaches name (reached xs)) (λ there. true≢false (sym (reaches_left name xs ys there) ∙ unused.0)),
-            λ missing. unused.1 (rw (first_structural-append xs ys, missing) refl),
-          )
+          false_from_ne_true (reaches name (reached xs)) (λ there. true≢false (sym (reaches_left name xs ys there) ∙ unused.0)),
+          λ missing. unused.1 (rw (first_structural-append xs ys, missing) refl),
+        )
       ]
 
       right : first_structural xs ≡ None → Agree ys
       right clean name = elim (agree name) [
         | inl same ↦ inl same
         | inr unused ↦ inr (
-            false_from_ne_true (reaches name (reached ys)) (λ there. true≢false (sym (reaches_right name xs ys clean there) ∙ unused.0)),
-            λ missing. unused.1 (rw (first_structural-append xs ys, clean) missing),
-          )
+          false_from_ne_true (reaches name (reached ys)) (λ there. true≢false (sym (reaches_right name xs ys clean there) ∙ unused.0)),
+          λ missing. unused.1 (rw (first_structural-append xs ys, clean) missing),
+        )
       ]
 
       go : (o : Option Fault) → first_structural xs ≡ o → Same (xs ++ ys) (xs' ++ ys')
