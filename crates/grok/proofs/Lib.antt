@@ -19,12 +19,15 @@ pub mod Writing
 pub mod KeyLaws
 pub mod Cuts
 pub mod Numerals
+pub mod GivenSteps
+pub mod Walking
 pub mod SizeLaws
 pub mod TreeSizes
 pub mod Flat
 pub mod Remembering
 pub mod Meeting
 pub mod Counting
+pub mod WriteSteps
 pub mod Bracketing
 pub mod Flagging
 pub mod Sound
@@ -34,8 +37,6 @@ pub mod Places
 pub mod Fits
 pub mod Going
 pub mod Captured
-pub mod SameBytes
-pub mod Decimals
 pub mod MeantKeys
 pub mod Extending
 pub mod Halving
@@ -43,3 +44,4 @@ pub mod AnswerLemmas
 pub mod Answered
 pub mod TreeFaults
 pub mod MeasuredCases
+pub mod WalkLaws

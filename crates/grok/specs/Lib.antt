@@ -15,6 +15,8 @@ pub mod Items
 pub mod Errors
 pub mod Given
 pub mod FirstFault
+pub mod Walks
+pub mod Writes
 pub mod Tiles
 pub mod Named
 pub mod Sizes
@@ -29,3 +31,4 @@ pub mod KeyTable
 pub mod KeyPlaces
 pub mod Answers
 pub mod TreeLaws
+pub mod AnswerLaws

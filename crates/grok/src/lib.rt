@@ -1,9 +1,11 @@
 // Grok patterns.
 #![tactic(auto)]
 
+pub mod answer_laws;
 pub mod defs;
 mod engine;
 mod errors;
+mod expand;
 mod items;
 pub mod key_laws;
 mod key_table;
