@@ -15,6 +15,7 @@ mod matches;
 mod measure;
 pub mod parser;
 mod structural;
+pub mod tree_laws;
 
 pub use defs::{Grok, patterns};
 pub use engine::kept::{Afresh, KeepsSearch, RegexSearch, Search};
