@@ -16,7 +16,7 @@ pub mod parser;
 mod structural;
 
 pub use defs::{Grok, patterns};
-pub use engine::kept::{Afresh, KeepsSearch, RegexSearch, Search};
+pub use engine::kept::{KeepsSearch, RegexSearch, Search};
 pub use engine::{Engine, Refusal, RegexEngine};
 pub use errors::Error;
 pub use line_matcher::LineMatcherOf;
