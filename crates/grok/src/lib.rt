@@ -18,7 +18,7 @@ mod structural;
 pub mod tree_laws;
 
 pub use defs::{Grok, patterns};
-pub use engine::kept::{Afresh, KeepsSearch, RegexSearch, Search};
+pub use engine::kept::{KeepsSearch, RegexSearch, Search};
 pub use engine::{Engine, Refusal, RegexEngine};
 pub use errors::Error;
 pub use line_matcher::LineMatcherOf;
