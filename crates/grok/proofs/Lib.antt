@@ -35,6 +35,7 @@ pub mod Defined
 pub mod Whole
 pub mod Places
 pub mod Fits
+pub mod Going
 pub mod Captured
 pub mod SameBytes
 pub mod Decimals
@@ -42,3 +43,4 @@ pub mod MeantKeys
 pub mod Extending
 pub mod Halving
 pub mod AnswerLemmas
+pub mod Answered

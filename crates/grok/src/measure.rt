@@ -4,9 +4,9 @@ ghost use Rattle.std.specs.FinMap as finite;
 ghost use Rattle.grok.specs.Tree as spec;
 ghost use Rattle.grok.specs.Keys.{is_recorded, ends_in_bracket, has_bracket};
 ghost use Rattle.grok.specs.Sizes.{Size, plus, bracketed as bracket, wrapped, length_of, places_from, size_of_bytes};
-ghost use Rattle.grok.specs.Remembered.{State, Answer, inlined, labelled, with_mark, by_mark, visit as visited, look_within, item_within};
+ghost use Rattle.grok.specs.Remembered.{State, Answer, inlined, labelled, with_mark, by_mark, nothing_met, visit as visited, look_within, item_within};
 ghost use Rattle.grok.specs.Measured.{measured_tree, size_within, counted, reached_pieces, reached_texts};
-ghost use Rattle.grok.specs.Met.{fit, shown, shown_result, result_view, mark_of, measure_view, Shows, Gives, Knows};
+ghost use Rattle.grok.specs.Met.{fit, shown, shown_result, result_view, mark_of, measured_size, measure_view, Shows, Gives, Knows};
 ghost use Rattle.grok.specs.Items.{label_view, item_view};
 
 use crate::defs::Grok;
@@ -178,6 +178,16 @@ fn measure_of_sum<'a>(sum: Sum) -> Measure<'a>
     }
 }
 
+/// The answer for a pattern of this sum, or with this fault.
+fn measure_of<'a>(answer: Result<Sum, Fault<'a>>) -> Measure<'a>
+    ensures { (r : Result Size spec.Fault) → result_view answer.entry ≡ shown_result r → measure_view result ≡ measured_size r }
+{
+    match answer {
+        Ok(sum) => measure_of_sum(sum),
+        Err(fault) => Measure::Fault(fault),
+    }
+}
+
 /// Takes the next item of a text and counts it, or counts the end.
 fn look<'a>(items: &mut Items<'a>, looks: &mut Looks) -> Result<Option<Item<'a>>, AllocError>
     ensures { IfOk result (λ found. MatchOption found
@@ -211,7 +221,7 @@ fn wrap<'a>(
 ) -> Result<Sum, Fault<'a>>
     requires { IfOk inner (λ sum. sum.height < 2 ^ 32) }
     ensures gives { (r : Result Size spec.Fault) → result_view inner.entry ≡ shown_result r → result_view result ≡ shown_result (wrapped mode.entry.with_alias_only (label_view label.entry) r) }
-    ensures height { IfOk result (λ sum. IfOk inner.entry (λ inner. sum.height ≡ inner.height + 1)) }
+    ensures low { (most : ℕ) → IfOk inner.entry (λ sum. sum.height < most) → IfOk result (λ sum. sum.height ≤ most) }
 {
     match inner {
         Ok(sum) => Ok(bracketed(label, mode.with_alias_only, sum)),
@@ -220,6 +230,18 @@ fn wrap<'a>(
 }
 
 impl<'a> Met<'a> {
+    /// Nothing was met yet.
+    #[tactic(auto, using(crate::proofs::Answered::shows_nothing))]
+    fn new(alloc: Global) -> Met<'a>
+        ensures { Shows result nothing_met }
+    {
+        Met {
+            marks: BTreeMap::new(alloc),
+            looks: Looks { pieces: 0, ends: 0 },
+            has_bracket: false,
+        }
+    }
+
     /// The answer for a name that was met, where so many levels may be opened; nothing for one that was not.
     fn known(&self, name: &'a str, levels: usize) -> Option<Result<Sum, Fault<'a>>>
         ensures known { MatchOption result (mark_of self.now.marks name.now ≡ nothing) (λ r. (st : State) → Shows self.now st → (fresh : Answer) → Knows r st (by_mark (st.marks name.now) levels st fresh)) }
@@ -269,11 +291,13 @@ fn visit<'a>(
     }
     met.mark(name, None)?;
     let items = Items::of_stored(mode.alloc, mode.grok, stored);
-    let measured = measure_items(mode, met, items, levels - 1)?;
-    if let Ok(sum) = measured {
-        met.mark(name, Some(sum))?;
+    match measure_items(mode, met, items, levels - 1)? {
+        Ok(sum) => {
+            met.mark(name, Some(sum))?;
+            Ok(Ok(sum))
+        }
+        Err(fault) => Ok(Err(fault)),
     }
-    Ok(measured)
 }
 
 /// The sum of an item that was taken, or its first fault.
@@ -322,4 +346,64 @@ fn measure_items<'a>(
         }
     }
     Ok(Ok(sum))
+}
+
+impl Grok {
+    /// Measures a pattern, and finds out how much was read for it and whether an alias that ends in `]` is reached.
+    pub(crate) fn measure_fully<'a>(
+        &'a self,
+        pattern: &'a str,
+        with_alias_only: bool,
+    ) -> Result<Findings<'a>, AllocError>
+        ensures answer { IfOk result (λ found. measure_view found.measure ≡ measured_tree with_alias_only (spec.tree (finite.get self.now) pattern.now)) }
+        ensures pieces { IfOk result (λ found. found.looks.pieces ≤ counted (reached_pieces self.now pattern.now)) }
+        ensures ends { IfOk result (λ found. found.looks.ends ≤ counted (reached_texts self.now pattern.now)) }
+        ensures all_pieces { IfOk result (λ found. spec.first_structural (spec.tree (finite.get self.now) pattern.now) ≡ nothing → found.looks.pieces ≡ counted (reached_pieces self.now pattern.now)) }
+        ensures all_ends { IfOk result (λ found. spec.first_structural (spec.tree (finite.get self.now) pattern.now) ≡ nothing → found.looks.ends ≡ counted (reached_texts self.now pattern.now)) }
+        ensures bracket { IfOk result (λ found. found.has_bracket ≡ has_bracket (spec.reached (spec.tree (finite.get self.now) pattern.now))) }
+    {
+        let alloc = self.alloc();
+        let mode = Mode {
+            grok: self,
+            alloc,
+            with_alias_only,
+        };
+        let mut met = Met::new(alloc);
+        let items = Items::of_text(alloc, self, pattern);
+        let answer = measure_items(mode, &mut met, items, LEVELS)?;
+        Ok(Findings {
+            measure: measure_of(answer),
+            looks: met.looks,
+            has_bracket: met.has_bracket,
+        })
+    }
+
+    /// Measures a pattern: its first structural fault in the order of reading, or else the size of the text that it stands for, without expanding it.
+    /// Each stored text that is reached is read once. An error is want of memory.
+    pub fn measure<'a>(
+        &'a self,
+        pattern: &'a str,
+        with_alias_only: bool,
+    ) -> Result<Measure<'a>, AllocError>
+        ensures { IfOk result (λ measure. measure_view measure ≡ measured_tree with_alias_only (spec.tree (finite.get self.now) pattern.now)) }
+    {
+        Ok(self.measure_fully(pattern, with_alias_only)?.measure)
+    }
+
+    /// The same answer, and how often a piece was taken and the end of a text was met for it: at most, and for a pattern without a fault exactly,
+    /// once for each piece of the pattern and of each stored text that is reached, and once for each of these texts. An error is want of memory.
+    pub fn measure_counted<'a>(
+        &'a self,
+        pattern: &'a str,
+        with_alias_only: bool,
+    ) -> Result<(Measure<'a>, Looks), AllocError>
+        ensures answer { IfOk result (λ r. measure_view r.0 ≡ measured_tree with_alias_only (spec.tree (finite.get self.now) pattern.now)) }
+        ensures pieces { IfOk result (λ r. r.1.pieces ≤ counted (reached_pieces self.now pattern.now)) }
+        ensures ends { IfOk result (λ r. r.1.ends ≤ counted (reached_texts self.now pattern.now)) }
+        ensures all_pieces { IfOk result (λ r. spec.first_structural (spec.tree (finite.get self.now) pattern.now) ≡ nothing → r.1.pieces ≡ counted (reached_pieces self.now pattern.now)) }
+        ensures all_ends { IfOk result (λ r. spec.first_structural (spec.tree (finite.get self.now) pattern.now) ≡ nothing → r.1.ends ≡ counted (reached_texts self.now pattern.now)) }
+    {
+        let found = self.measure_fully(pattern, with_alias_only)?;
+        Ok((found.measure, found.looks))
+    }
 }
