@@ -44,3 +44,4 @@ pub mod Extending
 pub mod Halving
 pub mod AnswerLemmas
 pub mod Answered
+pub mod Compiling

@@ -26,6 +26,12 @@ abbrev pub IsErrorOf : Finding → ErrorValue → Type 0
 IsErrorOf (Structural fault) error = IsFaultError fault error
 IsErrorOf (Clash key) error = error ≡ GenericCompilationFailure (codes "Alias " ++ (key ++ codes " already exists"))
 
+-- the error of the first fault
+pub record IsFirstError (alias_only : Bool) (tree : List Event) (error : ErrorValue) : Type 0 where
+  pub finding : Finding
+  pub first : first_fault alias_only tree ≡ Some finding
+  pub is : IsErrorOf finding error
+
 -- ---- patterns
 
 -- the engine was built from this text, the groups it names have these keys, and these are the extracts
@@ -49,8 +55,8 @@ pub record CanBuild (alias_only : Bool) (tree : List Event) : Type 0 where
 -- the refusal only of a text that the engine may refuse; and want of memory, which is also what a text that is too long gives
 pub data IsCompileError (may_refuse : List ℕ → Type 0) (alias_only : Bool) (pattern : List ℕ) (tree : List Event) : ErrorValue → Type 0 where
   Empty : pattern ≡ [] → IsCompileError may_refuse alias_only pattern tree (CompiledPatternIsEmpty [])
-  First : (finding : Finding) (error : ErrorValue) → pattern ≢ [] → first_fault alias_only tree ≡ Some finding → (first_structural tree ≡ None → length (expanded alias_only tree) < 2 ^ 64)
-      → IsErrorOf finding error → IsCompileError may_refuse alias_only pattern tree error
+  First : (error : ErrorValue) → pattern ≢ [] → IsFirstError alias_only tree error → (first_structural tree ≡ None → length (expanded alias_only tree) < 2 ^ 64)
+      → IsCompileError may_refuse alias_only pattern tree error
   Unbuilt : (error : ErrorValue) → pattern ≢ [] → CanBuild alias_only tree → IsRefusal may_refuse (expanded alias_only tree) error → IsCompileError may_refuse alias_only pattern tree error
   NoMemory : pattern ≢ [] → IsCompileError may_refuse alias_only pattern tree Memory
 
