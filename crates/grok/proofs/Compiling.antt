@@ -2,15 +2,14 @@
 use Rattle.std.proofs.Common.{◌≡◌, ◌≢◌, ℕ, suc, ◌<◌, ◌^◌, Bool, true, false, cond, List, [], ◌∷◌, length, map, Option, Some, None, Result, Ok, Err, ◌⊎◌, inl, inr, refl, sym, ◌∙◌, ap, subst, arith}
 use Rattle.std.specs.Prelude.{nat_lt, ◌==◌, MatchResult, IsErrAnd}
 use Rattle.std.specs.Option.{option_map}
-use Rattle.std.specs.FinMap as finite
 use Rattle.std.specs.String.{string_bytes}
 use Rattle.std.specs.BTreeMap.{get_by_text}
 use borrow.Author.Tests.{ltb-true}
 use Rattle.std.proofs.lemmas.Bool.{true≢false, ne_eqb}
 use Rattle.grok.specs.Tree.{Definitions, Label, Fault, Event, Text, Open, Close, Fails, tree, first_structural, reached}
-use Rattle.grok.specs.Keys.{is_recorded, key_after, is_among, first_fault, first_fault_after, Finding, Structural, Clash, has_bracket, keys, recorded, extract_of}
+use Rattle.grok.specs.Keys.{is_recorded, key_after, is_among, first_fault_after, Finding, Structural, Clash, has_bracket, keys, recorded, extract_of}
 use Rattle.grok.specs.Expanded.{expanded, groups, nesting}
-use Rattle.grok.specs.Measured.{Measured, Faulty, Sized, PastLimit, fault_or, size_within, measured_tree}
+use Rattle.grok.specs.Measured.{Faulty, Sized, PastLimit, fault_or, size_within, measured_tree}
 use Rattle.grok.specs.Answers.{PatternValue}
 use Rattle.grok.specs.KeyTable.{IsKeyTable}
 use Rattle.grok.specs.declared.expand.given.Given.{Given}
@@ -18,7 +17,7 @@ use Rattle.grok.specs.Walks.{HasKeys}
 use Rattle.grok.specs.declared.errors.Error.{Error}
 use Rattle.grok.specs.declared.errors.Error.TheVariants as rust
 use Rattle.grok.specs.Errors.{ErrorValue, Memory, error_value}
-use Rattle.grok.specs.Compiled.{IsErrorOf, IsFaultError, IsFirstError, IsBuilt, IsRefusal, Compiles, IsCompileError, First, Unbuilt, NoMemory}
+use Rattle.grok.specs.Compiled.{IsFaultError, IsFirstError, IsBuilt, IsRefusal, Compiles, IsCompileError, First, Unbuilt, NoMemory}
 use Rattle.grok.proofs.KeyLaws.{clash_needs_bracket}
 
 -- ---- what was measured

@@ -1,5 +1,5 @@
 -- What compiling a pattern answers.
-use Rattle.std.specs.Prelude.{◌≡◌, ◌≢◌, ℕ, ◌<◌, ◌^◌, Bool, List, [], ◌∷◌, ◌++◌, length, codes, Option, Some, None, Result, MatchResult, IfSome}
+use Rattle.std.specs.Prelude.{◌≡◌, ◌≢◌, ℕ, ◌<◌, ◌^◌, Bool, List, [], ◌++◌, length, codes, Option, Some, None, Result, MatchResult, IfSome}
 use Rattle.std.specs.FinMap as finite
 use Rattle.grok.specs.Texts.{fault_words}
 use Rattle.grok.specs.Tree.{Fault, BadPiece, Missing, TooDeep, Event, first_structural}

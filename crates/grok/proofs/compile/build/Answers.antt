@@ -1,5 +1,5 @@
-use Rattle.std.proofs.Common.{◌≡◌, inr, Err, ap, subst, sym}
-use Rattle.grok.specs.Errors.{ErrorValue, error_value}
+use Rattle.std.proofs.Common.{inr, Err, ap, subst, sym}
+use Rattle.grok.specs.Errors.{ErrorValue}
 use Rattle.grok.specs.Compiled.{IsRefusal, Refused}
 use Rattle.grok.proofs.compile.build.Goals as goal
 

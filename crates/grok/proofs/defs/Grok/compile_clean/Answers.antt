@@ -1,4 +1,4 @@
-use Rattle.std.proofs.Common.{◌≡◌, ◌<◌, ◌^◌, Err, List, Some, length, sym, ◌∙◌, ap, arith}
+use Rattle.std.proofs.Common.{◌≡◌, ◌<◌, ◌^◌, List, Some, length, ◌∙◌, arith}
 use Rattle.std.specs.FinMap as finite
 use Rattle.grok.specs.Tree.{Event, tree}
 use Rattle.grok.specs.Expanded.{expanded}

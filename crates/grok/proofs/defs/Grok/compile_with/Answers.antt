@@ -1,4 +1,4 @@
-use Rattle.std.proofs.Common.{◌≡◌, ◌≢◌, ◌<◌, ◌^◌, ℕ, Bool, false, List, [], Some, None, length, sym, ◌∙◌, ap, subst, arith}
+use Rattle.std.proofs.Common.{◌≡◌, ℕ, false, List, Some, None, sym, ◌∙◌, ap, subst}
 use Rattle.std.specs.FinMap as finite
 use Rattle.grok.specs.Tree.{Event, tree, first_structural, reached, Fault}
 use Rattle.grok.specs.Keys.{has_bracket}
@@ -6,7 +6,7 @@ use Rattle.grok.specs.Items.{fault_view}
 use Rattle.grok.specs.Errors.{error_value, CompiledPatternIsEmpty}
 use Rattle.grok.specs.Compiled.{IsCompileError, Empty, NoMemory}
 use Rattle.grok.specs.Met.{measure_view}
-use Rattle.grok.proofs.Compiling.{no_memory, first_answer, faulty_is, sized_is, quiet_fault, some_bytes, no_bytes}
+use Rattle.grok.proofs.Compiling.{no_memory, first_answer, faulty_is, quiet_fault, some_bytes, no_bytes}
 use Rattle.grok.proofs.defs.Grok.compile_with.Goals as goal
 
 pub returns-then-is_empty : goal.returns-then-is_empty
