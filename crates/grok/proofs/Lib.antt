@@ -37,11 +37,10 @@ pub mod Places
 pub mod Fits
 pub mod Going
 pub mod Captured
-pub mod SameBytes
-pub mod Decimals
 pub mod MeantKeys
 pub mod Extending
 pub mod Halving
 pub mod AnswerLemmas
 pub mod Answered
 pub mod Compiling
+pub mod WalkLaws

@@ -31,3 +31,4 @@ pub mod EngineLaws
 pub mod KeyTable
 pub mod KeyPlaces
 pub mod Answers
+pub mod AnswerLaws

@@ -1,6 +1,7 @@
 // Grok patterns.
 #![tactic(auto)]
 
+pub mod answer_laws;
 mod compile;
 pub mod defs;
 mod engine;
