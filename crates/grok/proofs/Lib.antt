@@ -44,4 +44,5 @@ pub mod AnswerLemmas
 pub mod Answered
 pub mod TreeFaults
 pub mod MeasuredCases
+pub mod Compiling
 pub mod WalkLaws

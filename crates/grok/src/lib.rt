@@ -2,6 +2,7 @@
 #![tactic(auto)]
 
 pub mod answer_laws;
+mod compile;
 pub mod defs;
 mod engine;
 mod errors;
