@@ -27,8 +27,6 @@ echo "Machine: $(machine)."
 echo
 echo "| Library | Definitions | Bytes | \`add_pattern\` of all, ms | \`measure\`, ms | Pieces looked at | ns a piece | Memory a definition, bytes | Answer |"
 echo "|---|---|---|---|---|---|---|---|---|"
-: >"$room/empty"
-floor=$(peak "$room/empty" "$grok_bench" measure x)
 for shape in chain comb doubling random; do
     for count in "$@"; do
         "$root/bench/make_library" "$shape" "$count" >"$room/library"
@@ -39,7 +37,9 @@ for shape in chain comb doubling random; do
             [ -n "$measuring" ] && [ "$measuring" -le "$(told measure)" ] || measuring=$(told measure)
         done
         pieces=$(sed -n 's/.*pieces \([0-9]*\).*/\1/p' "$room/answer")
-        memory=$((($(peak "$room/library" "$grok_bench" measure '%{TOP}') - floor) * 1024 / count))
+        # The lines themselves are read whole in both runs.
+        floor=$(peak "$room/library" "$grok_bench" split)
+        memory=$((($(peak "$room/library" "$grok_bench" measure "%{TOP}") - floor) * 1024 / count))
         echo "| $shape | $count | $(stat -c %s "$room/library") | $(ratio "$adding" 1000) | $(ratio "$measuring" 1000) | $pieces" \
             "| $(ratio "$((measuring * 1000))" "$pieces" 0) | $memory | $(sed 's/ pieces.*//' "$room/answer") |"
     done

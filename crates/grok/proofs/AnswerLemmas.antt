@@ -32,7 +32,7 @@ extract_found m name = finite.get-from_entries nat_list_cmp_total _ name ∙ fou
 -- ---- walks
 
 module _ (captures : List (Option (List ℕ))) where
-  above_walk : (key : List ℕ) (table : Entries) → AllByRecursion (λ y. slice_cmp nat_cmp key y ≡ Less) (keys_of table) → AllByRecursion (λ y. slice_cmp nat_cmp key y ≡ Less) (keys_of (walk table captures))
+  pub above_walk : (key : List ℕ) (table : Entries) → AllByRecursion (λ y. slice_cmp nat_cmp key y ≡ Less) (keys_of table) → AllByRecursion (λ y. slice_cmp nat_cmp key y ≡ Less) (keys_of (walk table captures))
   above_walk key [] above = tt
   above_walk key (e ∷ es) above =
       elim (capture_at captures e.1) as (λ o. AllByRecursion (λ y. slice_cmp nat_cmp key y ≡ Less) (keys_of (cons_option (option_map (λ text. (e.0, text)) o) (walk es captures)))) [

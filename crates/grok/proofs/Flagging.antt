@@ -1,14 +1,13 @@
 -- An alias that ends in a bracket is met exactly where the tree reaches one.
-use Rattle.std.proofs.Common.{◌≡◌, ℕ, zero, suc, ◌+◌, ◌-◌, ◌<◌, ◌≤◌, max, Bool, true, false, cond, ◌||◌, List, [], ◌∷◌, ◌++◌, Option, Result, Some, None, Ok, Err, refl, sym, ◌∙◌, ap, subst, ◌⊎◌, inl, inr, arith, append_assoc, add-zero, add-one}
-use Rattle.std.proofs.lemmas.Bool.{true≢false, false_from_ne_true, ltb-true}
-use Rattle.std.specs.Prelude.{nat_lt}
+use Rattle.std.proofs.Common.{◌≡◌, ℕ, zero, suc, ◌+◌, ◌<◌, Bool, true, false, cond, ◌||◌, List, [], ◌∷◌, ◌++◌, Option, Result, Some, None, Ok, Err, refl, sym, ◌∙◌, ap, subst, ◌⊎◌, inl, inr, arith, append_assoc, add-zero, add-one}
+use Rattle.std.proofs.lemmas.Bool.{true≢false, false_from_ne_true}
 use Rattle.grok.specs.Tree.{Definitions, Fault, TooDeep, Label, Meaning, Inline, Stored, text_of, Item, Bytes, Broken, Opening, Event, Text, Open, Close, Fails, events, inside, reached, first_structural, tree_within}
 use Rattle.grok.specs.Keys.{ends_in_bracket, has_bracket}
 use Rattle.grok.specs.Sizes.{Size, no_size, size_of_bytes, plus, wrapped, size_of, sizes, measured}
-use Rattle.grok.specs.Remembered.{State, with_mark, looked, opened, ended, inlined, Answer, then_rest, look, finish, by_mark, visit, nothing_met, measure_within}
+use Rattle.grok.specs.Remembered.{State, with_mark, looked, opened, inlined, Answer, then_rest, look, finish, by_mark, visit, nothing_met, measure_within}
 use Rattle.grok.proofs.Flat.{AreSound, IsSound, flat_measured, flat_bracket}
-use Rattle.grok.proofs.SizeLaws.{both_ok, wrapped_ok, both_from, sizes-append}
-use Rattle.grok.proofs.TreeSizes.{fits_inside, first_structural-append, wrapped_err}
+use Rattle.grok.proofs.SizeLaws.{wrapped_ok, both_from, sizes-append}
+use Rattle.grok.proofs.TreeSizes.{fits_inside, wrapped_err}
 use Rattle.grok.proofs.Remembering.{IsHonest, OpenLead, Place, next_place, open_further, VisitRight, look_right, visit_right, marked_cases, honest_open, lead_open}
 use Rattle.grok.proofs.Meeting.{same_inside, clean_inside}
 use Rattle.grok.proofs.Bracketing.{bracket_left, bracket_right, bracket_either, bracket_more, LeadsQuietly, quiet_circle, quiet_from, events-append}
@@ -181,11 +180,13 @@ module _ (alias_only : Bool) (resolve : List ℕ → List Item) (definitions : D
       let parts = or_none (ends_in_bracket label.alias) st.bracket none in
       let (down, first) = lead parts.1 name text met stored in
       let second : LeadsQuietly alias_only resolve 1 c (text_of meaning) = quiet_from alias_only resolve c levels p.before items label meaning p.size p.is p.read (p.quiet parts.1) parts.0 in
-      let there : (n : ℕ) → n + 1 + (down + 0) ≡ n + (down + 1) = λ n. omega arith in
-      (down, record {
-        deep = λ n deep quiet. subst (λ k. measured alias_only resolve k text ≡ Err TooDeep) (there n) (first.deep (n + 1) (second.deep n deep quiet) (second.quiet n deep quiet));
-        quiet = λ n deep quiet. subst (λ k. has_bracket (reached (inside resolve k text)) ≡ false) (there n) (first.quiet (n + 1) (second.deep n deep quiet) (second.quiet n deep quiet));
-      })
+      let there : (n : ℕ) → n + 1 + (down + 0) ≡ n + (down + 1) = λ n. omega arith in (
+        down,
+        record {
+          deep = λ n deep quiet. subst (λ k. measured alias_only resolve k text ≡ Err TooDeep) (there n) (first.deep (n + 1) (second.deep n deep quiet) (second.quiet n deep quiet));
+          quiet = λ n deep quiet. subst (λ k. has_bracket (reached (inside resolve k text)) ≡ false) (there n) (first.quiet (n + 1) (second.deep n deep quiet) (second.quiet n deep quiet));
+        },
+      )
 
   look_flags : (levels : ℕ) → VisitRight alias_only resolve definitions levels → VisitFlags levels → (c : List ℕ) (items : List Item) (st : State) → QuietPlace levels c items st → AreSound resolve definitions items
       → IsHonest alias_only resolve definitions st → OpenLead alias_only resolve definitions st 0 c → IsLoud st → OpenQuiet st 0 c

@@ -17,7 +17,7 @@ use Rattle.std.proofs.lemmas.Map.Text.{is_eq-slice_cmp}
 use Rattle.grok.specs.declared.key_table.Place.{Place}
 use Rattle.grok.specs.KeyTable.{Entries, group_in}
 use Rattle.grok.specs.KeyPlaces.{key_at, key_or_none, entries_at, IsPlace, IsTable}
-use Rattle.grok.proofs.SameBytes.{same_text}
+use Rattle.grok.proofs.KeyLaws.{same_text}
 use Rattle.grok.proofs.MeantKeys.{get_mapped}
 
 abbrev by_bytes : List ℕ → List ℕ → Ordering

@@ -17,8 +17,8 @@ use Rattle.std.proofs.lemmas.List.{append_cancel_left}
 use Rattle.grok.specs.Keys.{numeral}
 use Rattle.grok.specs.KeyTable.{generated, meant_from, meant_key, groups_from, last_or}
 use Rattle.grok.specs.Captures.{name_texts}
-use Rattle.grok.proofs.SameBytes.{same_text, text_same}
-use Rattle.grok.proofs.Decimals.{numeral_is_decimal}
+use Rattle.grok.proofs.KeyLaws.{same_text, text_same}
+use Rattle.grok.proofs.Numerals.{numeral_is_decimal}
 
 -- NUMERALS SAY THEIR NUMBER
 back : (ds : List ℕ) → map (λ c. c - 48) (map (λ digit. 48 + digit) ds) ≡ ds

@@ -1,27 +1,31 @@
 // Grok patterns.
 #![tactic(auto)]
 
+pub mod answer_laws;
+mod compile;
 pub mod defs;
+mod engine;
 mod errors;
+mod expand;
 mod items;
 pub mod key_laws;
-pub mod laws;
-mod measure;
-mod engine;
 mod key_table;
+pub mod laws;
 mod line_matcher;
 mod matches;
+mod measure;
 pub mod parser;
 mod structural;
+pub mod tree_laws;
 
 pub use defs::{Grok, patterns};
-pub use errors::Error;
-pub use measure::{Looks, Measure};
-pub use structural::Fault;
-pub use engine::kept::{Afresh, KeepsSearch, RegexSearch, Search};
+pub use engine::kept::{KeepsSearch, RegexSearch, Search};
 pub use engine::{Engine, Refusal, RegexEngine};
+pub use errors::Error;
 pub use line_matcher::LineMatcherOf;
 pub use matches::{CaptureNames, MatchesIter, MatchesOf, PatternOf};
+pub use measure::{Looks, Measure};
+pub use structural::Fault;
 
 /// A pattern over `regex`.
 pub type Pattern = PatternOf<RegexEngine>;

@@ -3,8 +3,8 @@ use Rattle.std.specs.Prelude.{codes, decimal}
 use Rattle.std.specs.Result.{result_ok}
 use Rattle.std.proofs.lemmas.Bool.{true≢false}
 use Rattle.grok.specs.KeyTable.{generated}
-use Rattle.grok.proofs.SameBytes.{same_text, text_same}
-use Rattle.grok.proofs.Decimals.{numeral_is_decimal}
+use Rattle.grok.proofs.KeyLaws.{same_text, text_same}
+use Rattle.grok.proofs.Numerals.{numeral_is_decimal}
 use Rattle.grok.proofs.MeantKeys.{stripped, reads_back}
 use Rattle.grok.proofs.key_table.number_of.Goals as goal
 
