@@ -38,3 +38,4 @@ pub mod Extending
 pub mod Halving
 pub mod AnswerLemmas
 pub mod WalkLaws
+pub mod GreatestGroups
