@@ -181,11 +181,13 @@ module _ (alias_only : Bool) (resolve : List ℕ → List Item) (definitions : D
       let parts = or_none (ends_in_bracket label.alias) st.bracket none in
       let (down, first) = lead parts.1 name text met stored in
       let second : LeadsQuietly alias_only resolve 1 c (text_of meaning) = quiet_from alias_only resolve c levels p.before items label meaning p.size p.is p.read (p.quiet parts.1) parts.0 in
-      let there : (n : ℕ) → n + 1 + (down + 0) ≡ n + (down + 1) = λ n. omega arith in
-      (down, record {
-        deep = λ n deep quiet. subst (λ k. measured alias_only resolve k text ≡ Err TooDeep) (there n) (first.deep (n + 1) (second.deep n deep quiet) (second.quiet n deep quiet));
-        quiet = λ n deep quiet. subst (λ k. has_bracket (reached (inside resolve k text)) ≡ false) (there n) (first.quiet (n + 1) (second.deep n deep quiet) (second.quiet n deep quiet));
-      })
+      let there : (n : ℕ) → n + 1 + (down + 0) ≡ n + (down + 1) = λ n. omega arith in (
+        down,
+        record {
+          deep = λ n deep quiet. subst (λ k. measured alias_only resolve k text ≡ Err TooDeep) (there n) (first.deep (n + 1) (second.deep n deep quiet) (second.quiet n deep quiet));
+          quiet = λ n deep quiet. subst (λ k. has_bracket (reached (inside resolve k text)) ≡ false) (there n) (first.quiet (n + 1) (second.deep n deep quiet) (second.quiet n deep quiet));
+        },
+      )
 
   look_flags : (levels : ℕ) → VisitRight alias_only resolve definitions levels → VisitFlags levels → (c : List ℕ) (items : List Item) (st : State) → QuietPlace levels c items st → AreSound resolve definitions items
       → IsHonest alias_only resolve definitions st → OpenLead alias_only resolve definitions st 0 c → IsLoud st → OpenQuiet st 0 c
