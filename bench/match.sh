@@ -78,11 +78,13 @@ compare() {
 goal() {
     local least=8
     [ "$1" = other ] || [ "$1" = cut ] && least=30
-    awk -v least="$least" -v perl="$2" -v rg="$3" -v json="$4" 'BEGIN {
-        printf "\nGoals: `match -a` at least %d times perl: %s; faster than `rg -c`: %s; `json -a` at least half of it: %s.\n",
-            least, perl >= least ? "met" : "missed (" perl ")",
-            rg == "-" || rg == 0 ? "not measured" : rg > 1 ? "met" : "missed (" rg ")",
-            json >= 0.5 ? "met" : "missed (" json ")" }'
+    awk -v least="$least" -v perl="$2" -v rg="$3" -v json="$4" '
+        function met(is_met, value) { return is_met ? "met" : "missed (" value ")" }
+        BEGIN {
+            print ""
+            print "Goals: `match -a` at least " least " times perl: " met((perl >= least), perl) "; faster than `rg -c`: " \
+                (rg + 0 == 0 ? "not measured" : met((rg > 1), rg)) "; `json -a` at least half of it: " met((json >= 0.5), json) "."
+        }'
 }
 
 echo "Machine: $(machine)."

@@ -1,12 +1,12 @@
 -- What is read off a list of events, where the list is cut.
-use Rattle.std.proofs.Common.{◌≡◌, ℕ, zero, suc, ◌+◌, Bool, true, false, cond, List, [], ◌∷◌, ◌++◌, length, Option, Some, None, refl, sym, ◌∙◌, ap, subst, ◌⊎◌, inl, inr, ◌&&◌, append-nil, append_assoc, arith}
+use Rattle.std.proofs.Common.{◌≡◌, ℕ, ◌+◌, Bool, true, false, cond, List, [], ◌∷◌, ◌++◌, Option, Some, None, refl, sym, ◌∙◌, ap, subst, ◌⊎◌, inl, inr, ◌&&◌, append-nil, append_assoc, arith}
 use Rattle.std.specs.Prelude.{not}
 use Rattle.std.specs.Str.{bytes_eq}
-use Rattle.std.proofs.lemmas.Bool.{true≢false, cases_Bool, and_parts}
-use Rattle.grok.specs.Tree.{Label, Meaning, is_absent, Fault, Event, Text, Open, Close, Fails}
-use Rattle.grok.specs.Keys.{is_recorded, recorded, wanted, numbered, how_often, key_after, keys_after, keys, is_among, first_fault_after, first_fault, Finding, Structural, Clash, extract_after, extract_of}
+use Rattle.std.proofs.lemmas.Bool.{true≢false, cases_Bool}
+use Rattle.grok.specs.Tree.{Label, is_absent, Event, Text, Open, Close, Fails}
+use Rattle.grok.specs.Keys.{is_recorded, recorded, wanted, numbered, how_often, key_after, keys_after, keys, is_among, Finding, Structural, Clash, extract_after}
 use Rattle.grok.specs.Given.{onto, taken_of, in_order, extract_before, faults, after}
-use Rattle.grok.specs.FirstFault.{IsFaultBehind, Breaks, Meets, HasNoFault, HasFirstFault, FindsFirstFault, FirstFaultIsFirst, HasNoExtract, HasLastExtract, FindsLastExtract, ExtractIsLast}
+use Rattle.grok.specs.FirstFault.{IsFaultBehind, Breaks, Meets, HasNoFault, HasFirstFault, FirstFaultIsFirst, HasNoExtract, HasLastExtract, ExtractIsLast}
 use Rattle.grok.proofs.KeyLaws.{same_text, text_same, how_often_more}
 
 -- ---- one list of events after the other

@@ -1,8 +1,8 @@
 -- Texts that hold no placeholder, as a definition that is written in another text: their bytes stand for themselves.
-use Rattle.std.proofs.Common.{◌≡◌, ℕ, zero, suc, ◌+◌, Bool, true, false, List, [], ◌∷◌, ◌++◌, length, Result, Some, Ok, Err, refl, ◌∙◌, ap, arith}
-use Rattle.grok.specs.Tree.{Definitions, Fault, Inline, Stored, Item, Bytes, Broken, Opening, Event, Text, Open, Close, Fails, events, inside}
+use Rattle.std.proofs.Common.{◌≡◌, ℕ, zero, suc, ◌+◌, Bool, false, List, [], ◌∷◌, ◌++◌, length, Result, Some, Ok, refl, ◌∙◌, ap, arith}
+use Rattle.grok.specs.Tree.{Definitions, Fault, Inline, Stored, Item, Bytes, Broken, Opening, Event, Close, events, inside}
 use Rattle.grok.specs.Keys.{has_bracket}
-use Rattle.grok.specs.Sizes.{Size, size_of_bytes, plus, both, sizes, measured}
+use Rattle.grok.specs.Sizes.{Size, size_of_bytes, both, sizes, measured}
 use Rattle.grok.specs.Remembered.{inlined}
 use Rattle.grok.specs.Measured.{reaches}
 use Rattle.grok.proofs.SizeLaws.{same_size}

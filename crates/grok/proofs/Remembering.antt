@@ -5,7 +5,7 @@ use Rattle.std.proofs.lemmas.Slice.Eq.{bytes_eq-Decides}
 use Rattle.std.specs.Prelude.{nat_lt}
 use Rattle.std.specs.Str.{bytes_eq}
 use Rattle.grok.specs.Tree.{Definitions, Fault, TooDeep, Label, Meaning, Inline, Stored, text_of, Item, Bytes, Broken, Opening}
-use Rattle.grok.specs.Sizes.{Size, no_size, size_of_bytes, plus, both, wrapped, size_of, sizes, measured}
+use Rattle.grok.specs.Sizes.{Size, no_size, plus, both, wrapped, size_of, sizes, measured}
 use Rattle.grok.specs.Remembered.{State, marked, with_mark, looked, opened, inlined, Answer, then_rest, look, finish, by_mark, visit, nothing_met, measure_within}
 use Rattle.grok.proofs.SizeLaws.{IsSizeOf, Leads, both_ok, wrapped_ok, both_from, sizes-append, leads_from, leads_on, circle, size_from}
 use Rattle.grok.proofs.Flat.{AreSound, IsSound, flat_measured}

@@ -1,5 +1,5 @@
 -- Laws of sizes: where fewer levels may be opened, the same size or too deep; and a text that leads to itself goes too deep.
-use Rattle.std.proofs.Common.{◌≡◌, ℕ, zero, suc, ◌+◌, ◌-◌, ◌<◌, ◌≤◌, Bool, List, [], ◌∷◌, ◌++◌, length, Result, Ok, Err, refl, sym, ◌∙◌, ap, subst, ◌⊎◌, inl, inr, arith, zero-add, suc-add, add-one}
+use Rattle.std.proofs.Common.{◌≡◌, ℕ, zero, suc, ◌+◌, ◌-◌, ◌<◌, ◌≤◌, Bool, List, [], ◌∷◌, ◌++◌, Result, Ok, Err, refl, sym, ◌∙◌, ap, subst, ◌⊎◌, inl, inr, arith, zero-add, suc-add, add-one}
 use Rattle.std.proofs.lemmas.Bool.{cases_lt}
 use Rattle.grok.specs.Tree.{Fault, TooDeep, Label, Meaning, text_of, Item, Bytes, Broken, Opening}
 use Rattle.grok.specs.Sizes.{Size, no_size, size_of_bytes, plus, both, bracketed, wrapped, size_of, sizes, measured}

@@ -1,6 +1,6 @@
 -- The first fault and the extracts of a tree, said by where the list of its events, or of its recorded opens, is cut.
-use Rattle.std.specs.Prelude.{◌≡◌, ℕ, Bool, true, false, List, [], ◌∷◌, ◌++◌, Option, Some, None}
-use Rattle.grok.specs.Tree.{Definitions, is_absent, Label, Meaning, Fault, Event, Open, Fails}
+use Rattle.std.specs.Prelude.{◌≡◌, ℕ, Bool, true, false, List, [], ◌∷◌, ◌++◌, Some, None}
+use Rattle.grok.specs.Tree.{is_absent, Label, Meaning, Fault, Event, Open, Fails}
 use Rattle.grok.specs.Keys.{is_recorded, recorded, key_after, keys, Finding, Structural, Clash, is_among, first_fault, extract_of}
 
 -- the event, which stands behind these others, is the fault: it is a fault event, or a recorded open whose key is that of an earlier one

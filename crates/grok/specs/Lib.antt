@@ -15,6 +15,9 @@ pub mod Items
 pub mod Errors
 pub mod Given
 pub mod FirstFault
+pub mod Walks
+pub mod Writes
+pub mod Compiled
 pub mod Tiles
 pub mod Named
 pub mod Sizes
@@ -28,4 +31,5 @@ pub mod EngineLaws
 pub mod KeyTable
 pub mod KeyPlaces
 pub mod Answers
+pub mod TreeLaws
 pub mod AnswerLaws

@@ -5,6 +5,8 @@ use Rattle.std.specs.Ordering.{nat_cmp}
 use Rattle.std.specs.Cmp.Lexicographic.{slice_cmp}
 use Rattle.std.specs.BTreeMap.{BTreeMap, get_by}
 use Rattle.std.specs.Borrow.{Bor}
+use Rattle.std.specs.FinMap as finite
+use Rattle.grok.specs.Maps.{Texts}
 use Rattle.grok.specs.declared.structural.Fault.{Fault}
 use Rattle.grok.specs.declared.measure.Sum.{Sum}
 use Rattle.grok.specs.declared.measure.Met.{Met}
@@ -12,9 +14,13 @@ use Rattle.grok.specs.declared.measure.Measure.{Measure}
 use Rattle.grok.specs.declared.measure.Measure.TheVariants as measure
 use Rattle.grok.specs.Tree as tree
 use Rattle.grok.specs.Items.{fault_view}
-use Rattle.grok.specs.Sizes.{Size}
+use Rattle.grok.specs.Sizes.{Size, length_of}
 use Rattle.grok.specs.Remembered.{State, Answer}
-use Rattle.grok.specs.Measured.{Measured, Faulty, Sized, PastLimit, counted}
+use Rattle.grok.specs.Measured.{Measured, Faulty, Sized, PastLimit, size_within, counted}
+
+-- the items of a text over these definitions
+abbrev pub items_in : Texts → List ℕ → List tree.Item
+items_in texts text = tree.items_of (finite.get texts) text
 
 -- a sum, if it fits
 abbrev pub fit : ℕ → Option ℕ
@@ -51,6 +57,11 @@ pub record Gives (r : Result Sum Fault) (met : Met) (answer : Answer) : Type 0 w
 pub record Knows (r : Result Sum Fault) (st : State) (answer : Answer) : Type 0 where
   pub same : result_view r ≡ shown_result answer.0
   pub stays : answer.1 ≡ st
+
+-- what a size, or a fault, answers
+abbrev pub measured_size : Result Size tree.Fault → Measured
+measured_size (Ok size) = size_within (length_of size) size.groups size.height
+measured_size (Err fault) = Faulty fault
 
 -- what contracts see of an answer
 abbrev pub measure_view : Measure → Measured

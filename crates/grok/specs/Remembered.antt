@@ -1,5 +1,5 @@
 -- Measuring with each name read once: what is kept of the names that were met.
-use Rattle.std.specs.Prelude.{ℕ, zero, suc, ◌+◌, Bool, true, false, ◌||◌, List, [], ◌∷◌, if◌then◌else◌, nat_lt, Option, Some, None, Result, Ok, Err}
+use Rattle.std.specs.Prelude.{ℕ, zero, suc, ◌+◌, Bool, false, ◌||◌, List, [], ◌∷◌, if◌then◌else◌, nat_lt, Option, Some, None, Result, Ok, Err}
 use Rattle.std.specs.Str.{bytes_eq}
 use Rattle.grok.specs.Tree.{Fault, TooDeep, Label, Inline, Stored, Item, Bytes, Broken, Opening}
 use Rattle.grok.specs.Keys.{ends_in_bracket}

@@ -122,6 +122,11 @@ impl Grok {
         Ok(())
     }
 
+    /// Where the definitions are kept, and what is made from them.
+    pub(crate) fn alloc(&self) -> Global {
+        self.alloc
+    }
+
     /// The definition of a name with its pieces, if there is one.
     pub(crate) fn stored(&self, name: &str) -> Option<&Stored>
         ensures { option_copied result ≡ finite.get self.now name.now }

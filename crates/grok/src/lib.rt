@@ -2,9 +2,11 @@
 #![tactic(auto)]
 
 pub mod answer_laws;
+mod compile;
 pub mod defs;
 mod engine;
 mod errors;
+mod expand;
 mod items;
 pub mod key_laws;
 mod key_table;
@@ -14,6 +16,7 @@ mod matches;
 mod measure;
 pub mod parser;
 mod structural;
+pub mod tree_laws;
 
 pub use defs::{Grok, patterns};
 pub use engine::kept::{KeepsSearch, RegexSearch, Search};

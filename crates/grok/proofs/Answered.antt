@@ -1,0 +1,80 @@
+-- What the public measure answers.
+use Rattle.std.proofs.Common.{◌≡◌, ℕ, ◌≤◌, Bool, false, List, [], length, Option, Result, Some, None, Ok, Err, Bor, refl, sym, ◌∙◌, ap, arith}
+use Rattle.std.specs.Ordering.{nat_cmp}
+use Rattle.std.specs.Cmp.Lexicographic.{slice_cmp}
+use Rattle.std.specs.BTreeMap.{BTreeMap, is_at}
+use Rattle.std.specs.Map.{lookup}
+use Rattle.std.specs.FinMap as finite
+use Rattle.grok.specs.declared.structural.Fault.{Fault as CodeFault}
+use Rattle.grok.specs.declared.measure.Sum.{Sum}
+use Rattle.grok.specs.declared.measure.Met.{Met}
+use Rattle.grok.specs.Maps.{Texts}
+use Rattle.grok.specs.Tree.{Fault, Item, items_of, Event, tree, first_structural, reached}
+use Rattle.grok.specs.Keys.{has_bracket}
+use Rattle.grok.specs.Expanded.{expanded, groups, nesting}
+use Rattle.grok.specs.Sizes.{Size}
+use Rattle.grok.specs.Remembered.{Answer, look_within, nothing_met, measure_within}
+use Rattle.grok.specs.Measured.{Measured, size_within, fault_or, measured_tree, reached_pieces, reached_texts, counted}
+use Rattle.grok.specs.Met.{shown_result, result_view, measured_size, Shows, Gives}
+use Rattle.grok.proofs.Sound.{length-items_of, sound_texts}
+use Rattle.grok.proofs.Defined.{table_of}
+use Rattle.grok.proofs.Whole.{IsMeasureOf, measures, table_weight}
+
+pub shows_nothing : (marks : BTreeMap (Bor (List ℕ)) (Option Sum)) → marks.entries ≡ [] → Shows (record { marks = marks; looks = record { pieces = 0; ends = 0 }; has_bracket = false }) nothing_met
+shows_nothing marks empty = record {
+  marks = λ name. ap (lookup (is_at (λ (key : Bor (List ℕ)). slice_cmp nat_cmp name key.now))) empty;
+  pieces = refl;
+  ends = refl;
+  bracket = refl;
+}
+
+module _ (texts : Texts) (alias_only : Bool) (pattern : List ℕ) where
+  abbrev resolve : List ℕ → List Item
+  resolve = items_of (finite.get texts)
+
+  abbrev answer : Answer
+  answer = measure_within 1023 alias_only resolve pattern
+
+  abbrev whole : List Event
+  whole = tree (finite.get texts) pattern
+
+  theorem : IsMeasureOf alias_only resolve (finite.entries texts) pattern whole answer
+  unfolding tree
+  theorem = measures alias_only resolve (finite.get texts) (finite.entries texts) (table_of texts) (sound_texts (finite.get texts)) 1023 pattern
+
+  measured_from : (s : Result Size Fault) → answer.0 ≡ s → measured_size s ≡ measured_tree alias_only whole
+  unfolding theorem
+  measured_from (Err fault) is = sym (ap (λ o. fault_or o (size_within (length (expanded alias_only whole)) (groups alias_only whole) (nesting whole))) (theorem.fault fault is))
+  measured_from (Ok z) is =
+      rw (theorem.clean z is, theorem.length_is z is, theorem.groups_are z is, theorem.nesting_is z is) refl
+
+  clean_ok : (s : Result Size Fault) → answer.0 ≡ s → first_structural whole ≡ None → (z : Size) × (answer.0 ≡ Ok z)
+  unfolding theorem
+  clean_ok (Err fault) is clean = let bad : Some fault ≡ None = sym (theorem.fault fault is) ∙ clean in cc
+  clean_ok (Ok z) is clean = (z, is)
+
+  weight_same : table_weight (λ text. length (resolve text)) (finite.entries texts) pattern whole ≡ reached_pieces texts pattern
+  weight_same = ap (λ (weight : List ℕ → ℕ). table_weight weight (finite.entries texts) pattern whole) (λ i text. length-items_of (finite.get texts) text i)
+
+  module _ (r : Result Sum CodeFault) (met : Met) (gives : Gives r met (look_within alias_only resolve 1023 (resolve pattern) nothing_met)) where
+    given : Gives r met answer
+    unfolding measure_within
+    given = gives
+
+    pub answer_is : (m : Measured) → ((s : Result Size Fault) → result_view r ≡ shown_result s → m ≡ measured_size s) → m ≡ measured_tree alias_only whole
+    answer_is m h = h answer.0 given.same ∙ measured_from answer.0 refl
+
+    pub pieces_most : met.looks.pieces ≤ counted (reached_pieces texts pattern)
+    pieces_most = omega (arith, given.leaves.pieces, theorem.looks, weight_same)
+
+    pub ends_most : met.looks.ends ≤ counted (reached_texts texts pattern)
+    ends_most = omega (arith, given.leaves.ends, theorem.ends)
+
+    pub pieces_all : first_structural whole ≡ None → met.looks.pieces ≡ counted (reached_pieces texts pattern)
+    pieces_all clean = let (z, is) = clean_ok answer.0 refl clean in given.leaves.pieces ∙ ap counted (theorem.looks_exact z is ∙ weight_same)
+
+    pub ends_all : first_structural whole ≡ None → met.looks.ends ≡ counted (reached_texts texts pattern)
+    ends_all clean = let (z, is) = clean_ok answer.0 refl clean in given.leaves.ends ∙ ap counted (theorem.ends_exact z is)
+
+    pub bracket_is : met.has_bracket ≡ has_bracket (reached whole)
+    bracket_is = given.leaves.bracket ∙ theorem.bracket

@@ -1,0 +1,31 @@
+use Rattle.std.proofs.Common.{ℕ, List, sym, ◌∙◌, ap, cond, not, ◌&&◌, Some}
+use Rattle.std.specs.Option.{option_map}
+use Rattle.std.specs.Str.{bytes_eq}
+use Rattle.std.specs.String.{string_bytes}
+use Rattle.std.specs.BTreeMap.{get_by_text}
+use Rattle.std.specs.BTreeSet.{contains_text}
+use Rattle.grok.specs.Tree.{is_absent}
+use Rattle.grok.specs.Items.{label_view}
+use Rattle.grok.proofs.Walking.{key_named, among_is, recorded_now}
+use Rattle.grok.proofs.expand.given.Given.record.Goals as goal
+
+pub returns-then-contains : goal.returns-then-contains
+returns-then-contains c before shows =
+    let label = label_view c.args.label in
+    let named = key_named before label c.args.self.now shows c.wanted_key-wanted.result.now (string_bytes c.in_ok-key.key) c.in_ok-count.count c.wanted_key-wanted.ensures c.in_ok-count.ensures.before c.in_ok-key.ensures in
+    record {
+      taken = sym (among_is before label c.args.self.now shows (string_bytes c.in_ok-key.key) named) ∙ ap (contains_text c.args.self.now.taken) (sym c.as_str.ensures.value) ∙ sym c.contains.ensures ∙ c.if-contains.true;
+      named = named;
+    }
+
+pub returns : goal.returns
+returns c before shows =
+    let label = label_view c.args.label in
+    let given = c.args.self.now in
+    let name : List ℕ = string_bytes c.in_ok-key.key in
+    let named = key_named before label given shows c.wanted_key-wanted.result.now name c.in_ok-count.count c.wanted_key-wanted.ensures c.in_ok-count.ensures.before c.in_ok-key.ensures in
+    recorded_now before label given shows (record { counts = c.count_wanted.new.counts; taken = c.give.new.taken; keys = c.give.new.keys; extracts = c.keep_extract.new.extracts }) c.wanted_key-wanted.result.now name
+    c.wanted_key-wanted.ensures named
+    (ap (contains_text given.taken) (sym c.as_str.ensures.value) ∙ sym c.contains.ensures ∙ c.if-contains.false)
+    c.in_ok-count.ensures.after c.in_ok-give.ensures.taken c.in_ok-give.ensures.keys
+    (λ key. c.in_ok-keep_extract.ensures key ∙ ap (λ k. cond (bytes_eq k key && not (is_absent c.args.label.extract.now)) (Some c.args.label.extract.now) (option_map string_bytes (get_by_text given.extracts key))) c.as_str-2.ensures.value)

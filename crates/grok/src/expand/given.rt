@@ -1,0 +1,122 @@
+//! What the recorded opens of a tree were given: keys and extracts.
+
+ghost use Rattle.std.specs.Prelude.{◌≡◌, ℕ, ◌+◌, List, [], ◌∷◌, ◌++◌, map, not, ◌&&◌, if◌then◌else◌, true, IfOk, OnOk, MatchOption, unwrap_or, Some};
+ghost use Rattle.std.specs.Option.{option_map, option_copied};
+ghost use Rattle.std.specs.Str.{bytes_eq};
+ghost use Rattle.std.specs.String.{string_bytes};
+ghost use Rattle.std.specs.BTreeMap.{get_by_text};
+ghost use Rattle.std.specs.BTreeSet.{contains_text};
+ghost use Rattle.grok.specs.Tree as tree;
+ghost use Rattle.grok.specs.Tree.{is_absent};
+ghost use Rattle.grok.specs.Keys.{numbered, wanted as wanted_by};
+ghost use Rattle.grok.specs.Items.{label_view};
+ghost use Rattle.grok.specs.Walks.{Shows, Records};
+
+use crate::items::Label;
+use std::alloc::{AllocError, Global};
+use std::collections::{BTreeMap, BTreeSet};
+
+/// What the recorded opens so far left: how often each key was wanted, the keys that were given, also in the order of reading, and the extracts.
+#[derive(Drop)]
+pub(crate) struct Given {
+    pub counts: BTreeMap<String, usize>,
+    pub taken: BTreeSet<String>,
+    pub keys: Vec<String>,
+    pub extracts: BTreeMap<String, String>,
+}
+
+/// The key of an open that wants this key, after so many that wanted it.
+fn numbered_key(alloc: Global, wanted: &str, count: usize) -> Result<String, AllocError>
+    ensures { IfOk result (λ key. string_bytes key ≡ numbered wanted.now count) }
+{
+    if count == 0 {
+        String::from_str(alloc, wanted)
+    } else {
+        format!(in alloc; "{wanted}[{count}]")
+    }
+}
+
+/// How often the key was wanted before, and counts it once more. More than the greatest `usize` is answered as want of memory.
+fn count_wanted(
+    alloc: Global,
+    counts: &mut BTreeMap<String, usize>,
+    wanted: &str,
+) -> Result<usize, AllocError>
+    ensures before { IfOk result (λ count. count ≡ unwrap_or (get_by_text counts.old wanted.now) 0) }
+    ensures after { OnOk result ((key : List ℕ) → unwrap_or (get_by_text counts.new key) 0 ≡ (if bytes_eq wanted.now key then 1 else 0) + unwrap_or (get_by_text counts.old key) 0) }
+{
+    let count = counts.get(wanted).copied().unwrap_or(0);
+    let Some(next) = count.checked_add(1) else {
+        return Err(AllocError);
+    };
+    counts.insert(String::from_str(alloc, wanted)?, next)?;
+    Ok(count)
+}
+
+/// Keeps an extract that isn't empty under the key.
+fn keep_extract(
+    alloc: Global,
+    extracts: &mut BTreeMap<String, String>,
+    key: &str,
+    extract: &str,
+) -> Result<(), AllocError>
+    ensures { OnOk result ((other : List ℕ) → option_map string_bytes (get_by_text extracts.new other) ≡ (if bytes_eq key.now other && not (is_absent extract.now) then Some extract.now else option_map string_bytes (get_by_text extracts.old other))) }
+{
+    if !extract.is_empty() {
+        extracts.insert(
+            String::from_str(alloc, key)?,
+            String::from_str(alloc, extract)?,
+        )?;
+    }
+    Ok(())
+}
+
+/// Gives a key.
+fn give(taken: &mut BTreeSet<String>, keys: &mut Vec<String>, key: String) -> Result<(), AllocError>
+    ensures taken { OnOk result ((other : List ℕ) → contains_text taken.new other ≡ (if bytes_eq (string_bytes key) other then true else contains_text taken.old other)) }
+    ensures keys { OnOk result (map string_bytes keys.new.items ≡ map string_bytes keys.old.items ++ string_bytes key ∷ []) }
+{
+    keys.push(key.clone()?)?;
+    taken.insert(key)?;
+    Ok(())
+}
+
+/// The key that an open wants: its alias, or its name where it has none.
+fn wanted_key<'a>(label: Label<'a>) -> &'a str
+    ensures { result.now ≡ wanted_by (label_view label.entry) }
+{
+    if label.alias.is_empty() {
+        label.name
+    } else {
+        label.alias
+    }
+}
+
+impl Given {
+    /// Nothing was given.
+    pub fn nothing(alloc: Global) -> Given
+        ensures { Shows result [] }
+    {
+        Given {
+            counts: BTreeMap::new(alloc),
+            taken: BTreeSet::new(alloc),
+            keys: Vec::new(alloc),
+            extracts: BTreeMap::new(alloc),
+        }
+    }
+
+    /// Gives a recorded open its key, or answers the key if an earlier one has it.
+    pub fn record(&mut self, alloc: Global, label: Label<'_>) -> Result<Option<String>, AllocError>
+        ensures { IfOk result (λ clash. (before : List tree.Label) → Shows self.old before → Records before (label_view label.entry) self.new clash) }
+    {
+        let wanted = wanted_key(label);
+        let count = count_wanted(alloc, &mut self.counts, wanted)?;
+        let key = numbered_key(alloc, wanted, count)?;
+        if self.taken.contains(key.as_str()) {
+            return Ok(Some(key));
+        }
+        keep_extract(alloc, &mut self.extracts, key.as_str(), label.extract)?;
+        give(&mut self.taken, &mut self.keys, key)?;
+        Ok(None)
+    }
+}

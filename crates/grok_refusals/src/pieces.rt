@@ -1,0 +1,25 @@
+//! The splitter, which takes no memory.
+use anyhow::Result;
+use grok::parser;
+
+const PATTERN: &str = "Hello, %{name:alias[x]:extract=definition}! 100% %%{x} é%{b c}";
+
+fn count_pieces() -> u64 {
+    let mut count = 0u64;
+    for _ in parser::grok_split(PATTERN) {
+        count = count.saturating_add(1);
+    }
+    count
+}
+
+fn show_pieces(rt: &HostRuntime) -> Result<()> {
+    for piece in parser::grok_split(PATTERN) {
+        println!(rt; "piece: {piece}")?;
+    }
+    Ok(())
+}
+
+pub fn split(rt: &HostRuntime) -> Result<()> {
+    twice!(rt, count_pieces());
+    show_pieces(rt)
+}

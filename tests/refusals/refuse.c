@@ -1,0 +1,101 @@
+/* A library to be loaded before a program (LD_PRELOAD). It counts the program's requests for memory, and refuses one
+ * of them: the program sees it as the system's answer that there is no more memory.
+ *
+ *   REFUSE_NTH=N        the N-th counted request is refused, and every other one served; none is refused without it
+ *   REFUSE_MARKED=1     only requests of one part of the program are counted: the part between the first line
+ *                       "[call" that it writes to standard error, and the line "[done" that follows
+ *   REFUSE_REPORT=FILE  at the program's end FILE gets the line "requests N refused R", R being 0 or 1
+ *
+ * It is no part of the product, and no crate links it.
+ */
+#define _GNU_SOURCE
+#include <errno.h>
+#include <fcntl.h>
+#include <stdio.h>
+#include <stdlib.h>
+#include <string.h>
+#include <sys/syscall.h>
+#include <unistd.h>
+
+/* The C library's own functions under names that nothing stands in front of. */
+extern void *__libc_malloc(size_t size);
+extern void *__libc_calloc(size_t count, size_t size);
+extern void *__libc_realloc(void *old, size_t size);
+extern void *__libc_memalign(size_t align, size_t size);
+
+enum part { BEFORE, INSIDE, BEHIND };
+
+static int is_ready, is_marked;
+static enum part part;
+static long refused_number, requests, refusals;
+
+/* Reads the environment once. It takes no memory. */
+static void prepare(void) {
+    const char *number = getenv("REFUSE_NTH");
+    refused_number = number ? atol(number) : 0;
+    is_marked = getenv("REFUSE_MARKED") != NULL;
+    part = is_marked ? BEFORE : INSIDE;
+    is_ready = 1;
+}
+
+/* Counts a request, and says whether it is the one to be refused. */
+static int is_refused(void) {
+    if (!is_ready) prepare();
+    if (part != INSIDE || ++requests != refused_number) return 0;
+    refusals++;
+    errno = ENOMEM;
+    return 1;
+}
+
+void *malloc(size_t size) {
+    return is_refused() ? NULL : __libc_malloc(size);
+}
+
+void *calloc(size_t count, size_t size) {
+    return is_refused() ? NULL : __libc_calloc(count, size);
+}
+
+void *realloc(void *old, size_t size) {
+    return is_refused() ? NULL : __libc_realloc(old, size);
+}
+
+void *aligned_alloc(size_t align, size_t size) {
+    return is_refused() ? NULL : __libc_memalign(align, size);
+}
+
+void *memalign(size_t align, size_t size) {
+    return is_refused() ? NULL : __libc_memalign(align, size);
+}
+
+int posix_memalign(void **place, size_t align, size_t size) {
+    if (is_refused()) return ENOMEM;
+    *place = __libc_memalign(align, size);
+    return *place ? 0 : ENOMEM;
+}
+
+/* Goes from one part to the next where these bytes are the mark that begins or ends the counted part. */
+static void see_mark(const void *bytes, size_t length) {
+    if (part == BEFORE && length == 6 && !memcmp(bytes, "[call\n", 6)) part = INSIDE;
+    else if (part == INSIDE && length == 6 && !memcmp(bytes, "[done\n", 6)) part = BEHIND;
+}
+
+ssize_t write(int file, const void *bytes, size_t length) {
+    if (!is_ready) prepare();
+    if (is_marked && file == 2) see_mark(bytes, length);
+    return syscall(SYS_write, file, bytes, length);
+}
+
+ssize_t __write(int file, const void *bytes, size_t length) {
+    return write(file, bytes, length);
+}
+
+__attribute__((destructor)) static void report(void) {
+    const char *path = getenv("REFUSE_REPORT");
+    if (!path) return;
+    int file = open(path, O_WRONLY | O_CREAT | O_TRUNC, 0600);
+    if (file < 0) return;
+    char line[80];
+    int length = snprintf(line, sizeof line, "requests %ld refused %ld\n", requests, refusals);
+    (void)!syscall(SYS_write, file, line, (size_t)length);
+    close(file);
+}
