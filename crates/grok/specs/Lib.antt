@@ -31,4 +31,5 @@ pub mod EngineLaws
 pub mod KeyTable
 pub mod KeyPlaces
 pub mod Answers
+pub mod TreeLaws
 pub mod AnswerLaws

@@ -7,6 +7,13 @@ use Rattle.grok.specs.Maps.{Texts}
 use Rattle.grok.specs.Tree.{Fault, Inline, Stored, Event, Text, Open, Close, Fails, tree, first_structural, reached}
 use Rattle.grok.specs.Expanded.{expanded, groups, nesting}
 
+-- the tree of a pattern over these definitions
+abbrev pub tree_of : Texts → List ℕ → List Event
+tree_of texts pattern = tree (finite.get texts) pattern
+
+abbrev pub HasNoFault : List Event → Type 0
+HasNoFault tree = first_structural tree ≡ None
+
 -- ---- the answer
 
 pub data Measured : Type 0 where
@@ -44,7 +51,7 @@ weighed weight is_chosen (entry ∷ entries) = (if is_chosen entry.0 then weight
 
 -- what the pattern weighs, and each stored text whose name is reached, once
 abbrev pub reached_weight : (List ℕ → ℕ) → Texts → List ℕ → ℕ
-reached_weight weight texts pattern = weight pattern + weighed weight (λ name. reaches name (reached (tree (finite.get texts) pattern))) (finite.entries texts)
+reached_weight weight texts pattern = weight pattern + weighed weight (λ name. reaches name (reached (tree_of texts pattern))) (finite.entries texts)
 
 -- THE PIECES of all these texts, and HOW MANY TEXTS they are
 abbrev pub reached_pieces : Texts → List ℕ → ℕ
