@@ -6,4 +6,6 @@ mod compiling;
 #[cfg(test)]
 mod definitions;
 #[cfg(test)]
+mod engines;
+#[cfg(test)]
 mod pieces;
