@@ -4,4 +4,8 @@
 #[cfg(test)]
 mod definitions;
 #[cfg(test)]
+mod libraries;
+#[cfg(test)]
+mod measure;
+#[cfg(test)]
 mod pieces;
