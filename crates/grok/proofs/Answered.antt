@@ -1,5 +1,5 @@
 -- What the public measure answers.
-use Rattle.std.proofs.Common.{◌≡◌, ℕ, ◌+◌, ◌≤◌, ◌-◌, ◌^◌, min, Bool, true, false, cond, List, [], ◌∷◌, length, Option, Result, Some, None, Ok, Err, Bor, refl, sym, ◌∙◌, ap, subst, arith}
+use Rattle.std.proofs.Common.{◌≡◌, ℕ, ◌≤◌, Bool, false, List, [], length, Option, Result, Some, None, Ok, Err, Bor, refl, sym, ◌∙◌, ap, arith}
 use Rattle.std.specs.Ordering.{nat_cmp}
 use Rattle.std.specs.Cmp.Lexicographic.{slice_cmp}
 use Rattle.std.specs.BTreeMap.{BTreeMap, is_at}
@@ -9,14 +9,13 @@ use Rattle.grok.specs.declared.structural.Fault.{Fault as CodeFault}
 use Rattle.grok.specs.declared.measure.Sum.{Sum}
 use Rattle.grok.specs.declared.measure.Met.{Met}
 use Rattle.grok.specs.Maps.{Texts}
-use Rattle.grok.specs.Pieces.{pieces}
-use Rattle.grok.specs.Tree.{Fault, Item, items_of, Event, tree, tree_within, first_structural, reached}
+use Rattle.grok.specs.Tree.{Fault, Item, items_of, Event, tree, first_structural, reached}
 use Rattle.grok.specs.Keys.{has_bracket}
 use Rattle.grok.specs.Expanded.{expanded, groups, nesting}
-use Rattle.grok.specs.Sizes.{Size, length_of}
-use Rattle.grok.specs.Remembered.{State, Answer, look_within, nothing_met, measure_within}
-use Rattle.grok.specs.Measured.{Measured, Faulty, Sized, PastLimit, size_within, fault_or, measured_tree, reaches, weighed, reached_pieces, reached_texts, counted}
-use Rattle.grok.specs.Met.{shown, shown_result, result_view, mark_of, measured_size, Shows, Gives}
+use Rattle.grok.specs.Sizes.{Size}
+use Rattle.grok.specs.Remembered.{Answer, look_within, nothing_met, measure_within}
+use Rattle.grok.specs.Measured.{Measured, size_within, fault_or, measured_tree, reached_pieces, reached_texts, counted}
+use Rattle.grok.specs.Met.{shown_result, result_view, measured_size, Shows, Gives}
 use Rattle.grok.proofs.Sound.{length-items_of, sound_texts}
 use Rattle.grok.proofs.Defined.{table_of}
 use Rattle.grok.proofs.Whole.{IsMeasureOf, measures, table_weight}

@@ -1,9 +1,9 @@
 -- Sums that fit, and sums that don't.
-use Rattle.std.proofs.Common.{◌≡◌, ℕ, ◌+◌, ◌^◌, ◌<◌, ◌≤◌, Bool, true, false, cond, Option, Some, None, refl, sym, ◌∙◌, ap, arith, inl, inr}
+use Rattle.std.proofs.Common.{◌≡◌, ℕ, ◌^◌, ◌<◌, ◌≤◌, Bool, true, false, cond, Some, None, refl, sym, ◌∙◌, ap, arith}
 use Rattle.std.proofs.lemmas.Bool.{ltb-true, ltb-false, lt-ltb, le-ltb}
 use Rattle.std.specs.Prelude.{nat_lt}
-use Rattle.grok.specs.Sizes.{Size, length_of, places_from}
-use Rattle.grok.specs.Measured.{Measured, Sized, PastLimit, size_within}
+use Rattle.grok.specs.Sizes.{Size, length_of}
+use Rattle.grok.specs.Measured.{Sized, PastLimit, size_within}
 use Rattle.grok.specs.Met.{fit, shown}
 use Rattle.grok.specs.declared.measure.Sum.{Sum}
 use Rattle.grok.proofs.Places.{places_least}

@@ -1,14 +1,13 @@
 -- An alias that ends in a bracket is met exactly where the tree reaches one.
-use Rattle.std.proofs.Common.{◌≡◌, ℕ, zero, suc, ◌+◌, ◌-◌, ◌<◌, ◌≤◌, max, Bool, true, false, cond, ◌||◌, List, [], ◌∷◌, ◌++◌, Option, Result, Some, None, Ok, Err, refl, sym, ◌∙◌, ap, subst, ◌⊎◌, inl, inr, arith, append_assoc, add-zero, add-one}
-use Rattle.std.proofs.lemmas.Bool.{true≢false, false_from_ne_true, ltb-true}
-use Rattle.std.specs.Prelude.{nat_lt}
+use Rattle.std.proofs.Common.{◌≡◌, ℕ, zero, suc, ◌+◌, ◌<◌, Bool, true, false, cond, ◌||◌, List, [], ◌∷◌, ◌++◌, Option, Result, Some, None, Ok, Err, refl, sym, ◌∙◌, ap, subst, ◌⊎◌, inl, inr, arith, append_assoc, add-zero, add-one}
+use Rattle.std.proofs.lemmas.Bool.{true≢false, false_from_ne_true}
 use Rattle.grok.specs.Tree.{Definitions, Fault, TooDeep, Label, Meaning, Inline, Stored, text_of, Item, Bytes, Broken, Opening, Event, Text, Open, Close, Fails, events, inside, reached, first_structural, tree_within}
 use Rattle.grok.specs.Keys.{ends_in_bracket, has_bracket}
 use Rattle.grok.specs.Sizes.{Size, no_size, size_of_bytes, plus, wrapped, size_of, sizes, measured}
-use Rattle.grok.specs.Remembered.{State, with_mark, looked, opened, ended, inlined, Answer, then_rest, look, finish, by_mark, visit, nothing_met, measure_within}
+use Rattle.grok.specs.Remembered.{State, with_mark, looked, opened, inlined, Answer, then_rest, look, finish, by_mark, visit, nothing_met, measure_within}
 use Rattle.grok.proofs.Flat.{AreSound, IsSound, flat_measured, flat_bracket}
-use Rattle.grok.proofs.SizeLaws.{both_ok, wrapped_ok, both_from, sizes-append}
-use Rattle.grok.proofs.TreeSizes.{fits_inside, first_structural-append, wrapped_err}
+use Rattle.grok.proofs.SizeLaws.{wrapped_ok, both_from, sizes-append}
+use Rattle.grok.proofs.TreeSizes.{fits_inside, wrapped_err}
 use Rattle.grok.proofs.Remembering.{IsHonest, OpenLead, Place, next_place, open_further, VisitRight, look_right, visit_right, marked_cases, honest_open, lead_open}
 use Rattle.grok.proofs.Meeting.{same_inside, clean_inside}
 use Rattle.grok.proofs.Bracketing.{bracket_left, bracket_right, bracket_either, bracket_more, LeadsQuietly, quiet_circle, quiet_from, events-append}

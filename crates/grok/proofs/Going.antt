@@ -1,13 +1,12 @@
 -- The loop over the items of a text: what was read and what is left make the answer. And the visit of a name.
-use Rattle.std.proofs.Common.{◌≡◌, ℕ, zero, suc, ◌+◌, ◌-◌, ◌<◌, ◌≤◌, ◌^◌, min, Bool, true, false, cond, List, [], ◌∷◌, Option, Result, Some, None, Ok, Err, Bor, refl, sym, ◌∙◌, ap, subst, arith, MatchResult}
+use Rattle.std.proofs.Common.{◌≡◌, ℕ, suc, ◌+◌, Bool, true, false, cond, List, [], ◌∷◌, Option, Result, Some, None, Ok, Err, Bor, refl, sym, ◌∙◌, ap, subst, arith}
 use Rattle.std.specs.Option.{option_map}
 use Rattle.std.specs.BTreeMap.{BTreeMap}
 use Rattle.std.specs.Str.{bytes_eq}
 use Rattle.grok.specs.declared.structural.Fault.{Fault as CodeFault}
 use Rattle.grok.specs.declared.measure.Sum.{Sum}
 use Rattle.grok.specs.declared.measure.Met.{Met}
-use Rattle.grok.specs.declared.measure.Looks.{Looks}
-use Rattle.grok.specs.Tree.{Fault, TooDeep, Item}
+use Rattle.grok.specs.Tree.{Fault, Item}
 use Rattle.grok.specs.Items.{fault_view}
 use Rattle.grok.specs.Sizes.{Size, no_size, plus, both}
 use Rattle.grok.specs.Remembered.{State, Answer, looked, ended, with_mark, then_rest, finish, by_mark, visit, item_within, look_within}

@@ -42,4 +42,7 @@ pub mod Extending
 pub mod Halving
 pub mod AnswerLemmas
 pub mod Answered
+pub mod TreeFaults
+pub mod MeasuredCases
+pub mod Compiling
 pub mod WalkLaws

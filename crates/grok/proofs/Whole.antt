@@ -1,5 +1,5 @@
 -- The remembered measure equals the tree.
-use Rattle.std.proofs.Common.{◌≡◌, ℕ, ◌≤◌, ◌+◌, Bool, true, List, [], ◌∷◌, length, Some, None, Ok, Err, refl, sym, ◌∙◌, ap, subst, inl, inr, arith}
+use Rattle.std.proofs.Common.{◌≡◌, ℕ, ◌≤◌, ◌+◌, Bool, true, List, length, Some, None, Ok, Err, sym, ◌∙◌, subst, inl, inr, arith}
 use Rattle.grok.specs.Tree.{Definitions, Fault, Item, Event, first_structural, tree_within, reached}
 use Rattle.grok.specs.Keys.{has_bracket}
 use Rattle.grok.specs.Expanded.{expanded, groups, nesting}

@@ -17,6 +17,7 @@ pub mod Given
 pub mod FirstFault
 pub mod Walks
 pub mod Writes
+pub mod Compiled
 pub mod Tiles
 pub mod Named
 pub mod Sizes
@@ -30,4 +31,5 @@ pub mod EngineLaws
 pub mod KeyTable
 pub mod KeyPlaces
 pub mod Answers
+pub mod TreeLaws
 pub mod AnswerLaws

@@ -1,11 +1,18 @@
 -- What measuring a pattern answers, as read off its tree; and how much of the definitions is read for it.
-use Rattle.std.specs.Prelude.{ℕ, ◌+◌, ◌-◌, ◌^◌, min, Bool, true, false, List, [], ◌∷◌, length, if◌then◌else◌, nat_lt, Option, Some, None}
+use Rattle.std.specs.Prelude.{◌≡◌, ℕ, ◌+◌, ◌-◌, ◌^◌, min, Bool, true, false, List, [], ◌∷◌, length, if◌then◌else◌, nat_lt, Option, Some, None}
 use Rattle.std.specs.Str.{bytes_eq}
 use Rattle.std.specs.FinMap as finite
 use Rattle.grok.specs.Pieces.{pieces}
 use Rattle.grok.specs.Maps.{Texts}
 use Rattle.grok.specs.Tree.{Fault, Inline, Stored, Event, Text, Open, Close, Fails, tree, first_structural, reached}
 use Rattle.grok.specs.Expanded.{expanded, groups, nesting}
+
+-- the tree of a pattern over these definitions
+abbrev pub tree_of : Texts → List ℕ → List Event
+tree_of texts pattern = tree (finite.get texts) pattern
+
+abbrev pub HasNoFault : List Event → Type 0
+HasNoFault tree = first_structural tree ≡ None
 
 -- ---- the answer
 
@@ -44,7 +51,7 @@ weighed weight is_chosen (entry ∷ entries) = (if is_chosen entry.0 then weight
 
 -- what the pattern weighs, and each stored text whose name is reached, once
 abbrev pub reached_weight : (List ℕ → ℕ) → Texts → List ℕ → ℕ
-reached_weight weight texts pattern = weight pattern + weighed weight (λ name. reaches name (reached (tree (finite.get texts) pattern))) (finite.entries texts)
+reached_weight weight texts pattern = weight pattern + weighed weight (λ name. reaches name (reached (tree_of texts pattern))) (finite.entries texts)
 
 -- THE PIECES of all these texts, and HOW MANY TEXTS they are
 abbrev pub reached_pieces : Texts → List ℕ → ℕ

@@ -5,6 +5,8 @@ use Rattle.std.specs.Ordering.{nat_cmp}
 use Rattle.std.specs.Cmp.Lexicographic.{slice_cmp}
 use Rattle.std.specs.BTreeMap.{BTreeMap, get_by}
 use Rattle.std.specs.Borrow.{Bor}
+use Rattle.std.specs.FinMap as finite
+use Rattle.grok.specs.Maps.{Texts}
 use Rattle.grok.specs.declared.structural.Fault.{Fault}
 use Rattle.grok.specs.declared.measure.Sum.{Sum}
 use Rattle.grok.specs.declared.measure.Met.{Met}
@@ -15,6 +17,10 @@ use Rattle.grok.specs.Items.{fault_view}
 use Rattle.grok.specs.Sizes.{Size, length_of}
 use Rattle.grok.specs.Remembered.{State, Answer}
 use Rattle.grok.specs.Measured.{Measured, Faulty, Sized, PastLimit, size_within, counted}
+
+-- the items of a text over these definitions
+abbrev pub items_in : Texts → List ℕ → List tree.Item
+items_in texts text = tree.items_of (finite.get texts) text
 
 -- a sum, if it fits
 abbrev pub fit : ℕ → Option ℕ

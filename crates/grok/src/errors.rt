@@ -2,8 +2,11 @@
 ghost use Rattle.std.specs.Prelude.{◌≡◌, IfOk, Some};
 ghost use Rattle.grok.specs.Errors.{error_value, error_text};
 ghost use Rattle.grok.specs.declared.errors.Error.TheVariants.{Memory};
+ghost use Rattle.grok.specs.Items.{fault_view};
+ghost use Rattle.grok.specs.Compiled.{IsFaultError};
 
-use std::alloc::{AllocError, AllocFailed};
+use crate::structural::Fault;
+use std::alloc::{AllocError, AllocFailed, Global};
 use std::{error, fmt};
 
 /// Why a pattern isn't compiled.
@@ -87,5 +90,20 @@ impl<T: Drop> From<AllocFailed<T>> for Error {
 
     fn from(_error: AllocFailed<T>) -> Error {
         Error::Memory
+    }
+}
+
+impl Fault<'_> {
+    /// The error that compiling answers for the fault. It fails where there is no memory for the error's text.
+    pub fn to_error(&self, alloc: Global) -> Result<Error, AllocError>
+        ensures { IfOk result (λ error. IsFaultError (fault_view self.now) (error_value error)) }
+    {
+        Ok(match self {
+            Fault::Malformed(fault) => {
+                Error::GenericCompilationFailure(format!(in alloc; "{fault:?}")?)
+            }
+            Fault::Missing(name) => Error::DefinitionNotFound(String::from_str(alloc, name)?),
+            Fault::TooDeep => Error::RecursionTooDeep,
+        })
     }
 }

@@ -2,6 +2,7 @@
 #![tactic(auto)]
 
 pub mod answer_laws;
+mod compile;
 pub mod defs;
 mod engine;
 mod errors;
@@ -15,9 +16,10 @@ mod matches;
 mod measure;
 pub mod parser;
 mod structural;
+pub mod tree_laws;
 
 pub use defs::{Grok, patterns};
-pub use engine::kept::{Afresh, KeepsSearch, RegexSearch, Search};
+pub use engine::kept::{KeepsSearch, RegexSearch, Search};
 pub use engine::{Engine, Refusal, RegexEngine};
 pub use errors::Error;
 pub use line_matcher::LineMatcherOf;

@@ -204,13 +204,13 @@ impl<'a, E: Engine> MatchesOf<'a, E> {
 
     /// The pairs of `iter`, as a map.
     pub fn collect_map(&'a self, alloc: Global) -> Result<BTreeMap<&'a str, &'a str>, AllocError>
-        ensures { IfOk result (λ pairs. map pair_texts pairs.entries ≡ walk self.now.pattern.keys self.now.captures) }
+        ensures { IfOk result (λ texts. map pair_texts texts.entries ≡ walk self.now.pattern.keys self.now.captures) }
     {
-        let mut pairs = BTreeMap::new(alloc);
+        let mut texts = BTreeMap::new(alloc);
         'pairs: for (name, text) in self.iter() {
-            pairs.insert(name, text)?;
+            texts.insert(name, text)?;
         }
-        Ok(pairs)
+        Ok(texts)
     }
 }
 

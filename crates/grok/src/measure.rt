@@ -1,12 +1,11 @@
 //! The size of what a pattern stands for, without expanding it.
-ghost use Rattle.std.specs.Prelude.{◌≡◌, ℕ, Option, Result, option_map, OnOk, ◌+◌, ◌*◌, ◌<◌, ◌≤◌, ◌^◌, max, [], ◌∷◌, ◌||◌, length, IfOk, MatchOption, None as nothing};
-ghost use Rattle.std.specs.FinMap as finite;
-ghost use Rattle.grok.specs.Tree as spec;
+ghost use Rattle.std.specs.Prelude.{◌≡◌, ℕ, ◌+◌, ◌<◌, ◌≤◌, ◌^◌, max, [], ◌∷◌, Option, Result, option_map, OnOk, IfOk, IfSome, MatchOption, None as nothing};
+ghost use Rattle.grok.specs.Tree.{Fault as ItemFault, reached};
 ghost use Rattle.grok.specs.Keys.{is_recorded, ends_in_bracket, has_bracket};
 ghost use Rattle.grok.specs.Sizes.{Size, plus, bracketed as bracket, wrapped, length_of, places_from, size_of_bytes};
 ghost use Rattle.grok.specs.Remembered.{State, Answer, inlined, labelled, with_mark, by_mark, nothing_met, visit as visited, look_within, item_within};
-ghost use Rattle.grok.specs.Measured.{measured_tree, size_within, counted, reached_pieces, reached_texts};
-ghost use Rattle.grok.specs.Met.{fit, shown, shown_result, result_view, mark_of, measured_size, measure_view, Shows, Gives, Knows};
+ghost use Rattle.grok.specs.Measured.{tree_of, HasNoFault, measured_tree, size_within, counted, reached_pieces, reached_texts};
+ghost use Rattle.grok.specs.Met.{items_in, fit, shown, shown_result, result_view, mark_of, measured_size, measure_view, Shows, Gives, Knows};
 ghost use Rattle.grok.specs.Items.{label_view, item_view};
 
 use crate::defs::Grok;
@@ -24,7 +23,8 @@ const LEVELS: usize = 1023;
 pub enum Measure<'a> {
     /// The first structural fault in the order of reading.
     Fault(Fault<'a>),
-    /// The length of the text in bytes, how many groups it names by number, and how many placeholders stand in one another at most.
+    /// The length of the text in bytes, how many groups it names by number, and how many
+    /// placeholders stand in one another at most.
     Size {
         length: usize,
         groups: usize,
@@ -34,7 +34,8 @@ pub enum Measure<'a> {
     TooLong,
 }
 
-/// How often measuring took a piece, and how often it met the end of a text. A counter stays at the greatest `u64`.
+/// How often measuring took a piece, and how often it met the end of a text. A counter stays at the
+/// greatest `u64`.
 #[derive(Clone, Copy, PartialEq, Eq, Debug)]
 pub struct Looks {
     pub pieces: u64,
@@ -50,7 +51,8 @@ pub(crate) struct Findings<'a> {
     pub has_bracket: bool,
 }
 
-/// The bytes without the numbers of groups, the groups, and how deep the opens go. A sum past the greatest `usize` is none.
+/// The bytes without the numbers of groups, the groups, and how deep the opens go. A sum past the
+/// greatest `usize` is none.
 #[derive(Clone, Copy)]
 struct Sum {
     bytes: Option<usize>,
@@ -66,7 +68,7 @@ struct Met<'a> {
     has_bracket: bool,
 }
 
-/// What the expansion is read under.
+/// The definitions, and whether placeholders without an alias are left unrecorded.
 #[derive(Clone, Copy)]
 struct Mode<'a> {
     grok: &'a Grok,
@@ -74,6 +76,7 @@ struct Mode<'a> {
     with_alias_only: bool,
 }
 
+/// The sum, if both and it fit.
 fn add_fit(a: Option<usize>, b: Option<usize>) -> Option<usize>
     ensures { (x y : ℕ) → a ≡ fit x → b ≡ fit y → result ≡ fit (x + y) }
 {
@@ -125,7 +128,8 @@ fn ends_in_bracket(alias: &str) -> bool
 fn bracketed(label: Label<'_>, with_alias_only: bool, inner: Sum) -> Sum
     requires { inner.height < 2 ^ 32 }
     ensures height { result.height ≡ inner.height + 1 }
-    ensures brackets { (z : Size) → inner ≡ shown z → result ≡ shown (bracket with_alias_only (label_view label.entry) z) }
+    ensures brackets { (z : Size) → inner ≡ shown z →
+        result ≡ shown (bracket with_alias_only (label_view label.entry) z) }
 {
     let (bytes, groups) = if is_recorded(label, with_alias_only) {
         (8, 1)
@@ -166,7 +170,8 @@ fn length_of_sum(sum: Sum) -> Option<usize>
 /// The answer for a pattern of this sum.
 #[tactic(auto, using(crate::proofs::Fits::fits))]
 fn measure_of_sum<'a>(sum: Sum) -> Measure<'a>
-    ensures { (z : Size) → sum ≡ shown z → measure_view result ≡ size_within (length_of z) z.groups z.height }
+    ensures { (z : Size) → sum ≡ shown z →
+        measure_view result ≡ size_within (length_of z) z.groups z.height }
 {
     match (length_of_sum(sum), sum.groups) {
         (Some(length), Some(groups)) => Measure::Size {
@@ -180,7 +185,8 @@ fn measure_of_sum<'a>(sum: Sum) -> Measure<'a>
 
 /// The answer for a pattern of this sum, or with this fault.
 fn measure_of<'a>(answer: Result<Sum, Fault<'a>>) -> Measure<'a>
-    ensures { (r : Result Size spec.Fault) → result_view answer.entry ≡ shown_result r → measure_view result ≡ measured_size r }
+    ensures { (r : Result Size ItemFault) → result_view answer.entry ≡ shown_result r →
+        measure_view result ≡ measured_size r }
 {
     match answer {
         Ok(sum) => measure_of_sum(sum),
@@ -191,8 +197,10 @@ fn measure_of<'a>(answer: Result<Sum, Fault<'a>>) -> Measure<'a>
 /// Takes the next item of a text and counts it, or counts the end.
 fn look<'a>(items: &mut Items<'a>, looks: &mut Looks) -> Result<Option<Item<'a>>, AllocError>
     ensures { IfOk result (λ found. MatchOption found
-        ((items.old ≡ []) × (looks.new ≡ record { pieces = looks.old.pieces; ends = counted (looks.old.ends + 1) }))
-        (λ item. (items.old ≡ item_view item ∷ items.new) × (looks.new ≡ record { pieces = counted (looks.old.pieces + 1); ends = looks.old.ends }))) }
+        ((items.old ≡ [])
+        × (looks.new ≡ record { pieces = looks.old.pieces; ends = counted (looks.old.ends + 1) }))
+        (λ item. (items.old ≡ item_view item ∷ items.new)
+        × (looks.new ≡ record { pieces = counted (looks.old.pieces + 1); ends = looks.old.ends }))) }
 {
     let found = items.next()?;
     match found {
@@ -220,8 +228,10 @@ fn wrap<'a>(
     inner: Result<Sum, Fault<'a>>,
 ) -> Result<Sum, Fault<'a>>
     requires { IfOk inner (λ sum. sum.height < 2 ^ 32) }
-    ensures gives { (r : Result Size spec.Fault) → result_view inner.entry ≡ shown_result r → result_view result ≡ shown_result (wrapped mode.entry.with_alias_only (label_view label.entry) r) }
-    ensures low { (most : ℕ) → IfOk inner.entry (λ sum. sum.height < most) → IfOk result (λ sum. sum.height ≤ most) }
+    ensures gives { (r : Result Size ItemFault) → result_view inner.entry ≡ shown_result r →
+        result_view result ≡ shown_result (wrapped mode.entry.with_alias_only (label_view label.entry) r) }
+    ensures low { (most : ℕ) → IfOk inner.entry (λ sum. sum.height < most) →
+        IfOk result (λ sum. sum.height ≤ most) }
 {
     match inner {
         Ok(sum) => Ok(bracketed(label, mode.with_alias_only, sum)),
@@ -242,10 +252,12 @@ impl<'a> Met<'a> {
         }
     }
 
-    /// The answer for a name that was met, where so many levels may be opened; nothing for one that was not.
+    /// The answer for a name that was met, where so many levels may be opened; nothing for one that
+    /// was not.
     fn known(&self, name: &'a str, levels: usize) -> Option<Result<Sum, Fault<'a>>>
-        ensures known { MatchOption result (mark_of self.now.marks name.now ≡ nothing) (λ r. (st : State) → Shows self.now st → (fresh : Answer) → Knows r st (by_mark (st.marks name.now) levels st fresh)) }
-        ensures low { MatchOption result (length name.now ≡ length name.now) (λ r. IfOk r (λ sum. sum.height < levels)) }
+        ensures known { MatchOption result (mark_of self.now.marks name.now ≡ nothing) (λ r. (st : State) → Shows self.now st →
+            (fresh : Answer) → Knows r st (by_mark (st.marks name.now) levels st fresh)) }
+        ensures low { IfSome result (λ r. IfOk r (λ sum. sum.height < levels)) }
     {
         match self.marks.get(&name).copied() {
             None => None,
@@ -256,7 +268,8 @@ impl<'a> Met<'a> {
 
     /// Marks a name as open, or with its sum.
     fn mark(&mut self, name: &'a str, mark: Option<Sum>) -> Result<(), AllocError>
-        ensures { OnOk result ((st : State) (size : Option Size) → mark ≡ option_map shown size → Shows self.old st → Shows self.new (with_mark st name.now size)) }
+        ensures { OnOk result ((st : State) (size : Option Size) →
+            mark ≡ option_map shown size → Shows self.old st → Shows self.new (with_mark st name.now size)) }
     {
         self.marks.insert(name, mark)?;
         Ok(())
@@ -270,7 +283,8 @@ impl<'a> Met<'a> {
     }
 }
 
-/// The sum of the text of a name, or its first fault, where so many levels may be opened, itself among them.
+/// The sum of the text of a name, or its first fault, where so many levels may be opened, itself
+/// among them.
 #[cycle(measure)]
 fn visit<'a>(
     mode: Mode<'a>,
@@ -280,7 +294,8 @@ fn visit<'a>(
     levels: usize,
 ) -> Result<Result<Sum, Fault<'a>>, AllocError>
     requires { levels < 2 ^ 31 }
-    ensures gives { IfOk result (λ r. (st : State) → Shows met.old st → Gives r met.new (visited mode.entry.with_alias_only (spec.items_of (finite.get mode.entry.grok.now)) levels name.now stored.now st)) }
+    ensures gives { IfOk result (λ r. (st : State) → Shows met.old st →
+        Gives r met.new (visited mode.entry.with_alias_only (items_in mode.entry.grok.now) levels name.now stored.now st)) }
     ensures low { IfOk result (λ r. IfOk r (λ sum. sum.height < levels)) }
 {
     if levels == 0 {
@@ -309,7 +324,8 @@ fn measure_item<'a>(
     levels: usize,
 ) -> Result<Result<Sum, Fault<'a>>, AllocError>
     requires { levels < 2 ^ 31 }
-    ensures gives { IfOk result (λ r. (st : State) → Shows met.old st → Gives r met.new (item_within mode.entry.with_alias_only (spec.items_of (finite.get mode.entry.grok.now)) levels (item_view item.entry) st)) }
+    ensures gives { IfOk result (λ r. (st : State) → Shows met.old st →
+        Gives r met.new (item_within mode.entry.with_alias_only (items_in mode.entry.grok.now) levels (item_view item.entry) st)) }
     ensures low { IfOk result (λ r. IfOk r (λ sum. sum.height ≤ levels)) }
 {
     match item {
@@ -335,7 +351,8 @@ fn measure_items<'a>(
     levels: usize,
 ) -> Result<Result<Sum, Fault<'a>>, AllocError>
     requires { levels < 2 ^ 31 }
-    ensures gives { IfOk result (λ r. (st : State) → Shows met.old st → Gives r met.new (look_within mode.entry.with_alias_only (spec.items_of (finite.get mode.entry.grok.now)) levels items.entry st)) }
+    ensures gives { IfOk result (λ r. (st : State) → Shows met.old st →
+        Gives r met.new (look_within mode.entry.with_alias_only (items_in mode.entry.grok.now) levels items.entry st)) }
     ensures low { IfOk result (λ r. IfOk r (λ sum. sum.height ≤ levels)) }
 {
     let mut sum = sum_of_bytes("");
@@ -349,18 +366,25 @@ fn measure_items<'a>(
 }
 
 impl Grok {
-    /// Measures a pattern, and finds out how much was read for it and whether an alias that ends in `]` is reached.
+    /// Measures a pattern, and finds out how much was read for it and whether an alias that ends in
+    /// `]` is reached.
     pub(crate) fn measure_fully<'a>(
         &'a self,
         pattern: &'a str,
         with_alias_only: bool,
     ) -> Result<Findings<'a>, AllocError>
-        ensures answer { IfOk result (λ found. measure_view found.measure ≡ measured_tree with_alias_only (spec.tree (finite.get self.now) pattern.now)) }
-        ensures pieces { IfOk result (λ found. found.looks.pieces ≤ counted (reached_pieces self.now pattern.now)) }
-        ensures ends { IfOk result (λ found. found.looks.ends ≤ counted (reached_texts self.now pattern.now)) }
-        ensures all_pieces { IfOk result (λ found. spec.first_structural (spec.tree (finite.get self.now) pattern.now) ≡ nothing → found.looks.pieces ≡ counted (reached_pieces self.now pattern.now)) }
-        ensures all_ends { IfOk result (λ found. spec.first_structural (spec.tree (finite.get self.now) pattern.now) ≡ nothing → found.looks.ends ≡ counted (reached_texts self.now pattern.now)) }
-        ensures bracket { IfOk result (λ found. found.has_bracket ≡ has_bracket (spec.reached (spec.tree (finite.get self.now) pattern.now))) }
+        ensures answer { IfOk result (λ found.
+            measure_view found.measure ≡ measured_tree with_alias_only (tree_of self.now pattern.now)) }
+        ensures pieces { IfOk result (λ found.
+            found.looks.pieces ≤ counted (reached_pieces self.now pattern.now)) }
+        ensures ends { IfOk result (λ found.
+            found.looks.ends ≤ counted (reached_texts self.now pattern.now)) }
+        ensures all_pieces { IfOk result (λ found. HasNoFault (tree_of self.now pattern.now) →
+            found.looks.pieces ≡ counted (reached_pieces self.now pattern.now)) }
+        ensures all_ends { IfOk result (λ found. HasNoFault (tree_of self.now pattern.now) →
+            found.looks.ends ≡ counted (reached_texts self.now pattern.now)) }
+        ensures bracket { IfOk result (λ found.
+            found.has_bracket ≡ has_bracket (reached (tree_of self.now pattern.now))) }
     {
         let alloc = self.alloc();
         let mode = Mode {
@@ -378,30 +402,37 @@ impl Grok {
         })
     }
 
-    /// Measures a pattern: its first structural fault in the order of reading, or else the size of the text that it stands for, without expanding it.
-    /// Each stored text that is reached is read once. An error is want of memory.
+    /// Measures a pattern: its first structural fault in the order of reading, or else the size of
+    /// the text that it stands for, without expanding it. Each stored text that is reached is read
+    /// once. An error is want of memory.
     pub fn measure<'a>(
         &'a self,
         pattern: &'a str,
         with_alias_only: bool,
     ) -> Result<Measure<'a>, AllocError>
-        ensures { IfOk result (λ measure. measure_view measure ≡ measured_tree with_alias_only (spec.tree (finite.get self.now) pattern.now)) }
+        ensures { IfOk result (λ measure.
+            measure_view measure ≡ measured_tree with_alias_only (tree_of self.now pattern.now)) }
     {
         Ok(self.measure_fully(pattern, with_alias_only)?.measure)
     }
 
-    /// The same answer, and how often a piece was taken and the end of a text was met for it: at most, and for a pattern without a fault exactly,
-    /// once for each piece of the pattern and of each stored text that is reached, and once for each of these texts. An error is want of memory.
+    /// The same answer, and how often a piece was taken and the end of a text was met for it: at
+    /// most, and for a pattern without a fault exactly, once for each piece of the pattern and of
+    /// each stored text that is reached, and once for each of these texts. An error is want of
+    /// memory.
     pub fn measure_counted<'a>(
         &'a self,
         pattern: &'a str,
         with_alias_only: bool,
     ) -> Result<(Measure<'a>, Looks), AllocError>
-        ensures answer { IfOk result (λ r. measure_view r.0 ≡ measured_tree with_alias_only (spec.tree (finite.get self.now) pattern.now)) }
+        ensures answer { IfOk result (λ r.
+            measure_view r.0 ≡ measured_tree with_alias_only (tree_of self.now pattern.now)) }
         ensures pieces { IfOk result (λ r. r.1.pieces ≤ counted (reached_pieces self.now pattern.now)) }
         ensures ends { IfOk result (λ r. r.1.ends ≤ counted (reached_texts self.now pattern.now)) }
-        ensures all_pieces { IfOk result (λ r. spec.first_structural (spec.tree (finite.get self.now) pattern.now) ≡ nothing → r.1.pieces ≡ counted (reached_pieces self.now pattern.now)) }
-        ensures all_ends { IfOk result (λ r. spec.first_structural (spec.tree (finite.get self.now) pattern.now) ≡ nothing → r.1.ends ≡ counted (reached_texts self.now pattern.now)) }
+        ensures all_pieces { IfOk result (λ r. HasNoFault (tree_of self.now pattern.now) →
+            r.1.pieces ≡ counted (reached_pieces self.now pattern.now)) }
+        ensures all_ends { IfOk result (λ r. HasNoFault (tree_of self.now pattern.now) →
+            r.1.ends ≡ counted (reached_texts self.now pattern.now)) }
     {
         let found = self.measure_fully(pattern, with_alias_only)?;
         Ok((found.measure, found.looks))

@@ -2,6 +2,8 @@
 #![tactic(auto)]
 
 #[cfg(test)]
+mod compiling;
+#[cfg(test)]
 mod definitions;
 #[cfg(test)]
 mod libraries;

@@ -20,6 +20,11 @@ pub appends_same : (a : Option (List ℕ)) → Appends a a []
 appends_same None = tt
 appends_same (Some xs) = sym (append-nil xs)
 
+pub appends_none : (a b : Option (List ℕ)) → Keeps a b → Appends a b []
+appends_none None b h = tt
+appends_none (Some xs) None h = absurd h
+appends_none (Some xs) (Some ys) h = h ∙ sym (append-nil xs)
+
 pub answers_more : {A : Type 0} (IsAnswer : A → List ℕ → Type 0) (xs : List A) (x : A) (bytes answer : List ℕ)
     → AreAnswers IsAnswer xs bytes → IsAnswer x answer → AreAnswers IsAnswer (xs ++ x ∷ []) (bytes ++ answer)
 answers_more IsAnswer [] x bytes answer h is = (answer, [], rw h (sym (append-nil answer)), is, refl)

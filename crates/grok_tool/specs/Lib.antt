@@ -3,5 +3,10 @@ pub mod Views
 pub mod Answers
 pub mod Split
 pub mod Faults
+pub mod JsonObjects
+pub mod LineTexts
 pub mod Runs
+pub mod Lines
+pub mod Traffic
+pub mod Streams
 pub mod Progress

@@ -1,17 +1,10 @@
 -- What a run does, command by command.
-use Rattle.std.specs.Prelude.{ℕ, List, Option}
 use Rattle.std.specs.Io.KnownBytes.{Keeps}
 use Rattle.grok.specs.Pieces.{pieces}
 use Rattle.grok_tool.specs.Commands.{CommandValue, Split, Measure, Match, Json, Check}
 use Rattle.grok_tool.specs.Answers.{HasAnswered, HasBegun}
 use Rattle.grok_tool.specs.Split.{IsPieceLine}
-
--- the bytes that a reader has left and that a writer holds, before and after a run, where they are known
-pub record Traffic : Type 0 where
-  pub unread_old : Option (List ℕ)
-  pub unread_new : Option (List ℕ)
-  pub written_old : Option (List ℕ)
-  pub written_new : Option (List ℕ)
+use Rattle.grok_tool.specs.Traffic.{Traffic}
 
 -- the run ended well
 abbrev pub IsDone : CommandValue → Traffic → Type 0

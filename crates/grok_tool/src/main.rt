@@ -4,13 +4,17 @@
 ghost use Rattle.std.specs.Prelude.{◌≡◌, ◌↔◌, None, OnOk, IfSome, IsErrOf};
 ghost use Rattle.std.specs.Io.KnownBytes.{Keeps};
 ghost use Rattle.grok_tool.specs.Commands.{texts, present_command_of};
-ghost use Rattle.grok_tool.specs.Runs.{Traffic, IsDone, IsCutShort};
+ghost use Rattle.grok_tool.specs.Runs.{IsDone, IsCutShort};
+ghost use Rattle.grok_tool.specs.Traffic.{traffic};
 
 mod command;
 mod fault;
+mod json_object;
+mod line_answers;
 mod output;
 mod prompt;
 mod split;
+mod stream;
 #[cfg(test)]
 mod tests;
 

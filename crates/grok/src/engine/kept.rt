@@ -31,7 +31,8 @@ pub trait Search: Sized + Drop {
         ensures count { group_count self.new ≡ group_count self.old };
 }
 
-/// An engine whose searches can be kept. One that has nothing to keep has `Afresh` as its search.
+/// An engine whose searches can be kept. The search of one that has nothing to keep asks it for
+/// each line.
 pub trait KeepsSearch<'e>: Engine {
     type Kept: Search;
 
@@ -74,34 +75,5 @@ impl<'e> KeepsSearch<'e> for RegexEngine {
     fn search(&'e self, alloc: Global) -> Result<RegexSearch<'e>, AllocError> {
         let matcher = self.regex.matcher(alloc)?;
         Ok(RegexSearch { matcher })
-    }
-}
-
-/// A search for an engine that has nothing to keep: it asks the engine for each line.
-#[derive(Drop)]
-pub struct Afresh<'e, E> {
-    engine: &'e E,
-}
-
-impl<'e, E: Engine> Search for Afresh<'e, E> {
-    ghost finds = { λ search. E.answer_to search.engine.now };
-
-    ghost group_count = { λ search. length (E.group_names search.engine.now) };
-
-    fn captures<'t>(
-        &mut self,
-        alloc: Global,
-        line: &'t str,
-    ) -> Result<Option<Vec<Option<&'t str>>>, AllocError> {
-        self.engine.captures(alloc, line)
-    }
-}
-
-impl<'e, E: Engine> Afresh<'e, E> {
-    /// The search that asks this engine.
-    pub fn new(engine: &'e E) -> Afresh<'e, E>
-        ensures { result.engine ≡ engine.entry }
-    {
-        Afresh { engine }
     }
 }

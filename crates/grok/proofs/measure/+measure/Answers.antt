@@ -1,14 +1,12 @@
-use Rattle.std.proofs.Common.{rules, ◌≡◌, ◌+◌, ◌-◌, ◌<◌, ◌≤◌, ℕ, suc, List, [], ◌∷◌, Result, Option, Some, None, Ok, Err, refl, sym, ◌∙◌, ap, subst, arith, IfOk, MatchOption}
+use Rattle.std.proofs.Common.{◌≡◌, ◌+◌, ◌-◌, ◌<◌, ◌≤◌, ◌∷◌, None, refl, sym, subst, arith, IfOk}
 use Rattle.std.specs.FinMap as finite
 use Rattle.grok.specs.Tree as tree
 use Rattle.grok.specs.Items.{item_view}
-use Rattle.grok.specs.Remembered.{State, item_within, look_within, visit, with_mark}
+use Rattle.grok.specs.Remembered.{look_within, with_mark}
 use Rattle.grok.specs.Measured.{counted}
 use Rattle.grok.specs.Met.{Shows, Gives, mark_of}
-use Rattle.grok.specs.declared.measure.Sum.{Sum}
-use Rattle.grok.specs.declared.measure.Met.{Met}
 use Rattle.grok.specs.declared.measure.Looks.{Looks}
-use Rattle.grok.proofs.Going.{GoesOn, goes_on_start, fault_gives, sum_goes_on, piece_counted, failed_gives, finished_gives}
+use Rattle.grok.proofs.Going.{GoesOn, goes_on_start, fault_gives, sum_goes_on, failed_gives, finished_gives}
 use Rattle.grok.proofs.measure.+measure.Goals.{measure_item-in-Inline, measure_item-in-Stored+in_ok-inner-in-Stored}
 use Rattle.grok.proofs.measure.+measure.Goals as goal
 

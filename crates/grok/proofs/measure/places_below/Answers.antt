@@ -1,4 +1,4 @@
-use Rattle.std.proofs.Common.{◌≡◌, ◌+◌, ◌-◌, ◌*◌, ◌^◌, ◌<◌, ◌≤◌, suc, Some, arith, sym, ap, ◌∙◌, add-one}
+use Rattle.std.proofs.Common.{◌≡◌, ◌+◌, ◌-◌, ◌*◌, ◌^◌, ◌≤◌, suc, Some, arith, sym, ap, ◌∙◌, add-one}
 use Rattle.grok.specs.Met.{fit}
 use Rattle.grok.proofs.Places.{tens, above, tens_fit, places_above}
 use Rattle.grok.proofs.Fits.{fit_is}

@@ -1,4 +1,4 @@
-use Rattle.std.proofs.Common.{◌≡◌, List, subst}
+use Rattle.std.proofs.Common.{subst}
 use Rattle.std.specs.FinMap as finite
 use Rattle.grok.specs.Tree as tree
 use Rattle.grok.specs.Remembered.{look_within, nothing_met}

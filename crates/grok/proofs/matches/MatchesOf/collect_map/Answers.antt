@@ -13,4 +13,4 @@ pairs-preserved g c =
     let all = walk c.args.self.now.pattern.keys c.args.self.now.captures in
     let rises : IsStrictlySortedBy (slice_cmp nat_cmp) (keys_of all) = subst (λ xs. IsStrictlySortedBy (slice_cmp nat_cmp) (keys_of xs)) c.iter-name-items.ensures.pairs c.iter-name-items.ensures.sorted in
     ap (λ es. map pair_texts es ++ c.next.new.self) c.in_ok-insert.ensures.entries
-    ∙ put_more c.pairs.pairs.entries c.in-Some.name c.in-Some.text c.pairs.name-iterator c.next.new.self all rises c.pairs.invariant c.in-Some.ensures.steps
+    ∙ put_more c.pairs.texts.entries c.in-Some.name c.in-Some.text c.pairs.name-iterator c.next.new.self all rises c.pairs.invariant c.in-Some.ensures.steps

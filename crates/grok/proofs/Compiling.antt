@@ -1,0 +1,116 @@
+-- What measuring, walking and building say together.
+use Rattle.std.proofs.Common.{◌≡◌, ◌≢◌, ℕ, suc, ◌<◌, ◌^◌, Bool, true, false, cond, List, [], ◌∷◌, length, map, Option, Some, None, Result, Ok, Err, ◌⊎◌, inl, inr, refl, sym, ◌∙◌, ap, subst, arith}
+use Rattle.std.specs.Prelude.{nat_lt, ◌==◌, MatchResult, IsErrAnd}
+use Rattle.std.specs.Option.{option_map}
+use Rattle.std.specs.String.{string_bytes}
+use Rattle.std.specs.BTreeMap.{get_by_text}
+use borrow.Author.Tests.{ltb-true}
+use Rattle.std.proofs.lemmas.Bool.{true≢false, ne_eqb}
+use Rattle.grok.specs.Tree.{Definitions, Label, Fault, Event, Text, Open, Close, Fails, tree, first_structural, reached}
+use Rattle.grok.specs.Keys.{is_recorded, key_after, is_among, first_fault_after, Finding, Structural, Clash, has_bracket, keys, recorded, extract_of}
+use Rattle.grok.specs.Expanded.{expanded, groups, nesting}
+use Rattle.grok.specs.Measured.{Faulty, Sized, PastLimit, fault_or, size_within, measured_tree}
+use Rattle.grok.specs.Answers.{PatternValue}
+use Rattle.grok.specs.KeyTable.{IsKeyTable}
+use Rattle.grok.specs.declared.expand.given.Given.{Given}
+use Rattle.grok.specs.Walks.{HasKeys}
+use Rattle.grok.specs.declared.errors.Error.{Error}
+use Rattle.grok.specs.declared.errors.Error.TheVariants as rust
+use Rattle.grok.specs.Errors.{ErrorValue, Memory, error_value}
+use Rattle.grok.specs.Compiled.{IsFaultError, IsFirstError, IsBuilt, IsRefusal, Compiles, IsCompileError, First, Unbuilt, NoMemory}
+use Rattle.grok.proofs.KeyLaws.{clash_needs_bracket}
+
+-- ---- what was measured
+
+pub record IsSized (alias_only : Bool) (es : List Event) (n : ℕ) : Type 0 where
+  pub clean : first_structural es ≡ None
+  pub long : n ≡ length (expanded alias_only es)
+  pub fits : n < 2 ^ 64
+
+sized_by : (b : Bool) (n g h length groups nesting : ℕ) → Sized length groups nesting ≡ cond b (Sized n g h) PastLimit → (length ≡ n) × (b ≡ true)
+sized_by true n g h length groups nesting e = let same : length ≡ n = cc in (same, refl)
+sized_by false n g h length groups nesting e = cc
+
+faulty_never : (b : Bool) (n g h : ℕ) (fault : Fault) → Faulty fault ≡ cond b (Sized n g h) PastLimit → ⊥
+faulty_never true n g h fault e = cc
+faulty_never false n g h fault e = cc
+
+sized_or : (o : Option Fault) (n g h length groups nesting : ℕ) → Sized length groups nesting ≡ fault_or o (size_within n g h) → (o ≡ None) × (length ≡ n) × (nat_lt n (2 ^ 64) ≡ true)
+sized_or None n g h length groups nesting e = let both = sized_by (nat_lt n (2 ^ 64)) n g h length groups nesting e in (refl, both.0, both.1)
+sized_or (Some fault) n g h length groups nesting e = cc
+
+faulty_or : (o : Option Fault) (n g h : ℕ) (fault : Fault) → Faulty fault ≡ fault_or o (size_within n g h) → o ≡ Some fault
+faulty_or None n g h fault e = absurd (faulty_never (nat_lt n (2 ^ 64)) n g h fault e)
+faulty_or (Some other) n g h fault e = let same : other ≡ fault = cc in ap Some same
+
+pub sized_is : (alias_only : Bool) (es : List Event) (n m d : ℕ) → Sized n m d ≡ measured_tree alias_only es → IsSized alias_only es n
+sized_is alias_only es n m d e =
+    let all = sized_or (first_structural es) (length (expanded alias_only es)) (groups alias_only es) (nesting es) n m d e in
+    record { clean = all.0; long = all.1; fits = let low = ltb-true (length (expanded alias_only es)) (2 ^ 64) all.2 in omega arith }
+
+pub faulty_is : (alias_only : Bool) (es : List Event) (fault : Fault) → Faulty fault ≡ measured_tree alias_only es → first_structural es ≡ Some fault
+faulty_is alias_only es fault e = faulty_or (first_structural es) (length (expanded alias_only es)) (groups alias_only es) (nesting es) fault e
+
+-- ---- faults
+
+-- without a bracket the structural fault is the first
+pub quiet_fault : (alias_only : Bool) (stored : Definitions) (pattern : List ℕ) (fault : Fault) (error : ErrorValue) → has_bracket (reached (tree stored pattern)) ≡ false
+    → first_structural (tree stored pattern) ≡ Some fault → IsFaultError fault error → IsFirstError alias_only (tree stored pattern) error
+quiet_fault alias_only stored pattern fault error quiet is says = record {
+  finding = Structural fault;
+  first = clash_needs_bracket alias_only stored pattern quiet ∙ ap (option_map Structural) is;
+  is = says;
+}
+
+none_by : (recorded taken : Bool) (key : List ℕ) (o p : Option Finding) (q : Option Fault) → (o ≡ None → q ≡ None) → (p ≡ None → q ≡ None) → cond recorded (cond taken (Some (Clash key)) o) p ≡ None → q ≡ None
+none_by true true key o p q f h e = cc
+none_by true false key o p q f h e = f e
+none_by false taken key o p q f h e = h e
+
+-- where there is no first fault there is no structural one
+pub none_structural : (alias_only : Bool) (before : List Label) (taken : List (List ℕ)) (es : List Event) → first_fault_after alias_only before taken es ≡ None → first_structural es ≡ None
+none_structural alias_only before taken [] e = refl
+none_structural alias_only before taken (Text text ∷ es) e = none_structural alias_only before taken es e
+none_structural alias_only before taken (Close ∷ es) e = none_structural alias_only before taken es e
+none_structural alias_only before taken (Fails fault ∷ es) e = cc
+none_structural alias_only before taken (Open label meaning ∷ es) e =
+    let key = key_after before label in
+    none_by (is_recorded alias_only label) (is_among key taken) key (first_fault_after alias_only (label ∷ before) (key ∷ taken) es) (first_fault_after alias_only before taken es) (first_structural es)
+    (none_structural alias_only (label ∷ before) (key ∷ taken) es) (none_structural alias_only before taken es) e
+
+-- ---- patterns
+
+pub built_as : {E : Type 0} (source_of : E → List ℕ) (group_names : E → List (Option (List ℕ))) (alias_only : Bool) (es : List Event) (given : Given) (text : List ℕ) (pattern : PatternValue E)
+    → HasKeys alias_only es given → text ≡ expanded alias_only es
+    → IsBuilt source_of group_names text (map string_bytes given.keys.items) (λ key. option_map string_bytes (get_by_text given.extracts key)) pattern
+    → IsBuilt source_of group_names (expanded alias_only es) (keys (recorded alias_only es)) (extract_of alias_only es) pattern
+built_as source_of group_names alias_only es given text pattern has is built = record {
+  text = built.text ∙ is;
+  keys = subst (λ ks. IsKeyTable ks (group_names pattern.engine) pattern.keys) has.keys built.keys;
+  extracts = λ key. built.extracts key ∙ has.extracts key;
+}
+
+pub some_bytes : (xs : List ℕ) → (length xs == 0) ≡ false → xs ≢ []
+some_bytes [] h e = cc
+some_bytes (x ∷ xs) h e = cc
+
+-- ---- answers
+
+module _ {E : Type 0} (source_of : E → List ℕ) (group_names : E → List (Option (List ℕ))) (may_refuse : List ℕ → Type 0) (alias_only : Bool) (pattern : List ℕ) (tree : List Event) (some : pattern ≢ []) where
+  pub no_memory : (r : Result (PatternValue E) Error) → IsErrAnd r (λ error. error ≡ rust.Memory) → Compiles source_of group_names may_refuse alias_only pattern tree r
+  no_memory (Ok p) h = elim h [ ]
+  no_memory (Err error) h = subst (λ e. IsCompileError may_refuse alias_only pattern tree (error_value e)) (sym h) (NoMemory some)
+
+  pub first_answer : (error : ErrorValue) → IsFirstError alias_only tree error → (first_structural tree ≡ None → length (expanded alias_only tree) < 2 ^ 64) → IsCompileError may_refuse alias_only pattern tree error
+  first_answer error first fits = First error some first fits
+
+  pub built_answer : (given : Given) (text : List ℕ) (r : Result (PatternValue E) Error) → HasKeys alias_only tree given → text ≡ expanded alias_only tree → length (expanded alias_only tree) < 2 ^ 64
+      → MatchResult r (IsBuilt source_of group_names text (map string_bytes given.keys.items) (λ key. option_map string_bytes (get_by_text given.extracts key))) (λ error. (error_value error ≡ Memory) ⊎ IsRefusal may_refuse text (error_value error))
+      → Compiles source_of group_names may_refuse alias_only pattern tree r
+  built_answer given text (Ok p) has is fits built = record { some = some; can = record { clean = has.none; fits = fits }; built = built_as source_of group_names alias_only tree given text p has is built }
+  built_answer given text (Err error) has is fits (inl none) = subst (λ e. IsCompileError may_refuse alias_only pattern tree e) (sym none) (NoMemory some)
+  built_answer given text (Err error) has is fits (inr refused) = Unbuilt (error_value error) some (record { clean = has.none; fits = fits }) (subst (λ t. IsRefusal may_refuse t (error_value error)) is refused)
+
+pub no_bytes : (xs : List ℕ) → (length xs == 0) ≡ true → xs ≡ []
+no_bytes [] h = refl
+no_bytes (x ∷ xs) h = absurd (true≢false (sym h ∙ ne_eqb (suc (length xs)) 0 (λ e. absurd (omega arith))))

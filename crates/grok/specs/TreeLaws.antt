@@ -1,0 +1,48 @@
+-- Laws of what placeholders stand for, and of the faults of a tree.
+use Rattle.std.specs.Prelude.{◌≡◌, ◌⊎◌, ℕ, suc, ◌+◌, Bool, true, false, List, [], ◌∷◌, ◌++◌, length, Option, Some, None, slice_get}
+use Rattle.grok.specs.Pieces.{Parts, Piece, Regular, Placeholder, Malformed, pieces}
+use Rattle.grok.specs.Tree.{Definitions, is_absent, Fault, Missing, label_of, Inline, opened, Opening, items_of, Event, tree, first_structural, reached}
+use Rattle.grok.specs.Measured.{Measured, Faulty, measured_tree, reaches}
+
+-- ---- definitions that are written in a text
+
+-- none of the pieces is a placeholder that defines this name
+abbrev pub NoneDefines : List ℕ → List Piece → Type 0
+NoneDefines name [] = Unit {0}
+NoneDefines name (Regular s e text ∷ ps) = NoneDefines name ps
+NoneDefines name (Malformed fault ∷ ps) = NoneDefines name ps
+NoneDefines name (Placeholder s e text parts ∷ ps) = (parts.name ≡ name → is_absent parts.definition ≡ true) × NoneDefines name ps
+
+-- a placeholder with a definition stands for it
+abbrev pub OwnDefinitionHolds : Type 0
+OwnDefinitionHolds = (stored : Definitions) (text : List ℕ) (before after : List Piece) (s e : ℕ) (pattern : List ℕ) (parts : Parts)
+    → pieces text ≡ before ++ Placeholder s e pattern parts ∷ after → is_absent parts.definition ≡ false
+    → slice_get (items_of stored text) (length before) ≡ Some (Opening (label_of parts) (Inline parts.definition))
+
+-- a placeholder without one stands for that of an earlier placeholder of its name, if no other between them defines the name
+abbrev pub EarlierDefinitionHolds : Type 0
+EarlierDefinitionHolds = (stored : Definitions) (text : List ℕ) (before between after : List Piece) (s e s' e' : ℕ) (pattern pattern' : List ℕ) (earlier parts : Parts)
+    → pieces text ≡ before ++ Placeholder s e pattern earlier ∷ between ++ Placeholder s' e' pattern' parts ∷ after
+    → is_absent earlier.definition ≡ false → earlier.name ≡ parts.name → NoneDefines parts.name between → is_absent parts.definition ≡ true
+    → slice_get (items_of stored text) (suc (length before + length between)) ≡ Some (Opening (label_of parts) (Inline earlier.definition))
+
+-- and where no placeholder before it in its own text defines the name, whatever other texts define, it stands for the stored definition, if there is one
+abbrev pub StoredDefinitionHolds : Type 0
+StoredDefinitionHolds = (stored : Definitions) (text : List ℕ) (before after : List Piece) (s e : ℕ) (pattern : List ℕ) (parts : Parts)
+    → pieces text ≡ before ++ Placeholder s e pattern parts ∷ after → NoneDefines parts.name before → is_absent parts.definition ≡ true
+    → slice_get (items_of stored text) (length before) ≡ Some (opened (label_of parts) None (stored parts.name))
+
+-- ---- faults
+
+-- the tree neither reaches the name nor ends where it is missing
+abbrev pub IsUnused : List ℕ → List Event → Type 0
+IsUnused name tree = (reaches name (reached tree) ≡ false) × (first_structural tree ≡ Some (Missing name) → ⊥)
+
+-- Definitions that differ in unused names alone make the same first fault, so a fault in a definition that isn't reached is never answered; and they reach the same.
+abbrev pub UnusedDefinitionsDoNotMatter : Type 0
+UnusedDefinitionsDoNotMatter = (stored other : Definitions) (pattern : List ℕ) → ((name : List ℕ) → (stored name ≡ other name) ⊎ IsUnused name (tree stored pattern))
+    → (first_structural (tree other pattern) ≡ first_structural (tree stored pattern)) × (reached (tree other pattern) ≡ reached (tree stored pattern))
+
+-- both modes answer the same faults
+abbrev pub ModesFaultAlike : Type 0
+ModesFaultAlike = (tree : List Event) (mode other : Bool) (fault : Fault) → measured_tree mode tree ≡ Faulty fault → measured_tree other tree ≡ Faulty fault

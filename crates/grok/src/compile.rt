@@ -1,0 +1,141 @@
+//! Compiling a pattern.
+
+ghost use Rattle.std.specs.Prelude.{◌≡◌, ◌≢◌, ℕ, ◌⊎◌, ◌++◌, codes, List, [], map, length as len, MatchResult, IfOk, Some, None};
+ghost use Rattle.std.specs.Option.{option_map};
+ghost use Rattle.std.specs.FinMap as finite;
+ghost use Rattle.std.specs.String.{string_bytes};
+ghost use Rattle.std.specs.BTreeMap.{get_by_text};
+ghost use Rattle.grok.specs.Tree.{tree as tree_of, first_structural};
+ghost use Rattle.grok.specs.Keys.{first_fault};
+ghost use Rattle.grok.specs.Expanded.{expanded};
+ghost use Rattle.grok.specs.Walks.{finding_view};
+ghost use Rattle.grok.specs.Errors.{error_value, RegexCompilationFailed, Memory as memory};
+ghost use Rattle.grok.specs.Compiled.{IsErrorOf, IsFirstError, IsBuilt, IsRefusal, Compiles};
+ghost use Rattle.grok.specs.RegexFinds.{IsReadByDefault};
+ghost use Rattle.grok.specs.Engines.{engine_regex};
+ghost use Rattle.regex.specs.Strings.{regex_source, regex_names};
+
+use crate::Pattern;
+use crate::defs::Grok;
+use crate::engine::{Engine, Refusal, RegexEngine};
+use crate::errors::Error;
+use crate::expand::given::Given;
+use crate::expand::walk::{Finding, walk};
+use crate::expand::write::write;
+use crate::key_table::KeyTable;
+use crate::matches::PatternOf;
+use crate::measure::Measure;
+use std::alloc::{AllocError, Global};
+
+impl Finding<'_> {
+    /// The error that compiling answers for what it found first.
+    fn to_error(&self, alloc: Global) -> Result<Error, AllocError>
+        ensures { IfOk result (λ error. IsErrorOf (finding_view self.now) (error_value error)) }
+    {
+        match self {
+            Finding::Structural(fault) => fault.to_error(alloc),
+            Finding::Clash(key) => Ok(Error::GenericCompilationFailure(format!(in alloc;
+                "Alias {key} already exists"
+            )?)),
+        }
+    }
+}
+
+/// The error for a text that the engine refused.
+fn refused(alloc: Global, text: &str) -> Result<Error, AllocError>
+    ensures { IfOk result (λ error. error_value error ≡ RegexCompilationFailed (codes "Regex compilation failed:\n" ++ text.now)) }
+{
+    Ok(Error::RegexCompilationFailed(format!(in alloc; "Regex compilation failed:\n{text}")?))
+}
+
+/// The pattern that an engine builds from the text, with these keys and extracts.
+fn build<E: Engine>(alloc: Global, text: &str, given: Given) -> Result<PatternOf<E>, Error>
+    ensures { MatchResult result
+        (IsBuilt E.source_of E.group_names text.now (map string_bytes given.keys.items) (λ key. option_map string_bytes (get_by_text given.extracts key)))
+        (λ error. (error_value error ≡ memory) ⊎ IsRefusal E.may_refuse text.now (error_value error)) }
+{
+    let engine: E = match E::build(alloc, text) {
+        Ok(engine) => engine,
+        Err(Refusal::Memory) => return Err(Error::Memory),
+        Err(Refusal::Refused) => return Err(refused(alloc, text)?),
+    };
+    let keys = KeyTable::for_names(alloc, engine.names(), given.keys.as_slice())?;
+    Ok(PatternOf::new(alloc, engine, keys, given.extracts))
+}
+
+impl Grok {
+    /// The error of a pattern whose tree has a structural fault: that of the first one, or of a clash before it.
+    fn first_error(&self, pattern: &str, with_alias_only: bool) -> Result<Error, AllocError>
+        requires { first_structural (tree_of (finite.get self.now) pattern.now) ≢ None }
+        ensures { IfOk result (λ error. IsFirstError with_alias_only (tree_of (finite.get self.now) pattern.now) (error_value error)) }
+    {
+        match walk(self.alloc(), self, pattern, with_alias_only)? {
+            Ok(_) => unreachable!(),
+            Err(finding) => finding.to_error(self.alloc()),
+        }
+    }
+
+    /// Compiles a pattern whose tree has no structural fault, and stands for a text of so many bytes: only a clash, the engine or want of memory can hinder it.
+    fn compile_clean<E: Engine>(
+        &self,
+        pattern: &str,
+        with_alias_only: bool,
+        length: usize,
+    ) -> Result<PatternOf<E>, Error>
+        requires some { pattern.now ≢ [] }
+        requires clean { first_structural (tree_of (finite.get self.now) pattern.now) ≡ None }
+        requires long { length ≡ len (expanded with_alias_only (tree_of (finite.get self.now) pattern.now)) }
+        ensures { Compiles E.source_of E.group_names E.may_refuse with_alias_only pattern.now (tree_of (finite.get self.now) pattern.now) result }
+    {
+        let alloc = self.alloc();
+        let text = String::with_capacity(alloc, length)?;
+        match walk(alloc, self, pattern, with_alias_only)? {
+            Ok(given) => {
+                let text = write(alloc, self, pattern, with_alias_only, text)?;
+                build(alloc, text.as_str(), given)
+            }
+            Err(finding) => Err(finding.to_error(alloc)?),
+        }
+    }
+
+    /// Compiles a pattern for an engine: its placeholders are replaced by what they stand for, each in a group, and the engine builds the text.
+    ///
+    /// In alias-only mode a placeholder without an alias has no key. The pattern owns all that it holds.
+    ///
+    /// # Errors
+    ///
+    /// - `CompiledPatternIsEmpty` of an empty pattern, and of no other.
+    /// - `GenericCompilationFailure`, `DefinitionNotFound` or `RecursionTooDeep` for the first fault in the order of reading: a malformed placeholder, a name
+    ///   without a definition, a placeholder at the 1,024th level, or one whose key an earlier one has. At one placeholder the missing definition comes before
+    ///   the clash of keys, and that before depth.
+    /// - `RegexCompilationFailed` where the engine refuses the text.
+    /// - `Memory` where memory is refused, or where the text of a pattern without a structural fault would be longer than the greatest `usize`.
+    pub fn compile_with<E: Engine>(
+        &self,
+        pattern: &str,
+        with_alias_only: bool,
+    ) -> Result<PatternOf<E>, Error>
+        ensures { Compiles E.source_of E.group_names E.may_refuse with_alias_only pattern.now (tree_of (finite.get self.now) pattern.now) result }
+    {
+        if pattern.is_empty() {
+            return Err(Error::CompiledPatternIsEmpty(String::new(self.alloc())));
+        }
+        let found = self.measure_fully(pattern, with_alias_only)?;
+        match found.measure {
+            Measure::TooLong => Err(Error::Memory),
+            Measure::Fault(_) if found.has_bracket => {
+                Err(self.first_error(pattern, with_alias_only)?)
+            }
+            Measure::Fault(fault) => Err(fault.to_error(self.alloc())?),
+            Measure::Size { length, .. } => self.compile_clean(pattern, with_alias_only, length),
+        }
+    }
+
+    /// Compiles a pattern for `regex`, with its defaults. The errors are those of `compile_with`.
+    pub fn compile(&self, pattern: &str, with_alias_only: bool) -> Result<Pattern, Error>
+        ensures answer { Compiles (λ engine. regex_source (engine_regex engine)) (λ engine. regex_names (engine_regex engine)) (λ _. Unit {0}) with_alias_only pattern.now (tree_of (finite.get self.now) pattern.now) result }
+        ensures read { IfOk result (λ pattern. ∥ IsReadByDefault (engine_regex pattern.engine) ∥₁) }
+    {
+        self.compile_with::<RegexEngine>(pattern, with_alias_only)
+    }
+}

@@ -1,0 +1,62 @@
+//! An engine with group 0 alone.
+ghost use Rattle.std.specs.Prelude.{◌≡◌, [], ◌∷◌, None, Some, length, slice_get, string_bytes};
+ghost use Rattle.grok.specs.Captures.{name_texts};
+ghost use Rattle.grok_engines.specs.Wholes.{whole_line};
+ghost use Rattle.std.proofs.Common.{sym, ◌∙◌};
+ghost use Rattle.std.proofs.lemmas.List.{length-map};
+
+use grok::{Engine, Refusal};
+use std::alloc::{AllocError, Global};
+
+/// Takes every text, has group 0 alone, and finds each line whole. Its `build` keeps the text and
+/// asks for memory once.
+#[derive(Drop)]
+pub struct Bare {
+    text: String,
+    names: [Option<String>; 1],
+    ghost one: { length names ≡ 1 },
+    ghost unnamed: { slice_get (name_texts names) 0 ≡ Some None },
+}
+
+impl Engine for Bare {
+    ghost source_of = { λ engine. string_bytes engine.text };
+
+    ghost group_names = { λ engine. name_texts engine.names };
+
+    ghost answer_to = { λ _. whole_line };
+
+    ghost may_refuse = { λ _. ⊥ };
+
+    ghost as_many = { λ engine _. sym (length-map engine.names _ ∙ engine.one) };
+
+    ghost whole_has_no_name = { λ engine. engine.unnamed };
+
+    fn build(alloc: Global, text: &str) -> Result<Bare, Refusal> {
+        match String::from_str(alloc, text) {
+            Ok(text) => Ok(Bare {
+                text,
+                names: [None],
+            }),
+            Err(_) => Err(Refusal::Memory),
+        }
+    }
+
+    fn text(&self) -> &str {
+        self.text.as_str()
+    }
+
+    fn names(&self) -> &[Option<String>] {
+        self.names.as_slice()
+    }
+
+    #[tactic(auto, using(crate::proofs::WholeLines::whole))]
+    fn captures<'t>(
+        &self,
+        alloc: Global,
+        line: &'t str,
+    ) -> Result<Option<Vec<Option<&'t str>>>, AllocError> {
+        let mut captures = Vec::new(alloc);
+        captures.push(Some(line))?;
+        Ok(Some(captures))
+    }
+}

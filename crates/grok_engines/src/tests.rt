@@ -1,0 +1,50 @@
+use crate::{Bare, Heads, Refuser};
+use grok::{Engine, KeepsSearch, Refusal, Search};
+use std::test::Fail;
+
+#[test]
+fn bare_finds_each_line_whole(rt: HostRuntime) -> Result<(), Fail> {
+    let Ok(engine) = Bare::build(rt.alloc(), "a(?<b>c)") else {
+        return Err("refused")?;
+    };
+    assert_eq!(rt; engine.text(), "a(?<b>c)");
+    assert_eq!(rt; engine.names().len(), 1);
+    let Some(found) = engine.captures(rt.alloc(), "q")? else {
+        return Err("no match")?;
+    };
+    assert_eq!(rt; found.as_slice(), [Some("q")].as_slice());
+    Ok(())
+}
+
+#[test]
+fn heads_reads_names(rt: HostRuntime) -> Result<(), Fail> {
+    let Ok(engine) = Heads::build(rt.alloc(), "(?<_n_0>(?<_n_1>a)(?<b>c))(?<d") else {
+        return Err("refused")?;
+    };
+    let names = engine.names();
+    assert_eq!(rt; names.len(), 4);
+    let wanted = [None, Some("_n_0"), Some("_n_1"), Some("b")];
+    for (name, want) in names.iter().zip(&wanted) {
+        match name {
+            Some(name) => assert_eq!(rt; Some(name.as_str()), *want),
+            None => assert_eq!(rt; None, *want),
+        }
+    }
+    let mut search = engine.search(rt.alloc())?;
+    let Some(found) = search.captures(rt.alloc(), "line")? else {
+        return Err("no match")?;
+    };
+    assert_eq!(rt;
+        found.as_slice(),
+        [Some("line"), Some("line"), None, Some("line")].as_slice()
+    );
+    Ok(())
+}
+
+#[test]
+fn refuser_refuses(rt: HostRuntime) -> Result<(), Fail> {
+    match Refuser::build(rt.alloc(), "a") {
+        Err(Refusal::Refused) => Ok(()),
+        _ => Err("not refused")?,
+    }
+}

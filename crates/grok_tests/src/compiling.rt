@@ -1,0 +1,251 @@
+use grok::{Error, Grok, Measure};
+use std::alloc::{AllocError, Global};
+use std::test::Fail;
+
+/// What compiling answers: the text, and then the keys; or the error.
+fn answer(
+    alloc: Global,
+    pairs: &[(&str, &str)],
+    pattern: &str,
+    with_alias_only: bool,
+) -> Result<String, AllocError> {
+    let grok = Grok::from_iter(alloc, pairs)?;
+    match grok.compile(pattern, with_alias_only) {
+        Ok(pattern) => {
+            let mut all = String::from_str(alloc, pattern.text())?;
+            for name in pattern.capture_names() {
+                all.push_str(" ")?;
+                all.push_str(name)?;
+            }
+            Ok(all)
+        }
+        Err(error) => format!(in alloc; "{error:?}"),
+    }
+}
+
+#[test]
+fn worked_patterns(rt: HostRuntime) -> Result<(), Fail> {
+    let alloc = rt.alloc();
+    let a: &[(&str, &str)] = &[("A", "a")];
+    let b: &[(&str, &str)] = &[("A", "a"), ("B", "%{A}%{A}")];
+    let w: &[(&str, &str)] = &[("W", "w")];
+    let user: &[(&str, &str)] = &[
+        ("USERNAME", "[a-zA-Z0-9._-]+"),
+        ("USER", "%{USERNAME::text}"),
+    ];
+    let bad: &[(&str, &str)] = &[("BAD", "%{")];
+    for (pairs, pattern, mode, expected) in [
+        (b, "%{B}", false, "(?<_n_0>(?<_n_1>a)(?<_n_2>a)) A A[1] B"),
+        (
+            &[],
+            "%{W=a}%{W=b}%{W}",
+            false,
+            "(?<_n_0>a)(?<_n_1>b)(?<_n_2>b) W W[1] W[2]",
+        ),
+        (
+            w,
+            "%{W}%{W=a}%{W}",
+            false,
+            "(?<_n_0>w)(?<_n_1>a)(?<_n_2>a) W W[1] W[2]",
+        ),
+        (
+            &[("P", "%{W}")],
+            "%{W=a}%{P}",
+            false,
+            "DefinitionNotFound(\"W\")",
+        ),
+        (&[], "%{W:k=a}%{W}", true, "(?<_n_0>a)(?:a) k"),
+        (a, "[%{A}]", false, "[(?<_n_0>a)]"),
+        (a, "(?:%{A:x}|b(?<x>c))", false, "(?:(?<_n_0>a)|b(?<x>c)) x"),
+        (
+            user,
+            "%{USER:usr:text}",
+            true,
+            "(?<_n_0>(?:[a-zA-Z0-9._-]+)) usr",
+        ),
+        (&[("E", "")], "%{E}", false, "(?<_n_0>) E"),
+        (&[("E", "")], "%{E}", true, "(?:)"),
+        (&[], "", false, "CompiledPatternIsEmpty(\"\")"),
+        (
+            &[],
+            "(",
+            false,
+            "RegexCompilationFailed(\"Regex compilation failed:\\n(\")",
+        ),
+        (bad, "x", false, "x"),
+        (
+            bad,
+            "%{BAD}",
+            false,
+            "GenericCompilationFailure(\"InvalidPattern\")",
+        ),
+        (
+            a,
+            "%{A:x[1]}%{A:x}%{A:x}",
+            false,
+            "GenericCompilationFailure(\"Alias x[1] already exists\")",
+        ),
+        (
+            a,
+            "%{A:x}%{A:x}%{A:x[1]}%{missing}",
+            false,
+            "GenericCompilationFailure(\"Alias x[1] already exists\")",
+        ),
+        (
+            &[],
+            "%{P:x=a}%{P:x:int=b}%{P:x[1]=c}",
+            false,
+            "GenericCompilationFailure(\"Alias x[1] already exists\")",
+        ),
+        (
+            a,
+            "%{A:x[1]}%{A:x[1]}",
+            false,
+            "(?<_n_0>a)(?<_n_1>a) x[1] x[1][1]",
+        ),
+        (
+            a,
+            "%{A:x}%{A:x}%{nope:x[1]}",
+            false,
+            "DefinitionNotFound(\"nope\")",
+        ),
+        (
+            a,
+            "%{A:x[1]}%{A:x}%{nope:x}",
+            false,
+            "DefinitionNotFound(\"nope\")",
+        ),
+        (
+            a,
+            "%{A}%{",
+            false,
+            "GenericCompilationFailure(\"InvalidPattern\")",
+        ),
+        (&[], "%{nope}%{", false, "DefinitionNotFound(\"nope\")"),
+        (
+            &[],
+            "%{a b}",
+            false,
+            "GenericCompilationFailure(\"InvalidCharacter(' ')\")",
+        ),
+        (
+            &[("A", "%{A}%{missing}")],
+            "%{A}",
+            false,
+            "RecursionTooDeep",
+        ),
+        (
+            &[("A", "%{missing}%{A}")],
+            "%{A}",
+            false,
+            "DefinitionNotFound(\"missing\")",
+        ),
+    ] {
+        let given = answer(alloc, pairs, pattern, mode)?;
+        assert_eq!(rt; given.as_str(), expected, "at {pattern}");
+    }
+    Ok(())
+}
+
+#[test]
+fn extracts(rt: HostRuntime) -> Result<(), Fail> {
+    let alloc = rt.alloc();
+    let grok = Grok::from_iter(alloc, &[("A", "a")])?;
+    let pattern = grok.compile("%{A:x}%{A:x:int}%{A:y:text}%{A:z}[%{A::t}]", false)?;
+    for (key, expected) in [
+        ("x", None),
+        ("x[1]", Some("int")),
+        ("y", Some("text")),
+        ("z", None),
+        ("A", Some("t")),
+        ("nope", None),
+    ] {
+        assert_eq!(rt; pattern.get_extract(key), expected, "at {key}");
+    }
+    Ok(())
+}
+
+/// Definitions that call one another in a row, of which the last is this text.
+fn chain(
+    alloc: Global,
+    grok: &mut Grok,
+    letter: &str,
+    count: u32,
+    last: &str,
+) -> Result<(), AllocError> {
+    for number in 1..count {
+        let name = format!(in alloc; "{letter}{number}")?;
+        let text = format!(in alloc; "%{{{letter}{}}}", number + 1)?;
+        grok.add_pattern(name.as_str(), text.as_str())?;
+    }
+    let name = format!(in alloc; "{letter}{count}")?;
+    grok.add_pattern(name.as_str(), last)
+}
+
+#[test]
+fn depth(rt: HostRuntime) -> Result<(), Fail> {
+    let alloc = rt.alloc();
+    let mut grok = Grok::from_iter(alloc, &[("A", "a")])?;
+    chain(alloc, &mut grok, "C", 1023, "x")?;
+    chain(alloc, &mut grok, "D", 1024, "x")?;
+    chain(alloc, &mut grok, "E", 1023, "%{A:x}")?;
+    let size = Measure::Size {
+        length: 4093,
+        groups: 0,
+        nesting: 1023,
+    };
+    assert_eq!(rt; grok.measure("%{C1}", true)?, size);
+    for (pattern, expected) in [
+        ("%{D1}", "RecursionTooDeep"),
+        (
+            "%{A:x[1]}%{A:x}%{E1}",
+            "GenericCompilationFailure(\"Alias x[1] already exists\")",
+        ),
+        ("%{A:x[2]}%{A:x}%{E1}", "RecursionTooDeep"),
+    ] {
+        match grok.compile(pattern, false) {
+            Ok(_) => assert!(rt; false, "a pattern at {pattern}"),
+            Err(error) => {
+                let shown = format!(in alloc; "{error:?}")?;
+                assert_eq!(rt; shown.as_str(), expected, "at {pattern}");
+            }
+        }
+    }
+    match grok.compile("%{C1}", true) {
+        Ok(pattern) => assert_eq!(rt; pattern.text().len(), 4093),
+        Err(error) => assert!(rt;
+            matches!(error, Error::RegexCompilationFailed(_)),
+            "{error}"
+        ),
+    }
+    Ok(())
+}
+
+#[test]
+fn hostile_libraries(rt: HostRuntime) -> Result<(), Fail> {
+    let alloc = rt.alloc();
+    let mut grok = Grok::from_iter(alloc, &[("D0", "a"), ("A", "a")])?;
+    for number in 1..71u32 {
+        let name = format!(in alloc; "D{number}")?;
+        let text = format!(in alloc; "%{{D{}}}%{{D{}}}", number - 1, number - 1)?;
+        grok.add_pattern(name.as_str(), text.as_str())?;
+    }
+    for (pattern, expected) in [
+        ("%{D70}", "Memory"),
+        ("%{D70}%{missing}", "DefinitionNotFound(\"missing\")"),
+        ("%{A:x[1]}%{A:x}%{A:x}%{D70}", "Memory"),
+        (
+            "%{A:x[1]}%{A:x}%{A:x}%{D70}%{missing}",
+            "GenericCompilationFailure(\"Alias x[1] already exists\")",
+        ),
+    ] {
+        match grok.compile(pattern, true) {
+            Ok(_) => assert!(rt; false, "a pattern at {pattern}"),
+            Err(error) => {
+                let shown = format!(in alloc; "{error:?}")?;
+                assert_eq!(rt; shown.as_str(), expected, "at {pattern}");
+            }
+        }
+    }
+    Ok(())
+}
