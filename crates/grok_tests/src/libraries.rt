@@ -1,14 +1,25 @@
 //! Libraries of definitions for tests.
 
-use grok::Grok;
+use grok::{Grok, patterns};
 use std::alloc::{AllocError, Global};
 
-/// The library of the words `NAME=TEXT`, which spaces separate, added in order.
+/// Adds the default definition of the name, or all ten for `*`.
+fn add_default(grok: &mut Grok, word: &str) -> Result<(), AllocError> {
+    for (name, text) in patterns() {
+        if word == "*" || *name == word {
+            grok.add_pattern(name, text)?;
+        }
+    }
+    Ok(())
+}
+
+/// The library of these words, which spaces separate: a word `NAME=TEXT` is added, and a word without a `=` names one of the ten default definitions, or all by `*`.
 pub fn library(alloc: Global, words: &str) -> Result<Grok, AllocError> {
     let mut grok = Grok::empty(alloc);
     for word in words.split(' ') {
-        if let Some((name, text)) = word.split_once("=") {
-            grok.add_pattern(name, text)?;
+        match word.split_once("=") {
+            Some((name, text)) => grok.add_pattern(name, text)?,
+            None => add_default(&mut grok, word)?,
         }
     }
     Ok(grok)
@@ -32,18 +43,6 @@ pub fn add_chain(
     grok.add_pattern(name.as_str(), last)
 }
 
-/// Adds D0, which stands for `a`, and D1 to D70, each of which stands for two of the one before.
-pub fn add_doublings(alloc: Global, grok: &mut Grok) -> Result<(), AllocError> {
-    grok.add_pattern("D0", "a")?;
-    for below in 0..70u32 {
-        let number = below.saturating_add(1);
-        let name = format!(in alloc; "D{number}")?;
-        let text = format!(in alloc; "%{{D{below}}}%{{D{below}}}")?;
-        grok.add_pattern(name.as_str(), text.as_str())?;
-    }
-    Ok(())
-}
-
 /// The library of one chain of so many links.
 pub fn chain(alloc: Global, letter: &str, count: u32, last: &str) -> Result<Grok, AllocError> {
     let mut grok = Grok::empty(alloc);
@@ -51,10 +50,16 @@ pub fn chain(alloc: Global, letter: &str, count: u32, last: &str) -> Result<Grok
     Ok(grok)
 }
 
-/// The library of the doublings.
-pub fn doublings(alloc: Global) -> Result<Grok, AllocError> {
-    let mut grok = Grok::empty(alloc);
-    add_doublings(alloc, &mut grok)?;
+/// The library of the words, with D0, which stands for `a`, and D1 to D70, each of which stands for two of the one before.
+pub fn doublings(alloc: Global, words: &str) -> Result<Grok, AllocError> {
+    let mut grok = library(alloc, words)?;
+    grok.add_pattern("D0", "a")?;
+    for below in 0..70u32 {
+        let number = below.saturating_add(1);
+        let name = format!(in alloc; "D{number}")?;
+        let text = format!(in alloc; "%{{D{below}}}%{{D{below}}}")?;
+        grok.add_pattern(name.as_str(), text.as_str())?;
+    }
     Ok(grok)
 }
 

@@ -1,4 +1,4 @@
-use crate::libraries::{add_chain, add_doublings, chain, doublings, library, repeated};
+use crate::libraries::{add_chain, chain, doublings, library, repeated};
 use grok::Fault::{Malformed, Missing, TooDeep};
 use grok::Measure::TooLong;
 use grok::parser::GrokPatternError::{InvalidCharacter, InvalidPattern, InvalidPatternDefinition};
@@ -297,7 +297,7 @@ fn a_finished_name_deeper_down(rt: HostRuntime) -> Result<(), Fail> {
 
 #[test]
 fn doubled_definitions(rt: HostRuntime) -> Result<(), Fail> {
-    let grok = doublings(rt.alloc())?;
+    let grok = doublings(rt.alloc(), "")?;
     for (pattern, with_alias_only, expected, looks) in [
         (
             "%{D10}",
@@ -380,7 +380,7 @@ fn turns_and_letters(alloc: Global, letters: u32) -> Result<String, AllocError> 
 /// The greatest length that there is, and one byte more.
 #[test]
 fn greatest_length(rt: HostRuntime) -> Result<(), Fail> {
-    let grok = doublings(rt.alloc())?;
+    let grok = doublings(rt.alloc(), "")?;
     for (letters, expected) in [
         (134, size(18446744073709551614, 0, 61)),
         (135, size(18446744073709551615, 0, 61)),
@@ -398,7 +398,7 @@ fn greatest_length(rt: HostRuntime) -> Result<(), Fail> {
 #[test]
 fn too_long_or_too_deep(rt: HostRuntime) -> Result<(), Fail> {
     let alloc = rt.alloc();
-    let mut grok = doublings(alloc)?;
+    let mut grok = doublings(alloc, "")?;
     add_chain(alloc, &mut grok, "K", 952, "%{D70}")?;
     let (measure, looks) = grok.measure_counted("%{D70}%{K1}", true)?;
     assert!(rt; measure == TooLong, "{measure:?}");
