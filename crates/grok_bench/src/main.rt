@@ -2,11 +2,12 @@
 //! same in each run, and standard error the microseconds.
 #![tactic(auto)]
 
+mod library;
 mod split;
 
 use anyhow::{Result, bail};
-use std::alloc::Global;
-use std::rt::Clock;
+use grok::Grok;
+use library::Findings;
 use std::time::Instant;
 use std::{env, io};
 
@@ -30,10 +31,34 @@ fn time_split(rt: &HostRuntime) -> Result<()> {
     Ok(())
 }
 
+/// Reads a library from standard input and adds its definitions.
+fn time_library(rt: &HostRuntime) -> Result<Grok> {
+    let lines = io::read_to_string(rt.alloc(), rt.stdin())?;
+    let start = Instant::now(rt)?;
+    let grok = library::from_lines(rt.alloc(), lines.as_str())?;
+    let time = start.elapsed(rt)?.as_micros();
+    eprintln!(rt; "add {time} us")?;
+    Ok(grok)
+}
+
+/// Measures a pattern over the library that stands on standard input.
+fn time_measure(rt: &HostRuntime, pattern: &str) -> Result<()> {
+    let grok = time_library(rt)?;
+    let start = Instant::now(rt)?;
+    let (measure, looks) = grok.measure_counted(pattern, false)?;
+    let time = start.elapsed(rt)?.as_micros();
+    eprintln!(rt; "measure {time} us")?;
+    println!(rt; "{}", Findings(measure, looks))?;
+    Ok(())
+}
+
 fn main(rt: HostRuntime) -> Result<()> {
     let words = read_words(&rt)?;
-    match words.first().map(|word| word.as_str()) {
-        Some("split") => time_split(&rt),
-        _ => bail!("usage: grok_bench split < PATTERN"),
+    let command = words.first().map(|word| word.as_str());
+    let pattern = words.get(1).map(|word| word.as_str());
+    match (command, pattern) {
+        (Some("split"), None) => time_split(&rt),
+        (Some("measure"), Some(pattern)) => time_measure(&rt, pattern),
+        _ => bail!("usage: grok_bench split < PATTERN | measure PATTERN < DEFINITIONS"),
     }
 }

@@ -20,6 +20,7 @@ macro_rules! twice {
 
 mod definitions;
 mod errors;
+mod measures;
 mod pieces;
 
 use anyhow::{Result, bail};
@@ -46,6 +47,9 @@ fn make_call(rt: &HostRuntime, name: &str) -> Result<()> {
         "clone" => definitions::clone(rt),
         "add_pattern_new" => definitions::add_pattern(rt, "NEW"),
         "add_pattern_again" => definitions::add_pattern(rt, "A"),
+        "measure" => measures::measure(rt),
+        "measure_counted" => measures::measure_counted(rt),
+        "measure_fault" => measures::measure_fault(rt),
         "error_clone_missing" => errors::clone_missing(rt),
         "error_clone_refused" => errors::clone_refused(rt),
         "error_clone_generic" => errors::clone_generic(rt),
