@@ -1,26 +1,36 @@
 //! The measure of a pattern.
-use anyhow::Result;
+use anyhow::{Result, bail};
 use grok::Grok;
 
-/// A pattern of two levels, whose measure remembers a name.
-fn two_levels(rt: &HostRuntime) -> Result<Grok> {
-    Ok(Grok::from_iter(rt.alloc(), &[("A", "a"), ("B", "%{A}%{A}")])?)
+pub fn call(rt: &HostRuntime, name: &str) -> Result<()> {
+    match name {
+        "measure" => measure(rt),
+        "counted" => counted(rt),
+        "fault" => fault(rt),
+        _ => bail!("no call has this name"),
+    }
 }
 
-pub fn measure(rt: &HostRuntime) -> Result<()> {
+/// Two definitions, one over the other, so that a measure remembers a name.
+fn two_levels(rt: &HostRuntime) -> Result<Grok> {
+    let pairs = [("A", "a"), ("B", "%{A}%{A}")];
+    Ok(Grok::from_iter(rt.alloc(), &pairs)?)
+}
+
+fn measure(rt: &HostRuntime) -> Result<()> {
     let grok = two_levels(rt)?;
     twice!(rt, grok.measure("%{B}", false));
     Ok(())
 }
 
-pub fn measure_counted(rt: &HostRuntime) -> Result<()> {
+fn counted(rt: &HostRuntime) -> Result<()> {
     let grok = two_levels(rt)?;
     twice!(rt, grok.measure_counted("%{B}", false));
     Ok(())
 }
 
-pub fn measure_fault(rt: &HostRuntime) -> Result<()> {
+fn fault(rt: &HostRuntime) -> Result<()> {
     let grok = two_levels(rt)?;
-    twice!(rt, grok.measure("%{B:k[0]}%{MISSING}", true));
+    twice!(rt, grok.measure("%{B:key[0]}%{MISSING}", true));
     Ok(())
 }
