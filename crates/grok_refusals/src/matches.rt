@@ -30,7 +30,7 @@ pub fn call(rt: &HostRuntime, name: &str) -> Result<()> {
     }
 }
 
-fn call_on_matches(rt: &HostRuntime, name: &str, matches: &Matches) -> Result<()> {
+fn call_on_matches<'m>(rt: &HostRuntime, name: &str, matches: &'m Matches<'m>) -> Result<()> {
     match name {
         "collect" => collect(rt, matches),
         "collect_map" => collect_map(rt, matches),
@@ -71,7 +71,7 @@ fn line_matcher(rt: &HostRuntime, pattern: &Pattern) -> Result<()> {
 }
 
 /// Asks one matcher twice. What a refused line left behind doesn't change the next answer.
-fn match_lines(rt: &HostRuntime, pattern: &Pattern, line: &str) -> Result<()> {
+fn match_lines<'t>(rt: &HostRuntime, pattern: &'t Pattern, line: &'t str) -> Result<()> {
     let mut matcher = pattern.line_matcher()?;
     twice!(rt, matcher.match_against(line));
     Ok(())
@@ -104,17 +104,17 @@ fn get_extract(rt: &HostRuntime, pattern: &Pattern) -> Result<()> {
     Ok(())
 }
 
-fn collect(rt: &HostRuntime, matches: &Matches) -> Result<()> {
+fn collect<'m>(rt: &HostRuntime, matches: &'m Matches<'m>) -> Result<()> {
     twice!(rt, matches.collect(rt.alloc()));
     Ok(())
 }
 
-fn collect_map(rt: &HostRuntime, matches: &Matches) -> Result<()> {
+fn collect_map<'m>(rt: &HostRuntime, matches: &'m Matches<'m>) -> Result<()> {
     twice!(rt, matches.collect_map(rt.alloc()));
     Ok(())
 }
 
-fn get(rt: &HostRuntime, matches: &Matches) -> Result<()> {
+fn get<'m>(rt: &HostRuntime, matches: &'m Matches<'m>) -> Result<()> {
     twice!(
         rt,
         (
@@ -126,7 +126,7 @@ fn get(rt: &HostRuntime, matches: &Matches) -> Result<()> {
     Ok(())
 }
 
-fn iter(rt: &HostRuntime, matches: &Matches) -> Result<()> {
+fn iter<'m>(rt: &HostRuntime, matches: &'m Matches<'m>) -> Result<()> {
     twice!(
         rt,
         {
@@ -137,7 +137,7 @@ fn iter(rt: &HostRuntime, matches: &Matches) -> Result<()> {
     Ok(())
 }
 
-fn into_iter(rt: &HostRuntime, matches: &Matches) -> Result<()> {
+fn into_iter<'m>(rt: &HostRuntime, matches: &'m Matches<'m>) -> Result<()> {
     twice!(
         rt,
         {
@@ -148,7 +148,7 @@ fn into_iter(rt: &HostRuntime, matches: &Matches) -> Result<()> {
     Ok(())
 }
 
-fn pattern_of(rt: &HostRuntime, matches: &Matches) -> Result<()> {
+fn pattern_of<'m>(rt: &HostRuntime, matches: &'m Matches<'m>) -> Result<()> {
     twice!(rt, matches.pattern());
     Ok(())
 }
