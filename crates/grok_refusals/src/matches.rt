@@ -30,7 +30,7 @@ pub fn call(rt: &HostRuntime, name: &str) -> Result<()> {
     }
 }
 
-fn call_on_matches<'m>(rt: &HostRuntime, name: &str, matches: &'m Matches<'m>) -> Result<()> {
+fn call_on_matches(rt: &HostRuntime, name: &str, matches: &Matches) -> Result<()> {
     match name {
         "collect" => collect(rt, matches),
         "collect_map" => collect_map(rt, matches),
@@ -104,17 +104,17 @@ fn get_extract(rt: &HostRuntime, pattern: &Pattern) -> Result<()> {
     Ok(())
 }
 
-fn collect<'m>(rt: &HostRuntime, matches: &'m Matches<'m>) -> Result<()> {
-    twice!(rt, matches.collect(rt.alloc()));
+fn collect(rt: &HostRuntime, matches: &Matches) -> Result<()> {
+    twice!(rt, (&*matches).collect(rt.alloc()));
     Ok(())
 }
 
-fn collect_map<'m>(rt: &HostRuntime, matches: &'m Matches<'m>) -> Result<()> {
-    twice!(rt, matches.collect_map(rt.alloc()));
+fn collect_map(rt: &HostRuntime, matches: &Matches) -> Result<()> {
+    twice!(rt, (&*matches).collect_map(rt.alloc()));
     Ok(())
 }
 
-fn get<'m>(rt: &HostRuntime, matches: &'m Matches<'m>) -> Result<()> {
+fn get(rt: &HostRuntime, matches: &Matches) -> Result<()> {
     twice!(
         rt,
         (
@@ -126,29 +126,29 @@ fn get<'m>(rt: &HostRuntime, matches: &'m Matches<'m>) -> Result<()> {
     Ok(())
 }
 
-fn iter<'m>(rt: &HostRuntime, matches: &'m Matches<'m>) -> Result<()> {
+fn iter(rt: &HostRuntime, matches: &Matches) -> Result<()> {
     twice!(
         rt,
         {
-            let mut pairs = matches.iter();
+            let mut pairs = (&*matches).iter();
             [pairs.next(), pairs.next(), pairs.next()]
         }
     );
     Ok(())
 }
 
-fn into_iter<'m>(rt: &HostRuntime, matches: &'m Matches<'m>) -> Result<()> {
+fn into_iter(rt: &HostRuntime, matches: &Matches) -> Result<()> {
     twice!(
         rt,
         {
-            let mut pairs = matches.into_iter();
+            let mut pairs = (&*matches).into_iter();
             [pairs.next(), pairs.next(), pairs.next()]
         }
     );
     Ok(())
 }
 
-fn pattern_of<'m>(rt: &HostRuntime, matches: &'m Matches<'m>) -> Result<()> {
+fn pattern_of(rt: &HostRuntime, matches: &Matches) -> Result<()> {
     twice!(rt, matches.pattern());
     Ok(())
 }
