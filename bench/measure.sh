@@ -29,7 +29,7 @@ measure_library() {
 # The row of a check of 1000 definitions: `check_library SHAPE`.
 check_library() {
     local words checking=''
-    mapfile -t words < <("$root/bench/make_library" "$1" 1000 | head -n 1000)
+    mapfile -t words < <("$root/bench/make_library" "$1" 1000 | sed -n 1,1000p)
     for ((round = 0; round < rounds; round++)); do
         time_once /dev/null "$room/answer" "$grok_tool" check "${words[@]}"
         checking=$(least "$checking" "$took")
