@@ -27,6 +27,24 @@ time_once() {
     took=$((end - start))
 }
 
+# The microseconds that grok_bench tells of a step of its last run: `told STEP`.
+told() {
+    sed -n "s/^$1 \([0-9]*\) us\$/\1/p" "$room/complaint"
+}
+
+# The smaller of two numbers, of which the first may be empty: `least A B`.
+least() {
+    [ -n "$1" ] && [ "$1" -le "$2" ] && echo "$1" || echo "$2"
+}
+
+# The greatest resident set of a command, in KiB: `peak INPUT WORD..`. GNU time has the smallest floor of its own.
+peak() {
+    local input=$1
+    shift
+    /usr/bin/time -f %M -o "$room/peak" "$@" <"$input" >/dev/null 2>"$room/complaint"
+    cat "$room/peak"
+}
+
 # The first word over the second, with so many places: `ratio A B [PLACES]`.
 ratio() {
     awk -v a="$1" -v b="$2" -v places="${3:-2}" 'BEGIN { if (b == 0) print "-"; else printf "%.*f", places, a / b }'

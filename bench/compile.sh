@@ -14,21 +14,19 @@ wide() {
     seq -f '%%{WORD:key%g}' "$1" | paste -sd' ' | sed 's/^/TOP=/'
 }
 
-echo "Machine: $(machine)."
+echo "The fastest of $rounds runs; $(machine)."
 echo
-echo "| Placeholders | \`compile\`, ms | of it \`measure\`, ms | Times the row above | Answer |"
+echo "| Placeholders | \`compile\`, ms | \`measure\` alone, ms | \`compile\` to the row above | Answer |"
 echo "|---|---|---|---|---|"
-before=''
+before=0
 for count in "$@"; do
     wide "$count" >"$room/library"
-    best='' measuring=''
+    compiling='' measuring=''
     for ((round = 0; round < rounds; round++)); do
         time_once "$room/library" "$room/answer" "$grok_bench" compile '%{TOP}'
-        own=$(sed -n 's/^compile \([0-9]*\) us$/\1/p' "$room/complaint")
-        size=$(sed -n 's/^measure \([0-9]*\) us$/\1/p' "$room/complaint")
-        [ -n "$best" ] && [ "$best" -le "$own" ] || best=$own
-        [ -n "$measuring" ] && [ "$measuring" -le "$size" ] || measuring=$size
+        compiling=$(least "$compiling" "$(told compile)") measuring=$(least "$measuring" "$(told measure)")
     done
-    echo "| $count | $(ratio "$best" 1000) | $(ratio "$measuring" 1000) | $([ -z "$before" ] && echo - || ratio "$best" "$before") | $(head -c 80 "$room/answer") |"
-    before=$best
+    echo "| $count | $(ratio "$compiling" 1000) | $(ratio "$measuring" 1000) | $(ratio "$compiling" "$before")" \
+        "| $(tail -n 1 "$room/answer" | head -c 80) |"
+    before=$compiling
 done

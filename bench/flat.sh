@@ -1,21 +1,15 @@
 #!/usr/bin/env bash
 # The greatest memory that `match -a` and `json -a` take, for logs of growing length. It must not grow with the lines.
 #
-#   bench/flat.sh [LINES..]       20000 200000 2000000 where no number is given
+#   bench/flat.sh [LINES..]       10000 100000 1000000 where no number is given
 set -euo pipefail
 source "$(dirname "$0")/common.sh"
 grok_tool=$(program grok_tool)
-[ $# -gt 0 ] || set -- 20000 200000 2000000
-
-# The greatest resident set of a command, in KiB: `peak INPUT WORD..`. GNU time has the smallest floor of its own.
-peak() {
-    local input=$1
-    shift
-    /usr/bin/time -f %M -o "$room/peak" "$@" <"$input" >/dev/null
-    cat "$room/peak"
-}
+[ $# -gt 0 ] || set -- 10000 100000 1000000
 
 mapfile -t words <"$root/bench/patterns/apache"
+echo "The greatest resident set, \`apache\` on its own log; $(machine)."
+echo
 echo "| Lines | \`match -a\`, KiB | \`json -a\`, KiB |"
 echo "|---|---|---|"
 for lines in "$@"; do

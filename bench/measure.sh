@@ -10,38 +10,40 @@ grok_tool=$(program grok_tool)
 rounds=3
 [ $# -gt 0 ] || set -- 1000 10000 100000
 
-# The microseconds that grok_bench tells of a step: `told STEP`.
-told() {
-    sed -n "s/^$1 \([0-9]*\) us\$/\1/p" "$room/complaint"
+# The row of a library: `measure_library SHAPE COUNT`.
+measure_library() {
+    local adding='' measuring='' pieces floor memory
+    "$root/bench/make_library" "$1" "$2" >"$room/library"
+    for ((round = 0; round < rounds; round++)); do
+        time_once "$room/library" "$room/answer" "$grok_bench" measure '%{TOP}'
+        adding=$(least "$adding" "$(told add)") measuring=$(least "$measuring" "$(told measure)")
+    done
+    pieces=$(sed -n 's/.*pieces \([0-9]*\).*/\1/p' "$room/answer")
+    # The lines themselves are read whole in both runs.
+    floor=$(peak "$room/library" "$grok_bench" split)
+    memory=$((($(peak "$room/library" "$grok_bench" measure "%{TOP}") - floor) * 1024 / $2))
+    echo "| $1 | $2 | $(stat -c %s "$room/library") | $(ratio "$adding" 1000) | $(ratio "$measuring" 1000) | $pieces" \
+        "| $(ratio "$((measuring * 1000))" "$pieces" 0) | $memory | $(sed 's/ pieces.*//' "$room/answer") |"
 }
 
-# The greatest resident set of the last run under GNU time, in KiB.
-peak() {
-    local input=$1
-    shift
-    /usr/bin/time -f %M -o "$room/peak" "$@" <"$input" >/dev/null 2>&1
-    cat "$room/peak"
+# The row of a check of 1000 definitions: `check_library SHAPE`.
+check_library() {
+    local words checking=''
+    mapfile -t words < <("$root/bench/make_library" "$1" 1000 | sed -n 1,1000p)
+    for ((round = 0; round < rounds; round++)); do
+        time_once /dev/null "$room/answer" "$grok_tool" check "${words[@]}"
+        checking=$(least "$checking" "$took")
+    done
+    echo "| $1 | $(ratio "$checking" 1000) | $(wc -l <"$room/answer") |"
 }
 
-echo "Machine: $(machine)."
+echo "The fastest of $rounds runs; $(machine)."
 echo
 echo "| Library | Definitions | Bytes | \`add_pattern\` of all, ms | \`measure\`, ms | Pieces looked at | ns a piece | Memory a definition, bytes | Answer |"
 echo "|---|---|---|---|---|---|---|---|---|"
 for shape in chain comb doubling random; do
     for count in "$@"; do
-        "$root/bench/make_library" "$shape" "$count" >"$room/library"
-        adding='' measuring=''
-        for ((round = 0; round < rounds; round++)); do
-            time_once "$room/library" "$room/answer" "$grok_bench" measure '%{TOP}'
-            [ -n "$adding" ] && [ "$adding" -le "$(told add)" ] || adding=$(told add)
-            [ -n "$measuring" ] && [ "$measuring" -le "$(told measure)" ] || measuring=$(told measure)
-        done
-        pieces=$(sed -n 's/.*pieces \([0-9]*\).*/\1/p' "$room/answer")
-        # The lines themselves are read whole in both runs.
-        floor=$(peak "$room/library" "$grok_bench" split)
-        memory=$((($(peak "$room/library" "$grok_bench" measure "%{TOP}") - floor) * 1024 / count))
-        echo "| $shape | $count | $(stat -c %s "$room/library") | $(ratio "$adding" 1000) | $(ratio "$measuring" 1000) | $pieces" \
-            "| $(ratio "$((measuring * 1000))" "$pieces" 0) | $memory | $(sed 's/ pieces.*//' "$room/answer") |"
+        measure_library "$shape" "$count"
     done
 done
 
@@ -49,11 +51,5 @@ echo
 echo '| `grok_tool check` of 1000 definitions | ms, with the start of the program | Lines |'
 echo '|---|---|---|'
 for shape in chain comb doubling random; do
-    mapfile -t words < <("$root/bench/make_library" "$shape" 1000 | head -n 1000)
-    best=''
-    for ((round = 0; round < rounds; round++)); do
-        time_once /dev/null "$room/answer" "$grok_tool" check "${words[@]}"
-        [ -n "$best" ] && [ "$best" -le "$took" ] || best=$took
-    done
-    echo "| $shape | $(ratio "$best" 1000) | $(wc -l <"$room/answer") |"
+    check_library "$shape"
 done

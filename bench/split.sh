@@ -9,7 +9,7 @@ grok_bench=$(program grok_bench)
 rounds=3
 [ $# -gt 0 ] || set -- 1 10 100
 
-echo "Machine: $(machine)."
+echo "The fastest of $rounds runs; $(machine)."
 echo
 echo "| Text | Pieces | Split alone, MB/s | With reading, MB/s | \`grep -c '%{'\`, MB/s | Split alone to grep |"
 echo "|---|---|---|---|---|---|"
@@ -19,11 +19,10 @@ for megabytes in "$@"; do
     alone='' whole='' grep=''
     for ((round = 0; round < rounds; round++)); do
         time_once "$room/text" "$room/pieces" "$grok_bench" split
-        own=$(sed -n 's/^split \([0-9]*\) us$/\1/p' "$room/complaint")
-        [ -n "$alone" ] && [ "$alone" -le "$own" ] || alone=$own
-        [ -n "$whole" ] && [ "$whole" -le "$took" ] || whole=$took
+        alone=$(least "$alone" "$(told split)") whole=$(least "$whole" "$took")
         time_once "$room/text" "$room/count" grep -c '%{'
-        [ -n "$grep" ] && [ "$grep" -le "$took" ] || grep=$took
+        grep=$(least "$grep" "$took")
     done
-    echo "| $megabytes MB | $(awk '{ print $2 + $4 + $6 }' "$room/pieces") | $(ratio "$bytes" "$alone" 0) | $(ratio "$bytes" "$whole" 0) | $(ratio "$bytes" "$grep" 0) | $(ratio "$grep" "$alone") |"
+    echo "| $megabytes MB | $(awk '{ print $2 + $4 + $6 }' "$room/pieces") | $(ratio "$bytes" "$alone" 0)" \
+        "| $(ratio "$bytes" "$whole" 0) | $(ratio "$bytes" "$grep" 0) | $(ratio "$grep" "$alone") |"
 done

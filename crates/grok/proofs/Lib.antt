@@ -46,3 +46,4 @@ pub mod TreeFaults
 pub mod MeasuredCases
 pub mod Compiling
 pub mod WalkLaws
+pub mod GreatestGroups

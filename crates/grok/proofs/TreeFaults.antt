@@ -1,14 +1,15 @@
 -- What placeholders stand for, and what a tree's first fault depends on.
 use Rattle.std.proofs.Common.{◌≡◌, ℕ, zero, suc, ◌+◌, Bool, true, false, cond, ◌&&◌, List, [], ◌∷◌, ◌++◌, length, Option, Some, None, refl, sym, ◌∙◌, ap, subst, ◌⊎◌, inl, inr, arith, ◌^◌, length-append}
-use Rattle.std.specs.Prelude.{not, nat_lt, slice_get}
+use Rattle.std.specs.Prelude.{codes, not, nat_lt, slice_get}
 use Rattle.std.specs.Str.{bytes_eq}
 use Rattle.std.proofs.lemmas.Bool.{true≢false, false_from_ne_true}
 use Rattle.std.proofs.lemmas.Slice.Eq.{bytes_eq-Decides}
 use Rattle.grok.specs.Pieces.{Parts, Piece, Regular, Placeholder, Malformed, pieces}
-use Rattle.grok.specs.Tree.{Definitions, no_definitions, with_written, is_absent, Fault, BadPiece, Missing, TooDeep, Label, label_of, Meaning, Inline, Stored, opened, placeholder_item, items_after, items_of, Item, Bytes, Broken, Opening, Event, Text, Open, Close, Fails, events, inside, tree_within, tree, first_structural, reached}
-use Rattle.grok.specs.Measured.{Measured, Faulty, Sized, PastLimit, size_within, fault_or, measured_tree, reaches}
-use Rattle.grok.specs.Expanded.{expanded, groups, nesting}
-use Rattle.grok.specs.TreeLaws.{NoneDefines, OwnDefinitionHolds, EarlierDefinitionHolds, StoredDefinitionHolds, IsUnused, UnusedDefinitionsDoNotMatter, ModesFaultAlike}
+use Rattle.grok.specs.Tree.{Definitions, no_definitions, with_written, is_absent, Fault, Missing, Label, label_of, Inline, Stored, opened, placeholder_item, items_after, items_of, Item, Event, Text, Open, Close, Fails, events, inside, tree, first_structural, reached}
+use Rattle.grok.specs.Measured.{Faulty, Sized, PastLimit, size_within, fault_or, reaches}
+use Rattle.grok.specs.Expanded.{text_after, expanded, groups, nesting}
+use Rattle.grok.specs.Keys.{numeral, is_recorded}
+use Rattle.grok.specs.TreeLaws.{NoneDefines, OwnDefinitionHolds, EarlierDefinitionHolds, StoredDefinitionHolds, IsUnused, UnusedDefinitionsDoNotMatter, ModesFaultAlike, Unnamed, Numbered, IsTextOf, HeadsAloneDiffer}
 use Rattle.grok.proofs.TreeSizes.{first_structural-append, or_else}
 use Rattle.grok.proofs.Meeting.{reaches_left, reaches_right, reaches_head, reaches_tail}
 
@@ -218,4 +219,19 @@ modes_fault_alike tree mode other fault e = go (first_structural tree) e
     go (Some f) e = e
     go None e = absurd (not_fault (length (expanded mode tree)) (groups mode tree) (nesting tree) fault e)
 
-pub ruleset tree_laws = (own_definition_holds, earlier_definition_holds, stored_definition_holds, unused_definitions_do_not_matter, modes_fault_alike)
+written_fits : (alias_only : Bool) (count : ℕ) (es : List Event) → IsTextOf es (text_after alias_only count es)
+written_fits alias_only count [] = refl
+written_fits alias_only count (Text text ∷ es) = (text_after alias_only count es, refl, written_fits alias_only count es)
+written_fits alias_only count (Close ∷ es) = (text_after alias_only count es, refl, written_fits alias_only count es)
+written_fits alias_only count (Fails fault ∷ es) = written_fits alias_only count es
+written_fits alias_only count (Open label meaning ∷ es) = go (is_recorded alias_only label) (written_fits alias_only (suc count) es) (written_fits alias_only count es)
+  where
+    go : (b : Bool) → IsTextOf es (text_after alias_only (suc count) es) → IsTextOf es (text_after alias_only count es)
+        → IsTextOf (Open label meaning ∷ es) (cond b (codes "(?<_n_" ++ numeral count ++ codes ">" ++ text_after alias_only (suc count) es) (codes "(?:" ++ text_after alias_only count es))
+    go true next same = (codes "(?<_n_" ++ numeral count ++ codes ">", text_after alias_only (suc count) es, Numbered count, refl, next)
+    go false next same = (codes "(?:", text_after alias_only count es, Unnamed, refl, same)
+
+pub heads_alone_differ : HeadsAloneDiffer
+heads_alone_differ alias_only tree = written_fits alias_only 0 tree
+
+pub ruleset tree_laws = (own_definition_holds, earlier_definition_holds, stored_definition_holds, unused_definitions_do_not_matter, modes_fault_alike, heads_alone_differ)

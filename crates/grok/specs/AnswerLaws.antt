@@ -1,10 +1,10 @@
 -- THE LAWS of key tables and of answers.
-use Rattle.std.specs.Prelude.{◌≡◌, ◌≢◌, ◌↔◌, ℕ, ◌<◌, List, Option, Some, Contains, filter, is_some, length, slice_index_or, []}
+use Rattle.std.specs.Prelude.{◌≡◌, ◌≢◌, ◌↔◌, ℕ, ◌<◌, List, Option, Some, Contains, filter, is_some, length, slice_get, slice_index_or, [], MatchOption}
 use Rattle.std.specs.List.Sorted.{IsStrictlySortedBy}
 use Rattle.std.specs.Map.{keys_of}
 use Rattle.std.specs.Cmp.Lexicographic.{slice_cmp}
 use Rattle.std.specs.Ordering.{nat_cmp}
-use Rattle.grok.specs.KeyTable.{Entries, generated, meant_key}
+use Rattle.grok.specs.KeyTable.{Entries, generated, meant_key, group_of}
 use Rattle.grok.specs.Answers.{answer_of, walk}
 
 -- the keys of a table stand in byte order, each once
@@ -28,3 +28,14 @@ GeneratedNamesMeanTheirKeys = (keys : List (List ℕ)) (number : ℕ) → number
 -- any other name means itself
 abbrev pub OtherNamesMeanThemselves : Type 0
 OtherNamesMeanThemselves = (keys : List (List ℕ)) (name : List ℕ) → ((number : ℕ) → number < length keys → name ≢ generated number) → meant_key keys name ≡ name
+
+-- the name of a group means the key
+abbrev pub NameMeans : List (List ℕ) → List (Option (List ℕ)) → List ℕ → ℕ → Type 0
+NameMeans keys names key group = (name : List ℕ) × (slice_get names group ≡ Some (Some name)) × (meant_key keys name ≡ key)
+
+-- the group of a key is the greatest whose name means it, and where a key has no group no name means it
+abbrev pub GroupsAreTheGreatest : Type 0
+GroupsAreTheGreatest = (keys : List (List ℕ)) (names : List (Option (List ℕ))) (key : List ℕ)
+    → MatchOption (group_of keys names key)
+    ((group : ℕ) → ¬ NameMeans keys names key group)
+    (λ group. NameMeans keys names key group × ((later : ℕ) → group < later → ¬ NameMeans keys names key later))

@@ -1,8 +1,10 @@
 -- Laws of what placeholders stand for, and of the faults of a tree.
-use Rattle.std.specs.Prelude.{◌≡◌, ◌⊎◌, ℕ, suc, ◌+◌, Bool, true, false, List, [], ◌∷◌, ◌++◌, length, Option, Some, None, slice_get}
+use Rattle.std.specs.Prelude.{codes, ◌≡◌, ◌⊎◌, ℕ, suc, ◌+◌, Bool, true, false, List, [], ◌∷◌, ◌++◌, length, Some, None, slice_get}
 use Rattle.grok.specs.Pieces.{Parts, Piece, Regular, Placeholder, Malformed, pieces}
-use Rattle.grok.specs.Tree.{Definitions, is_absent, Fault, Missing, label_of, Inline, opened, Opening, items_of, Event, tree, first_structural, reached}
-use Rattle.grok.specs.Measured.{Measured, Faulty, measured_tree, reaches}
+use Rattle.grok.specs.Tree.{Definitions, is_absent, Fault, Missing, label_of, Inline, opened, Opening, items_of, Event, Text, Open, Close, Fails, tree, first_structural, reached}
+use Rattle.grok.specs.Keys.{numeral}
+use Rattle.grok.specs.Expanded.{expanded}
+use Rattle.grok.specs.Measured.{Faulty, measured_tree, reaches}
 
 -- ---- definitions that are written in a text
 
@@ -46,3 +48,20 @@ UnusedDefinitionsDoNotMatter = (stored other : Definitions) (pattern : List ℕ)
 -- both modes answer the same faults
 abbrev pub ModesFaultAlike : Type 0
 ModesFaultAlike = (tree : List Event) (mode other : Bool) (fault : Fault) → measured_tree mode tree ≡ Faulty fault → measured_tree other tree ≡ Faulty fault
+
+-- the head of a group: unnamed, or named by a number
+pub data IsHead : List ℕ → Type 0 where
+  Unnamed : IsHead (codes "(?:")
+  Numbered : (number : ℕ) → IsHead (codes "(?<_n_" ++ numeral number ++ codes ">")
+
+-- the text is what the events write, where each open writes a head of either kind
+abbrev pub IsTextOf : List Event → List ℕ → Type 0
+IsTextOf [] text = text ≡ []
+IsTextOf (Text bytes ∷ events) text = (rest : List ℕ) × (text ≡ bytes ++ rest) × IsTextOf events rest
+IsTextOf (Close ∷ events) text = (rest : List ℕ) × (text ≡ codes ")" ++ rest) × IsTextOf events rest
+IsTextOf (Fails fault ∷ events) text = IsTextOf events text
+IsTextOf (Open label meaning ∷ events) text = (head rest : List ℕ) × IsHead head × (text ≡ head ++ rest) × IsTextOf events rest
+
+-- so the texts of both modes differ in the heads of their groups alone
+abbrev pub HeadsAloneDiffer : Type 0
+HeadsAloneDiffer = (alias_only : Bool) (tree : List Event) → IsTextOf tree (expanded alias_only tree)

@@ -5,6 +5,7 @@ ghost use Rattle.std.specs.Str.{bytes_eq};
 ghost use Rattle.std.specs.FinMap as finite;
 ghost use Rattle.grok.specs.Pieces.{pieces};
 ghost use Rattle.grok.specs.Tree.{no_definitions, items_of, items_after, is_absent, opened};
+ghost use Rattle.grok.specs.Keys.{is_recorded};
 ghost use Rattle.grok.specs.Items.{item_view, label_view, written_in};
 ghost use Rattle.std.specs.Borrow.{Bor};
 
@@ -23,6 +24,15 @@ pub(crate) struct Label<'a> {
     pub name: &'a str,
     pub alias: &'a str,
     pub extract: &'a str,
+}
+
+impl Label<'_> {
+    /// Whether the placeholder gets a key: in alias-only mode one without an alias gets none.
+    pub fn is_recorded(self, with_alias_only: bool) -> bool
+        ensures { result ≡ is_recorded with_alias_only (label_view self.entry) }
+    {
+        !(with_alias_only && self.alias.is_empty())
+    }
 }
 
 /// What a placeholder stands for.

@@ -9,6 +9,10 @@ ghost use Rattle.grok.specs.Named.{NoneNames};
 ghost use Rattle.grok.specs.Pieces.{Piece, Parts, Placeholder, Malformed, pieces, is_brace};
 ghost use Rattle.grok.specs.Tiles.{Tile};
 
+pub mod answers;
+pub mod keys;
+pub mod tree;
+
 use crate::parser::GrokPatternError;
 
 /// Laws of the pieces of a text.

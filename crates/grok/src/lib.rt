@@ -1,14 +1,12 @@
-// Grok patterns.
+//! Grok patterns: regular expressions with placeholders, and the named parts of the lines that they match.
 #![tactic(auto)]
 
-pub mod answer_laws;
 mod compile;
 pub mod defs;
 mod engine;
 mod errors;
 mod expand;
 mod items;
-pub mod key_laws;
 mod key_table;
 pub mod laws;
 mod line_matcher;
@@ -16,7 +14,6 @@ mod matches;
 mod measure;
 pub mod parser;
 mod structural;
-pub mod tree_laws;
 
 pub use defs::{Grok, patterns};
 pub use engine::kept::{KeepsSearch, RegexSearch, Search};

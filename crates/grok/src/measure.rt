@@ -1,7 +1,7 @@
 //! The size of what a pattern stands for, without expanding it.
 ghost use Rattle.std.specs.Prelude.{◌≡◌, ℕ, ◌+◌, ◌<◌, ◌≤◌, ◌^◌, max, [], ◌∷◌, Option, Result, option_map, OnOk, IfOk, IfSome, MatchOption, None as nothing};
 ghost use Rattle.grok.specs.Tree.{Fault as ItemFault, reached};
-ghost use Rattle.grok.specs.Keys.{is_recorded, ends_in_bracket, has_bracket};
+ghost use Rattle.grok.specs.Keys.{ends_in_bracket, has_bracket};
 ghost use Rattle.grok.specs.Sizes.{Size, plus, bracketed as bracket, wrapped, length_of, places_from, size_of_bytes};
 ghost use Rattle.grok.specs.Remembered.{State, Answer, inlined, labelled, with_mark, by_mark, nothing_met, visit as visited, look_within, item_within};
 ghost use Rattle.grok.specs.Measured.{tree_of, HasNoFault, measured_tree, size_within, counted, reached_pieces, reached_texts};
@@ -110,13 +110,6 @@ fn sum_of_bytes(text: &str) -> Sum
     }
 }
 
-/// Whether the placeholder's key is given.
-fn is_recorded(label: Label<'_>, with_alias_only: bool) -> bool
-    ensures { result ≡ is_recorded with_alias_only (label_view label.entry) }
-{
-    !(with_alias_only && label.alias.is_empty())
-}
-
 /// Whether the alias ends in `]`.
 fn ends_in_bracket(alias: &str) -> bool
     ensures { result ≡ ends_in_bracket alias.now }
@@ -131,7 +124,7 @@ fn bracketed(label: Label<'_>, with_alias_only: bool, inner: Sum) -> Sum
     ensures brackets { (z : Size) → inner ≡ shown z →
         result ≡ shown (bracket with_alias_only (label_view label.entry) z) }
 {
-    let (bytes, groups) = if is_recorded(label, with_alias_only) {
+    let (bytes, groups) = if label.is_recorded(with_alias_only) {
         (8, 1)
     } else {
         (4, 0)

@@ -1,7 +1,8 @@
 //! Calls on libraries of definitions.
 use crate::LABELS;
-use anyhow::Result;
+use anyhow::{Result, bail};
 use grok::Grok;
+use grok_engines::Heads;
 
 /// Three definitions, of which two have one name.
 const PAIRS: [(&str, &str); 3] = [
@@ -10,47 +11,77 @@ const PAIRS: [(&str, &str); 3] = [
     ("A", "(?:a|é)%{C=c}"),
 ];
 
-pub fn empty(rt: &HostRuntime) -> Result<()> {
+/// Patterns over them, and over a name that is still to be added.
+const PATTERNS: [&str; 3] = ["%{A}", "%{B:key}-%{A}", "%{NEW}"];
+
+pub fn call(rt: &HostRuntime, name: &str) -> Result<()> {
+    match name {
+        "empty" => empty(rt),
+        "patterns" => patterns(rt),
+        "with_default_patterns" => with_default_patterns(rt),
+        "default" => default(rt),
+        "from_iter" => from_iter(rt),
+        "clone" => clone(rt),
+        "add_new" => add_pattern(rt, "NEW"),
+        "add_again" => add_pattern(rt, "A"),
+        _ => bail!("no call has this name"),
+    }
+}
+
+fn empty(rt: &HostRuntime) -> Result<()> {
     twice!(rt, Grok::empty(rt.alloc()));
     Ok(())
 }
 
-pub fn patterns(rt: &HostRuntime) -> Result<()> {
+fn patterns(rt: &HostRuntime) -> Result<()> {
     twice!(rt, grok::patterns());
     Ok(())
 }
 
-pub fn with_default_patterns(rt: &HostRuntime) -> Result<()> {
+fn with_default_patterns(rt: &HostRuntime) -> Result<()> {
     twice!(rt, Grok::with_default_patterns(rt.alloc()));
     Ok(())
 }
 
-pub fn default(rt: &HostRuntime) -> Result<()> {
+fn default(rt: &HostRuntime) -> Result<()> {
     twice!(rt, Grok::default(rt.alloc()));
     Ok(())
 }
 
-pub fn from_iter(rt: &HostRuntime) -> Result<()> {
+fn from_iter(rt: &HostRuntime) -> Result<()> {
     twice!(rt, Grok::from_iter(rt.alloc(), &PAIRS));
     Ok(())
 }
 
-pub fn clone(rt: &HostRuntime) -> Result<()> {
+fn clone(rt: &HostRuntime) -> Result<()> {
     let grok = Grok::from_iter(rt.alloc(), &PAIRS)?;
     twice!(rt, grok.clone());
     Ok(())
 }
 
-/// Gives the name a definition, and shows after each call what all names stand for.
-pub fn add_pattern(rt: &HostRuntime, name: &str) -> Result<()> {
+/// Shows what all names stand for, and what the patterns measure and compile to.
+fn show_library(rt: &HostRuntime, when: &str, grok: &Grok) -> Result<()> {
+    println!(rt; "{when}: {grok:?}")?;
+    'patterns: for pattern in PATTERNS {
+        let measure = grok.measure(pattern, false);
+        println!(rt; "{when}: {measure:?}")?;
+        let compiled = grok.compile_with::<Heads>(pattern, false);
+        println!(rt; "{when}: {compiled:?}")?;
+    }
+    Ok(())
+}
+
+/// Gives the name a definition, and shows before it and after each call what stands.
+fn add_pattern(rt: &HostRuntime, name: &str) -> Result<()> {
     let mut grok = Grok::from_iter(rt.alloc(), &PAIRS)?;
-    println!(rt; "before: {grok:?}")?;
+    show_library(rt, "before", &grok)?;
     'calls: for label in LABELS {
         eprintln!(rt; "[call")?;
-        let answer = grok.add_pattern(name, "x%{C}%{D:key:int=d}");
+        let answer = grok.add_pattern(name, "x%{C=c}%{D:key:int=d}");
         eprintln!(rt; "[done")?;
         println!(rt; "{label}: {answer:?}")?;
-        println!(rt; "after {label}: {grok:?}")?;
+        let when = format!(in rt.alloc(); "after {label}")?;
+        show_library(rt, when.as_str(), &grok)?;
     }
     Ok(())
 }

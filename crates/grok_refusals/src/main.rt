@@ -1,6 +1,6 @@
-//! Makes one call of the library, the one that the first word names, and makes it again. `tests/refusals/run` refuses
-//! it each request for memory in turn. The first call stands between the lines `[call` and `[done` on standard error,
-//! so that no request of the preparations is counted; standard output has the answers.
+//! Makes one call of the library, the one that the words name, and makes it again. `tests/refusals/run` refuses it each
+//! request for memory in turn. The first call stands between the lines `[call` and `[done` on standard error, so that no
+//! request of the preparations is counted; standard output has the answers.
 #![tactic(auto)]
 
 /// The names of the two calls.
@@ -18,8 +18,12 @@ macro_rules! twice {
     };
 }
 
+mod compiles;
 mod definitions;
+mod engines;
 mod errors;
+mod matches;
+mod measures;
 mod pieces;
 
 use anyhow::{Result, bail};
@@ -34,31 +38,26 @@ fn read_words(rt: &HostRuntime) -> Result<Vec<String>> {
     Ok(words)
 }
 
-/// Makes the call of this name.
-fn make_call(rt: &HostRuntime, name: &str) -> Result<()> {
-    match name {
-        "grok_split" => pieces::split(rt),
-        "empty" => definitions::empty(rt),
-        "patterns" => definitions::patterns(rt),
-        "with_default_patterns" => definitions::with_default_patterns(rt),
-        "default" => definitions::default(rt),
-        "from_iter" => definitions::from_iter(rt),
-        "clone" => definitions::clone(rt),
-        "add_pattern_new" => definitions::add_pattern(rt, "NEW"),
-        "add_pattern_again" => definitions::add_pattern(rt, "A"),
-        "error_clone_missing" => errors::clone_missing(rt),
-        "error_clone_refused" => errors::clone_refused(rt),
-        "error_clone_generic" => errors::clone_generic(rt),
-        "error_clone_empty" => errors::clone_empty(rt),
-        "error_clone_depth" => errors::clone_depth(rt),
-        _ => bail!("no call has this name"),
+/// Makes the call of this name, of those of a group.
+fn make_call(rt: &HostRuntime, group: &str, name: &str) -> Result<()> {
+    match group {
+        "pieces" => pieces::call(rt, name),
+        "definitions" => definitions::call(rt, name),
+        "measures" => measures::call(rt, name),
+        "errors" => errors::call(rt, name),
+        "engines" => engines::call(rt, name),
+        "compiles" => compiles::call(rt, name),
+        "matches" => matches::call(rt, name),
+        _ => bail!("no calls have this name"),
     }
 }
 
 fn main(rt: HostRuntime) -> Result<()> {
     let words = read_words(&rt)?;
-    match words.first() {
-        Some(word) => make_call(&rt, word.as_str()),
-        None => bail!("usage: grok_refusals CALL"),
+    let group = words.first().map(|word| word.as_str());
+    let name = words.get(1).map(|word| word.as_str());
+    match (group, name) {
+        (Some(group), Some(name)) => make_call(&rt, group, name),
+        _ => bail!("usage: grok_refusals CALLS CALL"),
     }
 }

@@ -1,8 +1,15 @@
 //! The splitter, which takes no memory.
-use anyhow::Result;
+use anyhow::{Result, bail};
 use grok::parser;
 
 const PATTERN: &str = "Hello, %{name:alias[x]:extract=definition}! 100% %%{x} é%{b c}";
+
+pub fn call(rt: &HostRuntime, name: &str) -> Result<()> {
+    match name {
+        "split" => split(rt),
+        _ => bail!("no call has this name"),
+    }
+}
 
 fn count_pieces() -> u64 {
     let mut count = 0u64;
@@ -19,7 +26,7 @@ fn show_pieces(rt: &HostRuntime) -> Result<()> {
     Ok(())
 }
 
-pub fn split(rt: &HostRuntime) -> Result<()> {
+fn split(rt: &HostRuntime) -> Result<()> {
     twice!(rt, count_pieces());
     show_pieces(rt)
 }

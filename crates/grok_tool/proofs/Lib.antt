@@ -4,3 +4,5 @@ pub mod LineLemmas
 pub mod Steps
 pub mod Objects
 pub mod Utf8Lines
+pub mod Equals
+pub mod Named

@@ -1,6 +1,6 @@
 -- The words of a command line, and the command that they are.
 use Rattle.std.specs.Prelude.{ℕ, Bool, true, false, ◌==◌, List, [], ◌∷◌, map, Option, Some, None, if◌then◌else◌, codes}
-use Rattle.std.specs.Option.{option_map, option_and_then}
+use Rattle.std.specs.Option.{option_map}
 use Rattle.std.specs.List.{list_any, list_all, before_first, after_first}
 use Rattle.std.specs.Str.{bytes_eq}
 use Rattle.std.specs.Borrow.{Bor}
@@ -77,17 +77,3 @@ command_of (name ∷ words) =
     else (if bytes_eq name (codes "json") then option_map Json (request_of words)
     else (if bytes_eq name (codes "check") then check_of words
     else None))))
-
--- The commands that are there already.
-abbrev pub is_there : CommandValue → Bool
-is_there (Split pattern) = true
-is_there (Measure request) = false
-is_there (Match request) = false
-is_there (Json request) = false
-is_there (Check alias_only definitions) = false
-
-abbrev pub if_there : CommandValue → Option CommandValue
-if_there command = if is_there command then Some command else None
-
-abbrev pub present_command_of : List (List ℕ) → Option CommandValue
-present_command_of words = option_and_then if_there (command_of words)

@@ -5,6 +5,8 @@ pub mod Split
 pub mod Faults
 pub mod JsonObjects
 pub mod LineTexts
+pub mod Library
+pub mod SizeTexts
 pub mod Runs
 pub mod Lines
 pub mod Traffic

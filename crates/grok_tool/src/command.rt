@@ -1,29 +1,10 @@
 //! The words of a command line.
-ghost use Rattle.std.specs.Prelude.{◌≡◌, IfOk};
-ghost use Rattle.std.specs.List.{list_all};
+ghost use Rattle.std.specs.Prelude.{◌≡◌};
 ghost use Rattle.std.specs.Option.{option_map};
-ghost use Rattle.grok_tool.specs.Commands.{texts, mode_of, has_equals, cut_word, definitions_of, request_after, request_of, split_of, check_of, command_of, present_command_of};
+ghost use Rattle.grok_tool.specs.Commands.{texts, mode_of, request_of, check_of, command_of};
 ghost use Rattle.grok_tool.specs.Views.{request_view, command_view};
 
-use std::marker::Model;
-
-/// Words `NAME=DEF`. Contracts see the names with their definitions.
-#[derive(Drop)]
-pub struct Definitions<'a> {
-    words: &'a [&'a str],
-}
-
-impl<'a> Model for Definitions<'a> {
-    ghost use Rattle.std.specs.Prelude.{◌≡◌, ℕ, List, true};
-    ghost use Rattle.std.specs.List.{list_all};
-    ghost use Rattle.grok_tool.specs.Commands.{texts, has_equals, cut_words};
-
-    ghost Value = { List (List ℕ × List ℕ) };
-
-    ghost view = { λ d. cut_words (texts d.words.now) };
-
-    ghost invariant = { λ d. list_all has_equals (texts d.words.now) ≡ true };
-}
+use crate::definitions::Definitions;
 
 /// A pattern, with the mode and the definitions to read it by.
 #[derive(Drop)]
@@ -49,32 +30,6 @@ pub enum Command<'a> {
         alias_only: bool,
         definitions: Definitions<'a>,
     },
-}
-
-fn has_equals(word: &str) -> bool
-    ensures { result ≡ has_equals word.now }
-{
-    word.as_bytes().iter().any(|b| *b == b'=')
-}
-
-/// Whether each word has a `=`.
-fn each_has_equals(words: &[&str]) -> bool
-    ensures { result ≡ list_all (λ word. has_equals word.now) words.now }
-{
-    words.iter().all(|word| has_equals(word))
-}
-
-impl<'a> Definitions<'a> {
-    /// The words, if each has a `=`.
-    fn new(words: &'a [&'a str]) -> Option<Definitions<'a>>
-        ensures { result ≡ definitions_of (texts words.now) }
-    {
-        if each_has_equals(words) {
-            Some(Definitions { words })
-        } else {
-            None
-        }
-    }
 }
 
 /// The mode that words begin with, and the words after it.

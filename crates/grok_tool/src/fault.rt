@@ -1,7 +1,8 @@
 //! Why a run ended early.
-ghost use Rattle.std.specs.Prelude.{◌≡◌, Some};
+ghost use Rattle.std.specs.Prelude.{◌≡◌, ◌≢◌, Some};
+ghost use Rattle.grok.specs.Errors.{error_value, Memory as memory};
 ghost use Rattle.grok_tool.specs.Faults.{fault_text};
-ghost use Rattle.grok_tool.specs.declared.fault.ToolFault.TheVariants.{Memory};
+ghost use Rattle.grok_tool.specs.declared.fault.ToolFault.TheVariants.{Memory, Pattern};
 
 use std::alloc::{AllocError, AllocFailed};
 use std::fmt;
@@ -36,6 +37,17 @@ impl fmt::Display for ToolFault {
             ToolFault::Read => write!(f, "read failed"),
             ToolFault::Write => write!(f, "write failed"),
         }
+    }
+}
+
+/// The fault of a run whose pattern isn't compiled.
+pub fn pattern_fault(error: grok::Error) -> ToolFault
+    ensures memory { error_value error ≡ memory → result ≡ Memory }
+    ensures pattern { error_value error ≢ memory → result ≡ Pattern error }
+{
+    match error {
+        grok::Error::Memory => ToolFault::Memory,
+        error => ToolFault::Pattern(error),
     }
 }
 

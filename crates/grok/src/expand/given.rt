@@ -36,21 +36,28 @@ fn numbered_key(alloc: Global, wanted: &str, count: usize) -> Result<String, All
     }
 }
 
-/// How often the key was wanted before, and counts it once more. More than the greatest `usize` is answered as want of memory.
-fn count_wanted(
+/// How often the key was wanted.
+fn times_wanted(counts: &BTreeMap<String, usize>, wanted: &str) -> usize
+    ensures { result ≡ unwrap_or (get_by_text counts.now wanted.now) 0 }
+{
+    counts.get(wanted).copied().unwrap_or(0)
+}
+
+/// Counts a key that was wanted so often once more. More than the greatest `usize` is answered as want of memory.
+fn count_once_more(
     alloc: Global,
     counts: &mut BTreeMap<String, usize>,
     wanted: &str,
-) -> Result<usize, AllocError>
-    ensures before { IfOk result (λ count. count ≡ unwrap_or (get_by_text counts.old wanted.now) 0) }
-    ensures after { OnOk result ((key : List ℕ) → unwrap_or (get_by_text counts.new key) 0 ≡ (if bytes_eq wanted.now key then 1 else 0) + unwrap_or (get_by_text counts.old key) 0) }
+    count: usize,
+) -> Result<(), AllocError>
+    requires { count ≡ unwrap_or (get_by_text counts.old wanted.now) 0 }
+    ensures { OnOk result ((key : List ℕ) → unwrap_or (get_by_text counts.new key) 0 ≡ (if bytes_eq wanted.now key then 1 else 0) + unwrap_or (get_by_text counts.old key) 0) }
 {
-    let count = counts.get(wanted).copied().unwrap_or(0);
     let Some(next) = count.checked_add(1) else {
         return Err(AllocError);
     };
     counts.insert(String::from_str(alloc, wanted)?, next)?;
-    Ok(count)
+    Ok(())
 }
 
 /// Keeps an extract that isn't empty under the key.
@@ -105,16 +112,24 @@ impl Given {
         }
     }
 
+    /// Whether an earlier open has the key.
+    fn has_key(&self, key: &str) -> bool
+        ensures { result ≡ contains_text self.now.taken key.now }
+    {
+        self.taken.contains(key)
+    }
+
     /// Gives a recorded open its key, or answers the key if an earlier one has it.
     pub fn record(&mut self, alloc: Global, label: Label<'_>) -> Result<Option<String>, AllocError>
         ensures { IfOk result (λ clash. (before : List tree.Label) → Shows self.old before → Records before (label_view label.entry) self.new clash) }
     {
         let wanted = wanted_key(label);
-        let count = count_wanted(alloc, &mut self.counts, wanted)?;
+        let count = times_wanted(&self.counts, wanted);
         let key = numbered_key(alloc, wanted, count)?;
-        if self.taken.contains(key.as_str()) {
+        if self.has_key(key.as_str()) {
             return Ok(Some(key));
         }
+        count_once_more(alloc, &mut self.counts, wanted, count)?;
         keep_extract(alloc, &mut self.extracts, key.as_str(), label.extract)?;
         give(&mut self.taken, &mut self.keys, key)?;
         Ok(None)

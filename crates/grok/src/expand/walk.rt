@@ -4,7 +4,7 @@ ghost use Rattle.std.specs.Prelude.{◌≡◌, ◌<◌, ◌^◌, List, [], ◌�
 ghost use Rattle.std.specs.FinMap as finite;
 ghost use Rattle.grok.specs.Tree as tree;
 ghost use Rattle.grok.specs.Tree.{items_of, inside, events, text_of, tree as tree_of};
-ghost use Rattle.grok.specs.Keys.{first_fault, is_recorded as records};
+ghost use Rattle.grok.specs.Keys.{first_fault};
 ghost use Rattle.grok.specs.Items.{label_view, meaning_view, item_view};
 ghost use Rattle.grok.specs.Walks.{Shows, Walks, Keyed, finding_view};
 
@@ -20,13 +20,6 @@ pub(crate) enum Finding<'a> {
     Structural(Fault<'a>),
     /// This key, which a recorded open was to get, was given before.
     Clash(String),
-}
-
-/// In alias-only mode an open without an alias isn't recorded.
-pub(crate) fn is_recorded(alias_only: bool, label: Label<'_>) -> bool
-    ensures { result ≡ records alias_only (label_view label.entry) }
-{
-    !(alias_only && label.alias.is_empty())
 }
 
 /// The items of what a placeholder stands for.
@@ -48,7 +41,7 @@ fn open<'a>(
 ) -> Result<Option<Finding<'a>>, AllocError>
     ensures { IfOk result (λ r. (before : List tree.Label) (meaning : tree.Meaning) → Shows given.old before → Walks alias_only before (tree.Open (label_view label.entry) meaning ∷ []) given.new r) }
 {
-    if !is_recorded(alias_only, label) {
+    if !label.is_recorded(alias_only) {
         return Ok(None);
     }
     match given.record(alloc, label)? {

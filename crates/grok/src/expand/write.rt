@@ -10,7 +10,7 @@ ghost use Rattle.grok.specs.Items.{label_view, meaning_view, item_view};
 ghost use Rattle.grok.specs.Writes.{head_of, IsReady, Wrote};
 
 use crate::defs::Grok;
-use crate::expand::walk::{is_recorded, items_inside};
+use crate::expand::walk::items_inside;
 use crate::items::{Item, Items, Label, Meaning};
 use itoa::Buffer;
 use std::alloc::{AllocError, Global};
@@ -76,7 +76,7 @@ fn write_opening<'a>(
     requires { IsReady alias_only (events (inside (items_of (finite.get grok.now)) levels) (tree.Opening (label_view label) (meaning_view meaning) ∷ [])) out.old }
     ensures { OnOk result (Wrote alias_only (events (inside (items_of (finite.get grok.now)) levels) (tree.Opening (label_view label.entry) (meaning_view meaning.entry) ∷ [])) out.old out.new) }
 {
-    put_head(out, is_recorded(alias_only, label));
+    put_head(out, label.is_recorded(alias_only));
     let inner = items_inside(alloc, grok, meaning);
     write_items(alloc, grok, inner, levels - 1, alias_only, out)?;
     put(&mut out.text, ")");

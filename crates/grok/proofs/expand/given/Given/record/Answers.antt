@@ -9,12 +9,12 @@ use Rattle.grok.specs.Items.{label_view}
 use Rattle.grok.proofs.Walking.{key_named, among_is, recorded_now}
 use Rattle.grok.proofs.expand.given.Given.record.Goals as goal
 
-pub returns-then-contains : goal.returns-then-contains
-returns-then-contains c before shows =
+pub returns-then-has_key : goal.returns-then-has_key
+returns-then-has_key c before shows =
     let label = label_view c.args.label in
-    let named = key_named before label c.args.self.now shows c.wanted_key-wanted.result.now (string_bytes c.in_ok-key.key) c.in_ok-count.count c.wanted_key-wanted.ensures c.in_ok-count.ensures.before c.in_ok-key.ensures in
+    let named = key_named before label c.args.self.now shows c.wanted_key-wanted.result.now (string_bytes c.in_ok-key.key) c.times_wanted-count.result c.wanted_key-wanted.ensures c.times_wanted-count.ensures c.in_ok-key.ensures in
     record {
-      taken = sym (among_is before label c.args.self.now shows (string_bytes c.in_ok-key.key) named) ∙ ap (contains_text c.args.self.now.taken) (sym c.as_str.ensures.value) ∙ sym c.contains.ensures ∙ c.if-contains.true;
+      taken = sym (among_is before label c.args.self.now shows (string_bytes c.in_ok-key.key) named) ∙ ap (contains_text c.args.self.now.taken) (sym c.as_str.ensures.value) ∙ sym c.has_key.ensures ∙ c.if-has_key.true;
       named = named;
     }
 
@@ -23,9 +23,9 @@ returns c before shows =
     let label = label_view c.args.label in
     let given = c.args.self.now in
     let name : List ℕ = string_bytes c.in_ok-key.key in
-    let named = key_named before label given shows c.wanted_key-wanted.result.now name c.in_ok-count.count c.wanted_key-wanted.ensures c.in_ok-count.ensures.before c.in_ok-key.ensures in
-    recorded_now before label given shows (record { counts = c.count_wanted.new.counts; taken = c.give.new.taken; keys = c.give.new.keys; extracts = c.keep_extract.new.extracts }) c.wanted_key-wanted.result.now name
+    let named = key_named before label given shows c.wanted_key-wanted.result.now name c.times_wanted-count.result c.wanted_key-wanted.ensures c.times_wanted-count.ensures c.in_ok-key.ensures in
+    recorded_now before label given shows (record { counts = c.count_once_more.new.counts; taken = c.give.new.taken; keys = c.give.new.keys; extracts = c.keep_extract.new.extracts }) c.wanted_key-wanted.result.now name
     c.wanted_key-wanted.ensures named
-    (ap (contains_text given.taken) (sym c.as_str.ensures.value) ∙ sym c.contains.ensures ∙ c.if-contains.false)
-    c.in_ok-count.ensures.after c.in_ok-give.ensures.taken c.in_ok-give.ensures.keys
+    (ap (contains_text given.taken) (sym c.as_str.ensures.value) ∙ sym c.has_key.ensures ∙ c.if-has_key.false)
+    c.in_ok-count_once_more.ensures c.in_ok-give.ensures.taken c.in_ok-give.ensures.keys
     (λ key. c.in_ok-keep_extract.ensures key ∙ ap (λ k. cond (bytes_eq k key && not (is_absent c.args.label.extract.now)) (Some c.args.label.extract.now) (option_map string_bytes (get_by_text given.extracts key))) c.as_str-2.ensures.value)

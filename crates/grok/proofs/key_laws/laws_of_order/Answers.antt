@@ -1,8 +1,0 @@
-use Rattle.grok.proofs.Cuts.{first_fault_is_first, extract_is_last}
-use Rattle.grok.proofs.key_laws.laws_of_order.Goals as goal
-
-pub returns-clause-fault : goal.returns-clause-fault
-returns-clause-fault c = first_fault_is_first
-
-pub returns-clause-extract : goal.returns-clause-extract
-returns-clause-extract c = extract_is_last

@@ -1,5 +1,0 @@
-use Rattle.grok.proofs.TreeFaults.{unused_definitions_do_not_matter}
-use Rattle.grok.proofs.tree_laws.laws_of_faults.Goals as goal
-
-pub returns-clause-unused : goal.returns-clause-unused
-returns-clause-unused c = unused_definitions_do_not_matter

@@ -1,0 +1,79 @@
+//! Patterns, compiled by the product's engine and by engines for tests.
+use crate::LABELS;
+use anyhow::{Result, bail};
+use grok::{Engine, Error, Grok, PatternOf, RegexEngine};
+use grok_engines::{Bare, Heads, Refuser};
+
+const TWO_LEVELS: [(&str, &str); 2] = [("A", "a"), ("B", "%{A}%{A}")];
+
+const USERS: [(&str, &str); 2] = [
+    ("USERNAME", "[a-zA-Z0-9._-]+"),
+    ("USER", "%{USERNAME::text}"),
+];
+
+pub fn call(rt: &HostRuntime, name: &str) -> Result<()> {
+    match name {
+        "two_levels" => compile::<Heads>(rt, &TWO_LEVELS, "%{B}", false),
+        "clash" => compile::<Heads>(rt, &TWO_LEVELS, "%{A:x[1]}%{A:x}%{A:x}", false),
+        "too_deep" => compile::<Heads>(rt, &[("A", "%{A}%{missing}")], "%{A}", false),
+        "missing" => compile::<Heads>(rt, &[("A", "%{missing}%{A}")], "%{A}", false),
+        "aliases" => compile::<Heads>(rt, &USERS, "%{USER:usr:text}", true),
+        "all_names" => compile::<Heads>(rt, &USERS, "%{USER:usr:text}", false),
+        "refused" => compile::<Refuser>(rt, &TWO_LEVELS, "%{A}", false),
+        "bare_short" => compile_repeated(rt, 1),
+        "bare_long" => compile_repeated(rt, 5000),
+        "mac" => compile::<RegexEngine>(rt, &grok::patterns(), "%{MAC}", false),
+        _ => bail!("no call has this name"),
+    }
+}
+
+/// Prints the text of a pattern, its keys, and the extract of each.
+fn show_pattern<E: Engine>(rt: &HostRuntime, pattern: &PatternOf<E>) -> Result<()> {
+    let text = pattern.text();
+    print!(rt; "Ok({text:?}")?;
+    'names: for name in pattern.capture_names() {
+        let extract = pattern.get_extract(name);
+        print!(rt; ", {name:?} {extract:?}")?;
+    }
+    println!(rt; ")")?;
+    Ok(())
+}
+
+fn show_answer<E: Engine>(
+    rt: &HostRuntime,
+    label: &str,
+    answer: &Result<PatternOf<E>, Error>,
+) -> Result<()> {
+    print!(rt; "{label}: ")?;
+    match answer {
+        Ok(pattern) => show_pattern(rt, pattern)?,
+        Err(error) => println!(rt; "Err({error:?})")?,
+    }
+    Ok(())
+}
+
+/// Compiles the pattern twice over these definitions.
+fn compile<E: Engine>(
+    rt: &HostRuntime,
+    definitions: &[(&str, &str)],
+    pattern: &str,
+    with_alias_only: bool,
+) -> Result<()> {
+    let grok = Grok::from_iter(rt.alloc(), definitions)?;
+    'calls: for label in LABELS {
+        eprintln!(rt; "[call")?;
+        let answer = grok.compile_with::<E>(pattern, with_alias_only);
+        eprintln!(rt; "[done")?;
+        show_answer(rt, label, &answer)?;
+    }
+    Ok(())
+}
+
+/// Compiles a text without a placeholder, so many pieces long, for an engine that makes one request of its own.
+fn compile_repeated(rt: &HostRuntime, count: usize) -> Result<()> {
+    let mut pattern = String::new(rt.alloc());
+    'pieces: for _ in 0..count {
+        pattern.push_str("%a")?;
+    }
+    compile::<Bare>(rt, &[], pattern.as_str(), false)
+}

@@ -1,0 +1,36 @@
+//! The measure of a pattern.
+use anyhow::{Result, bail};
+use grok::Grok;
+
+pub fn call(rt: &HostRuntime, name: &str) -> Result<()> {
+    match name {
+        "measure" => measure(rt),
+        "counted" => counted(rt),
+        "fault" => fault(rt),
+        _ => bail!("no call has this name"),
+    }
+}
+
+/// Two definitions, one over the other, so that a measure remembers a name.
+fn two_levels(rt: &HostRuntime) -> Result<Grok> {
+    let pairs = [("A", "a"), ("B", "%{A}%{A}")];
+    Ok(Grok::from_iter(rt.alloc(), &pairs)?)
+}
+
+fn measure(rt: &HostRuntime) -> Result<()> {
+    let grok = two_levels(rt)?;
+    twice!(rt, grok.measure("%{B}", false));
+    Ok(())
+}
+
+fn counted(rt: &HostRuntime) -> Result<()> {
+    let grok = two_levels(rt)?;
+    twice!(rt, grok.measure_counted("%{B}", false));
+    Ok(())
+}
+
+fn fault(rt: &HostRuntime) -> Result<()> {
+    let grok = two_levels(rt)?;
+    twice!(rt, grok.measure("%{B:key[0]}%{MISSING}", true));
+    Ok(())
+}

@@ -1,0 +1,541 @@
+//! What patterns over `regex` answer.
+
+use crate::libraries::library;
+use grok::{Error, Grok, Matches, Pattern, patterns};
+use std::alloc::{AllocError, Global};
+use std::process::Abort;
+use std::test::Fail;
+
+/// A library by its words, a pattern, whether only aliases count, its keys, and lines with their answers.
+type Row = (
+    &'static str,
+    &'static str,
+    bool,
+    &'static str,
+    &'static [(&'static str, &'static str)],
+);
+
+/// The keys of a pattern, with a space between.
+fn keys_of(alloc: Global, pattern: &Pattern) -> Result<String, AllocError> {
+    let mut all = String::new(alloc);
+    let mut separator = "";
+    for key in pattern.capture_names() {
+        all.push_str(separator)?;
+        all.push_str(key)?;
+        separator = " ";
+    }
+    Ok(all)
+}
+
+/// Adds `KEY=VALUE` at the end.
+fn push_pair(all: &mut String, key: &str, value: &str) -> Result<(), AllocError> {
+    if !all.is_empty() {
+        all.push_str(", ")?;
+    }
+    write!(all, "{key}={value}")
+}
+
+/// The pairs of a match by each way to have them: `iter`, a `for`, `collect` and `collect_map`.
+fn pairs_of(alloc: Global, found: &Matches<'_>) -> Result<[String; 4], AllocError> {
+    let mut by_iter = String::new(alloc);
+    for (key, value) in found.iter() {
+        push_pair(&mut by_iter, key, value)?;
+    }
+    let mut by_for = String::new(alloc);
+    for (key, value) in found {
+        push_pair(&mut by_for, key, value)?;
+    }
+    let mut by_collect = String::new(alloc);
+    for (key, value) in found.collect(alloc)?.iter() {
+        push_pair(&mut by_collect, key, value)?;
+    }
+    let mut by_map = String::new(alloc);
+    for (key, value) in found.collect_map(alloc)?.iter() {
+        push_pair(&mut by_map, key, value)?;
+    }
+    Ok([by_iter, by_for, by_collect, by_map])
+}
+
+/// The answer to a line is `no match`, or else these pairs, and each of its keys has its value.
+fn check_answer(
+    rt: &(impl Abort + AllocGlobal),
+    found: Option<Matches<'_>>,
+    line: &str,
+    expected: &str,
+) -> Result<(), Fail> {
+    let Some(found) = found else {
+        assert_eq!(rt; "no match", expected, "at {line}");
+        return Ok(());
+    };
+    for given in pairs_of(rt.alloc(), &found)?.iter() {
+        assert_eq!(rt; given.as_str(), expected, "at {line}");
+    }
+    for key in found.pattern().capture_names() {
+        let value = found.get(key);
+        let paired = found.iter().find(|pair| pair.0 == key).map(|pair| pair.1);
+        assert!(rt; value == paired, "at {line} {key}");
+    }
+    assert!(rt; found.get("unknown").is_none());
+    Ok(())
+}
+
+/// Each line has its answer, and a matcher that is kept gives the same.
+fn check_lines(
+    rt: &(impl Abort + AllocGlobal),
+    pattern: &Pattern,
+    lines: &[(&str, &str)],
+) -> Result<(), Fail> {
+    let mut kept = pattern.line_matcher()?;
+    for (line, expected) in lines {
+        check_answer(rt, pattern.match_against(line)?, line, expected)?;
+        check_answer(rt, kept.match_against(line)?, line, expected)?;
+    }
+    Ok(())
+}
+
+/// Each row holds.
+fn check_rows(rt: &(impl Abort + AllocGlobal), rows: &[Row]) -> Result<(), Fail> {
+    for (words, text, with_alias_only, keys, lines) in rows {
+        let grok = library(rt.alloc(), words)?;
+        let pattern = grok.compile(text, *with_alias_only)?;
+        let given = keys_of(rt.alloc(), &pattern)?;
+        assert_eq!(rt; given.as_str(), *keys, "at {text}");
+        check_lines(rt, &pattern, lines)?;
+    }
+    Ok(())
+}
+
+#[test]
+fn answers_to_lines(rt: HostRuntime) -> Result<(), Fail> {
+    check_rows(
+        &rt,
+        &[
+            (
+                "A=a B=%{A}%{A}",
+                "%{B}",
+                false,
+                "A A[1] B",
+                &[
+                    ("aa", "A=a, A[1]=a, B=aa"),
+                    ("baaa", "A=a, A[1]=a, B=aa"),
+                    ("a", "no match"),
+                    ("", "no match"),
+                ],
+            ),
+            (
+                "",
+                "%{W=a}%{W=b}%{W}",
+                false,
+                "W W[1] W[2]",
+                &[("abb", "W=a, W[1]=b, W[2]=b")],
+            ),
+            (
+                "W=w",
+                "%{W}%{W=a}%{W}",
+                false,
+                "W W[1] W[2]",
+                &[("waa", "W=w, W[1]=a, W[2]=a")],
+            ),
+            ("", "%{W:k=a}%{W}", true, "k", &[("aa", "k=a")]),
+            // In brackets a placeholder has no group, and its number may be another group's name.
+            ("A=a", "[%{A}]", false, "", &[("a", ""), ("z", "no match")]),
+            ("A=a", "[%{A}](?<_n_0>b)", false, "A", &[("ab", "A=b")]),
+            // The last group of a key counts, also where it takes no part.
+            (
+                "A=a",
+                "(?:%{A:x}|b(?<x>c))",
+                false,
+                "x",
+                &[("a", ""), ("bc", "x=c")],
+            ),
+            (
+                "A=a",
+                "%{A:x[1]}%{A:x[1]}",
+                false,
+                "x[1] x[1][1]",
+                &[("aa", "x[1]=a, x[1][1]=a")],
+            ),
+            (
+                "INT=(?:[+-]?(?:[0-9]+))",
+                "%{INT}{1,3}",
+                false,
+                "INT",
+                &[("+1+2+3", "INT=+3")],
+            ),
+            (
+                "GREEDYDATA=.*",
+                r"(?<capture>\w+) %{GREEDYDATA:capture}",
+                true,
+                "capture",
+                &[("word1 word2", "capture=word2")],
+            ),
+            ("E=", "%{E}", false, "E", &[("", "E="), ("q", "E=")]),
+            ("E=", "%{E}", true, "", &[("", ""), ("q", "")]),
+            (
+                "",
+                "(?<k>x*)",
+                false,
+                "k",
+                &[("", "k="), ("xxy", "k=xx"), ("y", "k=")],
+            ),
+            (
+                "",
+                r"(?<k>[a-z]\s?)",
+                false,
+                "k",
+                &[("p\r", "k=p\r"), ("é", "no match")],
+            ),
+            ("", "(?<q>.*)", true, "q", &[("a\"b", "q=a\"b")]),
+            // Names that look as the generated ones do.
+            ("", "(?<_n_0>b)", false, "_n_0", &[("b", "_n_0=b")]),
+            (
+                "A=a",
+                "(?<_n_1>b)%{A}",
+                false,
+                "A _n_1",
+                &[("ba", "A=a, _n_1=b")],
+            ),
+            (
+                "A=a",
+                "(?<_n_01>b)%{A}",
+                false,
+                "A _n_01",
+                &[("ba", "A=a, _n_01=b")],
+            ),
+            (
+                "A=a",
+                "é%{A}",
+                false,
+                "A",
+                &[("éa", "A=a"), ("a", "no match")],
+            ),
+            // A percent sign that stands for itself.
+            (
+                "",
+                "(?<p>(%){2})",
+                false,
+                "p",
+                &[("100%%", "p=%%"), ("100%", "no match")],
+            ),
+            (
+                "",
+                "(?<p>(?:%){2})",
+                false,
+                "p",
+                &[("100%%", "p=%%"), ("100%", "no match")],
+            ),
+            (
+                "",
+                r"(?<p>\x25{2})",
+                false,
+                "p",
+                &[("100%%", "p=%%"), ("100%", "no match")],
+            ),
+            ("", "100%", false, "", &[("100%", ""), ("100", "no match")]),
+            (
+                "*",
+                "%{MAC}",
+                false,
+                "CISCOMAC COMMONMAC MAC WINDOWSMAC",
+                &[
+                    (
+                        "5E:FF:56:A2:AF:15",
+                        "COMMONMAC=5E:FF:56:A2:AF:15, MAC=5E:FF:56:A2:AF:15",
+                    ),
+                    (
+                        "5EFF.56A2.AF15",
+                        "CISCOMAC=5EFF.56A2.AF15, MAC=5EFF.56A2.AF15",
+                    ),
+                    (
+                        "5E-FF-56-A2-AF-15",
+                        "MAC=5E-FF-56-A2-AF-15, WINDOWSMAC=5E-FF-56-A2-AF-15",
+                    ),
+                    ("5E:FF", "no match"),
+                ],
+            ),
+            (
+                "*",
+                "%{USERNAME}",
+                false,
+                "USERNAME",
+                &[("john doe", "USERNAME=john"), ("###", "no match")],
+            ),
+        ],
+    )
+}
+
+/// Whatever the library holds, a malformed definition that isn't reached does no harm.
+#[test]
+fn tests_of_the_crate(rt: HostRuntime) -> Result<(), Fail> {
+    check_rows(
+        &rt,
+        &[
+            // test_simple_anonymous_pattern, test_from_iter, test_from
+            (
+                "USERNAME",
+                "%{USERNAME}",
+                false,
+                "USERNAME",
+                &[("root", "USERNAME=root"), ("john doe", "USERNAME=john")],
+            ),
+            // test_simple_named_pattern
+            (
+                "USERNAME",
+                "%{USERNAME:usr}",
+                false,
+                "usr",
+                &[("root", "usr=root"), ("john doe", "usr=john")],
+            ),
+            // test_alias_anonymous_pattern
+            (
+                "USERNAME USER",
+                "%{USER}",
+                false,
+                "USER USERNAME",
+                &[
+                    ("root", "USER=root, USERNAME=root"),
+                    ("john doe", "USER=john, USERNAME=john"),
+                ],
+            ),
+            // test_alias_named_pattern
+            (
+                "USERNAME USER",
+                "%{USER:usr}",
+                false,
+                "USERNAME usr",
+                &[
+                    ("root", "USERNAME=root, usr=root"),
+                    ("john doe", "USERNAME=john, usr=john"),
+                ],
+            ),
+            // test_composite_or_pattern
+            (
+                "MAC CISCOMAC WINDOWSMAC COMMONMAC",
+                "%{MAC}",
+                false,
+                "CISCOMAC COMMONMAC MAC WINDOWSMAC",
+                &[
+                    (
+                        "5E:FF:56:A2:AF:15",
+                        "COMMONMAC=5E:FF:56:A2:AF:15, MAC=5E:FF:56:A2:AF:15",
+                    ),
+                    (
+                        "hello! 5E:FF:56:A2:AF:15 what?",
+                        "COMMONMAC=5E:FF:56:A2:AF:15, MAC=5E:FF:56:A2:AF:15",
+                    ),
+                    ("5E:FF", "no match"),
+                ],
+            ),
+            // test_with_alias_only
+            (
+                "MAC CISCOMAC WINDOWSMAC COMMONMAC",
+                "%{MAC:macaddr}",
+                true,
+                "macaddr",
+                &[
+                    ("5E:FF:56:A2:AF:15", "macaddr=5E:FF:56:A2:AF:15"),
+                    (
+                        "hello! 5E:FF:56:A2:AF:15 what?",
+                        "macaddr=5E:FF:56:A2:AF:15",
+                    ),
+                    ("5E:FF", "no match"),
+                ],
+            ),
+            // test_multiple_patterns
+            (
+                "YEAR MONTH DAY",
+                "%{DAY} %{MONTH} %{YEAR}",
+                false,
+                "DAY MONTH YEAR",
+                &[
+                    ("Monday March 2012", "DAY=Monday, MONTH=March, YEAR=2012"),
+                    ("Monday", "no match"),
+                ],
+            ),
+            // test_match_iterator, test_matches_into_iter
+            (
+                "YEAR MONTH DAY USERNAME SPACE",
+                "%{DAY:day} %{MONTH:month} %{YEAR:year}%{SPACE}%{USERNAME:user}?",
+                true,
+                "day month user year",
+                &[
+                    (
+                        "Monday March 2012 user",
+                        "day=Monday, month=March, user=user, year=2012",
+                    ),
+                    (
+                        "Monday March 2012 username",
+                        "day=Monday, month=March, user=username, year=2012",
+                    ),
+                ],
+            ),
+            // test_adhoc_pattern, test_adhoc_pattern_in_iter
+            (
+                "*",
+                r"\[(?<threadname>[^\]]+)\]",
+                false,
+                "threadname",
+                &[("[thread1]", "threadname=thread1")],
+            ),
+            // test_pattern_with_definition
+            (
+                "*",
+                r"%{NEW_PATTERN:first=\w+} %{NEW_PATTERN:second}",
+                false,
+                "first second",
+                &[("word1 word2", "first=word1, second=word2")],
+            ),
+            // test_capture_names
+            (
+                "YEAR MONTH DAY USERNAME SPACE",
+                "%{YEAR}%{SPACE}%{USERNAME:user}?",
+                false,
+                "SPACE YEAR user",
+                &[],
+            ),
+            // test_capture_names_with_type
+            (
+                "USERNAME USER=%{USERNAME::text}",
+                "%{USER:usr:text}",
+                true,
+                "usr",
+                &[("root", "usr=root")],
+            ),
+            (
+                "USERNAME USER=%{USERNAME::text}",
+                "%{USER:usr:text}",
+                false,
+                "USERNAME usr",
+                &[],
+            ),
+        ],
+    )
+}
+
+/// Keys that are nearly those of the pattern have no value.
+#[test]
+fn keys_that_are_not_there(rt: HostRuntime) -> Result<(), Fail> {
+    let grok = library(rt.alloc(), "A=a B=%{A}%{A}")?;
+    let pattern = grok.compile("%{B}", false)?;
+    let Some(found) = pattern.match_against("aa")? else {
+        return Err("no match")?;
+    };
+    for (key, expected) in [
+        ("", None),
+        ("A", Some("a")),
+        ("A[", None),
+        ("A[1", None),
+        ("A[1]", Some("a")),
+        ("A[1]x", None),
+        ("A[2]", None),
+        ("B", Some("aa")),
+        ("C", None),
+        ("a", None),
+    ] {
+        assert!(rt; found.get(key) == expected, "at {key}");
+    }
+    let pattern = grok.compile("[%{A}]", false)?;
+    let Some(found) = pattern.match_against("a")? else {
+        return Err("no match")?;
+    };
+    for key in ["", "A", "_n_0", "a"] {
+        assert!(rt; found.get(key).is_none(), "at {key}");
+    }
+    Ok(())
+}
+
+/// Extracts by key, whether or not the key has a group.
+#[test]
+fn kept_extracts(rt: HostRuntime) -> Result<(), Fail> {
+    let users = "USERNAME USER=%{USERNAME::text}";
+    for (words, text, with_alias_only, key, expected) in [
+        (users, "%{USER:usr:text}", true, "usr", Some("text")),
+        (users, "%{USER:usr:text}", true, "USERNAME", None),
+        (users, "%{USER:usr:text}", true, "USER", None),
+        (users, "%{USER:usr:text}", true, "doesn't exist", None),
+        (users, "%{USER:usr:text}", false, "usr", Some("text")),
+        (users, "%{USER:usr:text}", false, "USERNAME", Some("text")),
+        (users, "%{USER:usr:text}", false, "USER", None),
+        ("A=a", "[%{A::t}]", false, "A", Some("t")),
+        ("", "%{P:x=a}%{P:x:int=b}", false, "x", None),
+        ("", "%{P:x=a}%{P:x:int=b}", false, "x[1]", Some("int")),
+        ("", "%{P:x:[-.]=a}", false, "x", Some("[-.]")),
+        ("", "%{P::int=a}", true, "P", None),
+        ("", "%{P::int=a}", false, "P", Some("int")),
+        // A group written by hand has no extract.
+        ("A=a", "%{A:x:int}(?<y>b)", false, "y", None),
+    ] {
+        let pattern = library(rt.alloc(), words)?.compile(text, with_alias_only)?;
+        assert!(rt;
+            pattern.get_extract(key) == expected,
+            "at {text} {with_alias_only} {key}"
+        );
+    }
+    Ok(())
+}
+
+/// The pattern, whose library is gone.
+fn user_pattern(alloc: Global) -> Result<Pattern, Error> {
+    let grok = Grok::from_iter(alloc, &[("USER", "[a-z]+")])?;
+    grok.compile("%{USER:usr:text}", true)
+}
+
+/// A pattern outlives its library, and serves many matches at a time.
+#[test]
+fn a_pattern_owns_what_it_holds(rt: HostRuntime) -> Result<(), Fail> {
+    let pattern = user_pattern(rt.alloc())?;
+    assert_eq!(rt; pattern.text(), "(?<_n_0>[a-z]+)");
+    assert_eq!(rt; pattern.get_extract("usr"), Some("text"));
+    let first = pattern.match_against("john 1")?;
+    let second = pattern.match_against("2 root")?;
+    check_answer(&rt, second, "2 root", "usr=root")?;
+    check_answer(&rt, first, "john 1", "usr=john")?;
+    Ok(())
+}
+
+/// The definitions that a pattern is compiled with are those at that time.
+#[test]
+fn definitions_set_again(rt: HostRuntime) -> Result<(), Fail> {
+    let mut grok = library(rt.alloc(), "A=a%{B}")?;
+    grok.add_pattern("A", "b")?;
+    let earlier = grok.compile("%{A}", false)?;
+    let copy = grok.clone()?;
+    grok.add_pattern("A", "c")?;
+    let later = grok.compile("%{A}", false)?;
+    let copied = copy.compile("%{A}", false)?;
+    assert_eq!(rt; earlier.text(), "(?<_n_0>b)");
+    assert_eq!(rt; later.text(), "(?<_n_0>c)");
+    assert_eq!(rt; copied.text(), "(?<_n_0>b)");
+    Ok(())
+}
+
+/// Each of the ten compiles by its name.
+#[test]
+fn the_ten_compile(rt: HostRuntime) -> Result<(), Fail> {
+    let grok = Grok::with_default_patterns(rt.alloc())?;
+    for (name, _) in patterns() {
+        let text = format!(in rt.alloc(); "^%{{{name}:k}}$")?;
+        let pattern = grok.compile(text.as_str(), true)?;
+        let keys = keys_of(rt.alloc(), &pattern)?;
+        assert_eq!(rt; keys.as_str(), "k", "at {name}");
+    }
+    Ok(())
+}
+
+#[test]
+fn shown_patterns(rt: HostRuntime) -> Result<(), Fail> {
+    let grok = library(rt.alloc(), "A=a")?;
+    let pattern = grok.compile("%{A:x:t}%{A}", false)?;
+    let shown = format!(in rt.alloc(); "{pattern:?}")?;
+    assert_eq!(rt;
+        shown.as_str(),
+        r#"Pattern { text: "(?<_n_0>a)(?<_n_1>a)", extracts: {"x": "t"} }"#
+    );
+    let found = pattern.match_against("aa")?;
+    let shown = format!(in rt.alloc(); "{found:?} {grok:?}")?;
+    assert_eq!(rt;
+        shown.as_str(),
+        r#"Some({"A": "a", "x": "a"}) Grok {"A": "a"}"#
+    );
+    Ok(())
+}

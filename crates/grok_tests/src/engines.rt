@@ -1,0 +1,239 @@
+//! What compiling answers over engines that take every text, or none.
+
+use crate::libraries::{add_chain, chain, doublings, library};
+use grok::{Engine, Grok, PatternOf};
+use grok_engines::{Bare, Heads, Refuser};
+use std::alloc::{AllocError, Global};
+use std::test::Fail;
+
+/// The pairs of the match of the line `q`, which these engines find in every line.
+fn pairs_on_q<E: Engine>(alloc: Global, pattern: &PatternOf<E>) -> Result<String, Fail> {
+    let Some(found) = pattern.match_against("q")? else {
+        return Err("no match")?;
+    };
+    let mut all = String::new(alloc);
+    for (key, value) in found.iter() {
+        write!(&mut all, "{key}={value} ")?;
+    }
+    let collected = found.collect(alloc)?;
+    let mapped = found.collect_map(alloc)?;
+    write!(&mut all, "{} {}", collected.len(), mapped.len())?;
+    Ok(all)
+}
+
+/// The text of a pattern, its keys, and its pairs on the line `q` with how many they are.
+fn shown<E: Engine>(alloc: Global, pattern: &PatternOf<E>) -> Result<String, Fail> {
+    let mut all = String::from_str(alloc, pattern.text())?;
+    for key in pattern.capture_names() {
+        write!(&mut all, " {key}")?;
+    }
+    let pairs = pairs_on_q(alloc, pattern)?;
+    write!(&mut all, " | {pairs}")?;
+    Ok(all)
+}
+
+/// What compiling answers over the engine: what the pattern shows, or the error.
+fn answer<E: Engine>(
+    alloc: Global,
+    grok: &Grok,
+    text: &str,
+    with_alias_only: bool,
+) -> Result<String, Fail> {
+    match grok.compile_with::<E>(text, with_alias_only) {
+        Ok(pattern) => shown(alloc, &pattern),
+        Err(error) => Ok(format!(in alloc; "{error:?}")?),
+    }
+}
+
+#[test]
+fn over_heads(rt: HostRuntime) -> Result<(), Fail> {
+    for (words, text, with_alias_only, expected) in [
+        (
+            "A=a",
+            "%{A:x}%{A:y}%{A:x}",
+            false,
+            "(?<_n_0>a)(?<_n_1>a)(?<_n_2>a) x x[1] y | x=q x[1]=q 2 2",
+        ),
+        ("A=a", "%{A:x}(?<x>b)", false, "(?<_n_0>a)(?<x>b) x | 0 0"),
+        (
+            "A=a",
+            "(?<_n_0>b)%{A}",
+            false,
+            "(?<_n_0>b)(?<_n_0>a) A | 0 0",
+        ),
+        ("A=a", "é%{A}", false, "é(?<_n_0>a) A | A=q 1 1"),
+        (
+            "A=a",
+            "(?<_n_01>b)%{A}",
+            false,
+            "(?<_n_01>b)(?<_n_0>a) A _n_01 | _n_01=q 1 1",
+        ),
+        ("A=a", "%{A}", true, "(?:a) | 0 0"),
+        ("A=a%{B} A=b", "%{A}", false, "(?<_n_0>b) A | A=q 1 1"),
+        (
+            "N=é%{A} A=a",
+            "%{N}",
+            false,
+            "(?<_n_0>é(?<_n_1>a)) A N | N=q 1 1",
+        ),
+        ("", "(", false, "( | 0 0"),
+        ("", "", false, "CompiledPatternIsEmpty(\"\")"),
+        ("", "", true, "CompiledPatternIsEmpty(\"\")"),
+        ("E=", "%{E}", true, "(?:) | 0 0"),
+        ("E=", "%{E}", false, "(?<_n_0>) E | E=q 1 1"),
+        (
+            "A=a",
+            "%{A}%{A}%{A}%{A}%{A}%{A}%{A}%{A}%{A}%{A}%{A}",
+            true,
+            "(?:a)(?:a)(?:a)(?:a)(?:a)(?:a)(?:a)(?:a)(?:a)(?:a)(?:a) | 0 0",
+        ),
+        (
+            "A=a",
+            "%{A}%{A}%{A}%{A}%{A}%{A}%{A}%{A}%{A}%{A}%{A:B}",
+            false,
+            "(?<_n_0>a)(?<_n_1>a)(?<_n_2>a)(?<_n_3>a)(?<_n_4>a)(?<_n_5>a)(?<_n_6>a)(?<_n_7>a)(?<_n_8>a)(?<_n_9>a)(?<_n_10>a) \
+             A A[1] A[2] A[3] A[4] A[5] A[6] A[7] A[8] A[9] B | A=q A[2]=q A[4]=q A[6]=q A[8]=q B=q 6 6",
+        ),
+    ] {
+        let grok = library(rt.alloc(), words)?;
+        let given = answer::<Heads>(rt.alloc(), &grok, text, with_alias_only)?;
+        assert_eq!(rt; given.as_str(), expected, "at {text}");
+    }
+    Ok(())
+}
+
+/// A group that took no part has no value, and a kept matcher answers the same.
+#[test]
+fn values_over_heads(rt: HostRuntime) -> Result<(), Fail> {
+    let grok = library(rt.alloc(), "A=a")?;
+    let pattern: PatternOf<Heads> = grok.compile_with("%{A:x}%{A:y:t}%{A:x}", false)?;
+    assert_eq!(rt; pattern.get_extract("y"), Some("t"));
+    let mut kept = pattern.line_matcher()?;
+    for line in ["q", "", "other"] {
+        let (Some(found), Some(again)) = (pattern.match_against(line)?, kept.match_against(line)?)
+        else {
+            return Err("no match")?;
+        };
+        for (key, expected) in [
+            ("x", Some(line)),
+            ("x[1]", Some(line)),
+            ("y", None),
+            ("z", None),
+        ] {
+            assert!(rt; found.get(key) == expected, "at {key}");
+            assert!(rt; again.get(key) == expected, "at {key}");
+        }
+        assert_eq!(rt; again.pattern().text(), pattern.text());
+    }
+    Ok(())
+}
+
+#[test]
+fn without_groups_or_refused(rt: HostRuntime) -> Result<(), Fail> {
+    let grok = library(rt.alloc(), "A=a")?;
+    let pattern: PatternOf<Bare> = grok.compile_with("%{A:x:t}", false)?;
+    let given = shown(rt.alloc(), &pattern)?;
+    assert_eq!(rt; given.as_str(), "(?<_n_0>a) | 0 0");
+    assert_eq!(rt; pattern.get_extract("x"), Some("t"));
+    for (text, expected) in [
+        (
+            "%{A}",
+            "RegexCompilationFailed(\"Regex compilation failed:\\n(?<_n_0>a)\")",
+        ),
+        (
+            "x",
+            "RegexCompilationFailed(\"Regex compilation failed:\\nx\")",
+        ),
+        ("", "CompiledPatternIsEmpty(\"\")"),
+        ("%{A}%{nope}", "DefinitionNotFound(\"nope\")"),
+        (
+            "%{A:x[1]}%{A:x}%{A:x}",
+            "GenericCompilationFailure(\"Alias x[1] already exists\")",
+        ),
+    ] {
+        let given = answer::<Refuser>(rt.alloc(), &grok, text, false)?;
+        assert_eq!(rt; given.as_str(), expected, "at {text}");
+    }
+    Ok(())
+}
+
+/// The text of a chain of so many groups, with numbers or without.
+fn nested(alloc: Global, count: u32, with_alias_only: bool) -> Result<String, AllocError> {
+    let mut all = String::new(alloc);
+    for number in 0..count {
+        if with_alias_only {
+            all.push_str("(?:")?;
+        } else {
+            write!(&mut all, "(?<_n_{number}>")?;
+        }
+    }
+    all.push_str("x")?;
+    for _ in 0..count {
+        all.push_str(")")?;
+    }
+    Ok(all)
+}
+
+#[test]
+fn the_deepest_chain(rt: HostRuntime) -> Result<(), Fail> {
+    let alloc = rt.alloc();
+    let grok = chain(alloc, "C", 1023, "x")?;
+    for (with_alias_only, length, keys) in [(true, 4093, 0), (false, 11167, 1023)] {
+        let pattern: PatternOf<Heads> = grok.compile_with("%{C1}", with_alias_only)?;
+        let expected = nested(alloc, 1023, with_alias_only)?;
+        let is_right = pattern.text() == expected.as_str();
+        assert!(rt; is_right, "at {with_alias_only}");
+        assert_eq!(rt; pattern.text().len(), length);
+        assert_eq!(rt; pattern.capture_names().count(), keys);
+    }
+    let deeper = chain(alloc, "C", 1024, "x")?;
+    for with_alias_only in [false, true] {
+        let given = answer::<Heads>(alloc, &deeper, "%{C1}", with_alias_only)?;
+        assert_eq!(rt; given.as_str(), "RecursionTooDeep");
+    }
+    let mut two = chain(alloc, "H", 500, "x")?;
+    add_chain(alloc, &mut two, "C", 600, "%{H1}")?;
+    let given = answer::<Heads>(alloc, &two, "%{H1}%{C1}", false)?;
+    assert_eq!(rt; given.as_str(), "RecursionTooDeep");
+    Ok(())
+}
+
+/// Texts that are far too long are not written, and are answered at once.
+#[test]
+fn long_texts(rt: HostRuntime) -> Result<(), Fail> {
+    let grok = doublings(rt.alloc(), "A=a")?;
+    let ten: PatternOf<Heads> = grok.compile_with("%{D10}", false)?;
+    assert_eq!(rt; ten.text().len(), 24478);
+    assert_eq!(rt; ten.capture_names().count(), 2047);
+    for (text, expected) in [
+        ("%{D60}", "Memory"),
+        ("%{D61}", "Memory"),
+        ("%{D70}", "Memory"),
+        ("%{A:x[1]}%{A:x}%{A:x}%{D70}", "Memory"),
+        ("%{D70}%{missing}", "DefinitionNotFound(\"missing\")"),
+        ("%{D70}%{", "GenericCompilationFailure(\"InvalidPattern\")"),
+        (
+            "%{A:x[1]}%{A:x}%{A:x}%{D70}%{missing}",
+            "GenericCompilationFailure(\"Alias x[1] already exists\")",
+        ),
+    ] {
+        for with_alias_only in [true, false] {
+            let given = answer::<Heads>(rt.alloc(), &grok, text, with_alias_only)?;
+            assert_eq!(rt; given.as_str(), expected, "at {text}");
+        }
+    }
+    Ok(())
+}
+
+/// Depth is found at once behind a text that is far too long.
+#[test]
+fn too_long_or_too_deep(rt: HostRuntime) -> Result<(), Fail> {
+    let alloc = rt.alloc();
+    for (count, expected) in [(952, "Memory"), (953, "RecursionTooDeep")] {
+        let mut grok = doublings(alloc, "")?;
+        add_chain(alloc, &mut grok, "K", count, "%{D70}")?;
+        let given = answer::<Heads>(alloc, &grok, "%{D70}%{K1}", true)?;
+        assert_eq!(rt; given.as_str(), expected, "at {count}");
+    }
+    Ok(())
+}

@@ -1,0 +1,172 @@
+//! The errors of compiling, and how they are shown.
+
+use crate::libraries::library;
+use grok::Fault::{Malformed, Missing, TooDeep};
+use grok::parser::GrokPatternError::{InvalidCharacter, InvalidPattern, InvalidPatternDefinition};
+use grok::{Error, Refusal};
+use std::alloc::{AllocError, Global};
+use std::error;
+use std::test::Fail;
+
+fn text(alloc: Global, text: &str) -> Result<String, AllocError> {
+    String::from_str(alloc, text)
+}
+
+/// How any error is shown.
+fn displayed(alloc: Global, error: &impl error::Error) -> Result<String, AllocError> {
+    format!(in alloc; "{error}")
+}
+
+/// One error of each kind, and two of some.
+fn errors(alloc: Global) -> Result<[Error; 8], AllocError> {
+    Ok([
+        Error::RecursionTooDeep,
+        Error::CompiledPatternIsEmpty(text(alloc, "")?),
+        Error::DefinitionNotFound(text(alloc, "nope")?),
+        Error::RegexCompilationFailed(text(alloc, "Regex compilation failed:\n(")?),
+        Error::GenericCompilationFailure(text(alloc, "InvalidCharacter(' ')")?),
+        Error::Memory,
+        Error::DefinitionNotFound(text(alloc, "\"é\\")?),
+        Error::GenericCompilationFailure(text(alloc, "Alias x[1] already exists")?),
+    ])
+}
+
+#[test]
+fn shown_errors(rt: HostRuntime) -> Result<(), Fail> {
+    let expected = [
+        (
+            "Recursion while compiling reached the limit of 1024",
+            "RecursionTooDeep",
+        ),
+        (
+            "The given pattern \"\" ended up compiling into an empty regex",
+            "CompiledPatternIsEmpty(\"\")",
+        ),
+        (
+            "The given pattern definition name \"nope\" could not be found in the definition map",
+            "DefinitionNotFound(\"nope\")",
+        ),
+        (
+            "The given regex \"Regex compilation failed:\n(\" failed compilation in the underlying engine",
+            "RegexCompilationFailed(\"Regex compilation failed:\\n(\")",
+        ),
+        (
+            "Something unexpected happened during the compilation phase: \"InvalidCharacter(' ')\"",
+            "GenericCompilationFailure(\"InvalidCharacter(' ')\")",
+        ),
+        ("Out of memory", "Memory"),
+        (
+            "The given pattern definition name \"\"é\\\" could not be found in the definition map",
+            "DefinitionNotFound(\"\\\"é\\\\\")",
+        ),
+        (
+            "Something unexpected happened during the compilation phase: \"Alias x[1] already exists\"",
+            "GenericCompilationFailure(\"Alias x[1] already exists\")",
+        ),
+    ];
+    let errors = errors(rt.alloc())?;
+    for (error, (display, debug)) in errors.iter().zip(expected.iter()) {
+        let shown = displayed(rt.alloc(), error)?;
+        assert_eq!(rt; shown.as_str(), *display);
+        let shown = format!(in rt.alloc(); "{error:?}")?;
+        assert_eq!(rt; shown.as_str(), *debug);
+    }
+    Ok(())
+}
+
+/// An error equals its clone, and no other one here.
+#[test]
+fn equal_errors(rt: HostRuntime) -> Result<(), Fail> {
+    let errors = errors(rt.alloc())?;
+    for (place, error) in errors.iter().enumerate() {
+        let copy = error.clone()?;
+        for (other_place, other) in errors.iter().enumerate() {
+            let is_same = copy == *other;
+            assert_eq!(rt; is_same, place == other_place, "{error:?} {other:?}");
+        }
+    }
+    let shown = format!(in rt.alloc(); "{:?} {:?}", Refusal::Refused, Refusal::Memory)?;
+    assert_eq!(rt; shown.as_str(), "Refused Memory");
+    assert_ne!(rt; Refusal::Refused, Refusal::Memory);
+    Ok(())
+}
+
+#[test]
+fn errors_of_faults(rt: HostRuntime) -> Result<(), Fail> {
+    for (fault, expected) in [
+        (Missing("x"), "DefinitionNotFound(\"x\")"),
+        (TooDeep, "RecursionTooDeep"),
+        (
+            Malformed(InvalidPattern),
+            "GenericCompilationFailure(\"InvalidPattern\")",
+        ),
+        (
+            Malformed(InvalidPatternDefinition),
+            "GenericCompilationFailure(\"InvalidPatternDefinition\")",
+        ),
+        (
+            Malformed(InvalidCharacter('!')),
+            "GenericCompilationFailure(\"InvalidCharacter('!')\")",
+        ),
+        (
+            Malformed(InvalidCharacter('é')),
+            "GenericCompilationFailure(\"InvalidCharacter('é')\")",
+        ),
+    ] {
+        let error = fault.to_error(rt.alloc())?;
+        let shown = format!(in rt.alloc(); "{error:?}")?;
+        assert_eq!(rt; shown.as_str(), expected);
+    }
+    Ok(())
+}
+
+/// What compiling over `regex` answers for patterns that have a fault.
+#[test]
+fn errors_of_patterns(rt: HostRuntime) -> Result<(), Fail> {
+    let clash = "GenericCompilationFailure(\"Alias x[1] already exists\")";
+    let invalid = "GenericCompilationFailure(\"InvalidPattern\")";
+    for (words, pattern, with_alias_only, expected) in [
+        ("A=a", "%{A:x[1]}%{A:x}%{A:x}", true, clash),
+        ("A=a", "%{A:x[1]}%{A:x}%{A:x}%{missing}", false, clash),
+        ("A=a", "%{A:x}%{A:x}%{A:x[1]}", false, clash),
+        ("A=a B=%{A:x}%{A:x}", "%{A:x[1]}%{B}", true, clash),
+        (
+            "A=%{A:x[1]}%{missing}",
+            "%{A:x}%{A:x}",
+            false,
+            "RecursionTooDeep",
+        ),
+        ("A=%{B} B=%{C} C=%{A}", "%{A}", false, "RecursionTooDeep"),
+        ("P=%{W=a}", "%{P}%{W}", false, "DefinitionNotFound(\"W\")"),
+        ("BAD=x%{ A=a", "%{BAD}", false, invalid),
+        ("BAD=x%{ A=a", "%{A}%{BAD}%{nope}", true, invalid),
+        (
+            "",
+            "%{N=a{2}}",
+            false,
+            "GenericCompilationFailure(\"InvalidPatternDefinition\")",
+        ),
+        (
+            "",
+            "%{né}",
+            true,
+            "GenericCompilationFailure(\"InvalidCharacter('é')\")",
+        ),
+        (
+            "A=(",
+            "%{A}",
+            true,
+            "RegexCompilationFailed(\"Regex compilation failed:\\n(?:()\")",
+        ),
+    ] {
+        let grok = library(rt.alloc(), words)?;
+        match grok.compile(pattern, with_alias_only) {
+            Ok(_) => assert!(rt; false, "a pattern at {pattern}"),
+            Err(error) => {
+                let shown = format!(in rt.alloc(); "{error:?}")?;
+                assert_eq!(rt; shown.as_str(), expected, "at {pattern}");
+            }
+        }
+    }
+    Ok(())
+}

@@ -1,0 +1,252 @@
+//! An expansion that writes every text out, by recursion over the pieces alone. It is slow and plain, and what the library answers is compared with it.
+
+use grok::parser::{GrokComponent, grok_split};
+use grok::{Fault, Looks, Measure};
+use std::alloc::{AllocError, Global};
+use std::collections::{BTreeMap, BTreeSet};
+
+/// How many placeholders may stand in one another.
+const LEVELS: usize = 1023;
+
+/// How many pieces an expansion may have here.
+const MOST_PIECES: usize = 100_000;
+
+/// Names with their texts, each name once.
+#[derive(Debug, Drop)]
+pub struct Texts {
+    pairs: Vec<(&'static str, String)>,
+}
+
+/// How an expansion ends.
+#[derive(Drop)]
+pub enum Ending<'a> {
+    Over,
+    Fault(Fault<'a>),
+    /// It has more pieces than this expansion takes.
+    GivenUp,
+}
+
+/// What was written and given out so far.
+#[derive(Drop)]
+pub struct Expansion<'a> {
+    alloc: Global,
+    with_alias_only: bool,
+    text: String,
+    nesting: usize,
+    /// How many recorded placeholders have each wanted key.
+    wanted: BTreeMap<&'a str, usize>,
+    /// The keys of the recorded placeholders, in order.
+    keys: Vec<String>,
+    given: BTreeSet<String>,
+    /// The first key that was to be given twice.
+    clash: Option<String>,
+    extracts: BTreeMap<String, &'a str>,
+    /// The names whose stored text was opened.
+    reached: BTreeSet<&'a str>,
+    pieces: usize,
+}
+
+impl Texts {
+    pub fn new(alloc: Global) -> Texts {
+        Texts {
+            pairs: Vec::new(alloc),
+        }
+    }
+
+    /// Adds a name that isn't there yet.
+    pub fn add(&mut self, name: &'static str, text: String) -> Result<(), AllocError> {
+        self.pairs.push((name, text))?;
+        Ok(())
+    }
+
+    pub fn pairs(&self) -> &[(&'static str, String)] {
+        self.pairs.as_slice()
+    }
+
+    fn get(&self, name: &str) -> Option<&str> {
+        for (other, text) in self.pairs.iter() {
+            if *other == name {
+                return Some(text.as_str());
+            }
+        }
+        None
+    }
+}
+
+/// The last text of the name.
+fn last_of<'a>(pairs: &[(&'a str, &'a str)], name: &str) -> Option<&'a str> {
+    let mut found = None;
+    for (other, text) in pairs {
+        if *other == name {
+            found = Some(*text);
+        }
+    }
+    found
+}
+
+impl<'a> Expansion<'a> {
+    fn new(alloc: Global, with_alias_only: bool) -> Expansion<'a> {
+        Expansion {
+            alloc,
+            with_alias_only,
+            text: String::new(alloc),
+            nesting: 0,
+            wanted: BTreeMap::new(alloc),
+            keys: Vec::new(alloc),
+            given: BTreeSet::new(alloc),
+            clash: None,
+            extracts: BTreeMap::new(alloc),
+            reached: BTreeSet::new(alloc),
+            pieces: 0,
+        }
+    }
+
+    pub fn with_alias_only(&self) -> bool {
+        self.with_alias_only
+    }
+
+    pub fn text(&self) -> &str {
+        self.text.as_str()
+    }
+
+    /// The keys of the recorded placeholders, in order.
+    pub fn keys(&self) -> &[String] {
+        self.keys.as_slice()
+    }
+
+    /// The first key that was to be given twice.
+    pub fn clash(&self) -> Option<&str> {
+        match &self.clash {
+            Some(key) => Some(key.as_str()),
+            None => None,
+        }
+    }
+
+    pub fn extract(&self, key: &str) -> Option<&'a str> {
+        self.extracts.get(key).copied()
+    }
+
+    /// The key of one more placeholder with this wanted key.
+    fn next_key(&mut self, wanted: &'a str) -> Result<String, AllocError> {
+        let before = self.wanted.get(&wanted).copied().unwrap_or(0);
+        self.wanted.insert(wanted, before.saturating_add(1))?;
+        if before == 0 {
+            String::from_str(self.alloc, wanted)
+        } else {
+            format!(in self.alloc; "{wanted}[{before}]")
+        }
+    }
+
+    /// Gives a recorded placeholder its number and its key.
+    fn record(&mut self, wanted: &'a str, extract: &'a str) -> Result<(), AllocError> {
+        let number = self.keys.len();
+        let key = self.next_key(wanted)?;
+        if self.clash.is_none() && self.given.contains(key.as_str()) {
+            self.clash = Some(key.clone()?);
+        }
+        self.given.insert(key.clone()?)?;
+        if !extract.is_empty() {
+            self.extracts.insert(key.clone()?, extract)?;
+        }
+        self.keys.push(key)?;
+        write!(&mut self.text, "(?<_n_{number}>")
+    }
+
+    /// Writes the front of a placeholder's group.
+    fn begin(&mut self, name: &'a str, alias: &'a str, extract: &'a str) -> Result<(), AllocError> {
+        if !alias.is_empty() {
+            self.record(alias, extract)
+        } else if self.with_alias_only {
+            self.text.push_str("(?:")
+        } else {
+            self.record(name, extract)
+        }
+    }
+
+    /// Expands a text, where so many more levels may be opened.
+    fn expand(
+        &mut self,
+        texts: &'a Texts,
+        text: &'a str,
+        levels: usize,
+    ) -> Result<Ending<'a>, AllocError> {
+        let mut own: Vec<(&'a str, &'a str)> = Vec::new(self.alloc);
+        'pieces: for piece in grok_split(text) {
+            self.pieces = self.pieces.saturating_add(1);
+            if self.pieces > MOST_PIECES {
+                return Ok(Ending::GivenUp);
+            }
+            match piece {
+                GrokComponent::RegularExpression { string, .. } => self.text.push_str(string)?,
+                GrokComponent::PatternError(fault) => {
+                    return Ok(Ending::Fault(Fault::Malformed(fault)));
+                }
+                GrokComponent::GrokPattern {
+                    name,
+                    alias,
+                    extract,
+                    definition,
+                    ..
+                } => {
+                    if !definition.is_empty() {
+                        own.push((name, definition))?;
+                    }
+                    let inline = last_of(own.as_slice(), name);
+                    let Some(meaning) = inline.or(texts.get(name)) else {
+                        return Ok(Ending::Fault(Fault::Missing(name)));
+                    };
+                    self.begin(name, alias, extract)?;
+                    if levels == 0 {
+                        return Ok(Ending::Fault(Fault::TooDeep));
+                    }
+                    self.nesting = self.nesting.max((LEVELS + 1).saturating_sub(levels));
+                    if inline.is_none() {
+                        self.reached.insert(name)?;
+                    }
+                    match self.expand(texts, meaning, levels - 1)? {
+                        Ending::Over => self.text.push_str(")")?,
+                        ending => return Ok(ending),
+                    }
+                }
+            }
+        }
+        Ok(Ending::Over)
+    }
+
+    /// Expands a pattern.
+    pub fn of(
+        alloc: Global,
+        texts: &'a Texts,
+        pattern: &'a str,
+        with_alias_only: bool,
+    ) -> Result<(Expansion<'a>, Ending<'a>), AllocError> {
+        let mut expansion = Expansion::new(alloc, with_alias_only);
+        let ending = expansion.expand(texts, pattern, LEVELS)?;
+        Ok((expansion, ending))
+    }
+
+    /// How many pieces and how many ends the pattern and the stored texts have that were opened.
+    pub fn looks(&self, texts: &Texts, pattern: &str) -> Looks {
+        let mut pieces = grok_split(pattern).count() as u64;
+        let mut ends = 1u64;
+        for name in self.reached.iter() {
+            let text = texts.get(name).unwrap_or("");
+            pieces = pieces.saturating_add(grok_split(text).count() as u64);
+            ends = ends.saturating_add(1);
+        }
+        Looks { pieces, ends }
+    }
+
+    /// The measure of an expansion that came to an end.
+    pub fn measure(&self, ending: &Ending<'a>) -> Option<Measure<'a>> {
+        match ending {
+            Ending::Over => Some(Measure::Size {
+                length: self.text.len(),
+                groups: self.keys.len(),
+                nesting: self.nesting,
+            }),
+            Ending::Fault(fault) => Some(Measure::Fault(*fault)),
+            Ending::GivenUp => None,
+        }
+    }
+}
