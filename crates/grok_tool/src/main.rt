@@ -23,6 +23,8 @@ mod split;
 mod stream;
 #[cfg(test)]
 mod tests;
+#[cfg(test)]
+mod tests_sizes;
 
 use command::Command;
 use fault::ToolFault;
