@@ -51,7 +51,6 @@ Compiled = PatternValue RegexEngine
 abbrev pub source_of : RegexEngine → List ℕ
 source_of engine = regex_source (engine_regex engine)
 
-
 abbrev pub names_of : RegexEngine → List (Option (List ℕ))
 names_of engine = regex_names (engine_regex engine)
 
