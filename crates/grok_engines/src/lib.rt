@@ -4,7 +4,6 @@
 mod bare;
 mod heads;
 mod refuser;
-
 #[cfg(test)]
 mod tests;
 

@@ -18,11 +18,11 @@ type Row = (
 /// The keys of a pattern, with a space between.
 fn keys_of(alloc: Global, pattern: &Pattern) -> Result<String, AllocError> {
     let mut all = String::new(alloc);
-    let mut separator = "";
     for key in pattern.capture_names() {
-        all.push_str(separator)?;
+        if !all.is_empty() {
+            all.push_str(" ")?;
+        }
         all.push_str(key)?;
-        separator = " ";
     }
     Ok(all)
 }
@@ -36,7 +36,7 @@ fn push_pair(all: &mut String, key: &str, value: &str) -> Result<(), AllocError>
 }
 
 /// The pairs of a match by each way to have them: `iter`, a `for`, `collect` and `collect_map`.
-fn pairs_of(alloc: Global, found: &Matches<'_>) -> Result<[String; 4], AllocError> {
+fn pairs_of<'a>(alloc: Global, found: &'a Matches<'a>) -> Result<[String; 4], AllocError> {
     let mut by_iter = String::new(alloc);
     for (key, value) in found.iter() {
         push_pair(&mut by_iter, key, value)?;
@@ -56,27 +56,43 @@ fn pairs_of(alloc: Global, found: &Matches<'_>) -> Result<[String; 4], AllocErro
     Ok([by_iter, by_for, by_collect, by_map])
 }
 
-/// The answer to a line is `no match`, or else these pairs, and each of its keys has its value.
+/// The match has these pairs, and each of its keys has its value.
+fn check_found<'a>(
+    rt: &(impl Abort + AllocGlobal),
+    found: &'a Matches<'a>,
+    line: &str,
+    expected: &str,
+) -> Result<(), Fail> {
+    for given in pairs_of(rt.alloc(), found)?.iter() {
+        assert_eq!(rt; given.as_str(), expected, "at {line}");
+    }
+    for key in found.pattern().capture_names() {
+        let mut paired = None;
+        for (other, value) in found.iter() {
+            if other == key {
+                paired = Some(value);
+            }
+        }
+        assert!(rt; found.get(key) == paired, "at {line} {key}");
+    }
+    assert!(rt; found.get("unknown").is_none());
+    Ok(())
+}
+
+/// The answer to a line is `no match`, or else these pairs.
 fn check_answer(
     rt: &(impl Abort + AllocGlobal),
     found: Option<Matches<'_>>,
     line: &str,
     expected: &str,
 ) -> Result<(), Fail> {
-    let Some(found) = found else {
-        assert_eq!(rt; "no match", expected, "at {line}");
-        return Ok(());
-    };
-    for given in pairs_of(rt.alloc(), &found)?.iter() {
-        assert_eq!(rt; given.as_str(), expected, "at {line}");
+    match found {
+        Some(found) => check_found(rt, &found, line, expected),
+        None => {
+            assert_eq!(rt; "no match", expected, "at {line}");
+            Ok(())
+        }
     }
-    for key in found.pattern().capture_names() {
-        let value = found.get(key);
-        let paired = found.iter().find(|pair| pair.0 == key).map(|pair| pair.1);
-        assert!(rt; value == paired, "at {line} {key}");
-    }
-    assert!(rt; found.get("unknown").is_none());
-    Ok(())
 }
 
 /// Each line has its answer, and a matcher that is kept gives the same.
@@ -264,7 +280,7 @@ fn answers_to_lines(rt: HostRuntime) -> Result<(), Fail> {
     )
 }
 
-/// Whatever the library holds, a malformed definition that isn't reached does no harm.
+/// The crate's own tests, each by its name.
 #[test]
 fn tests_of_the_crate(rt: HostRuntime) -> Result<(), Fail> {
     check_rows(

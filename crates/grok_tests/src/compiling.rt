@@ -1,3 +1,4 @@
+use crate::libraries::{add_chain, doublings, library};
 use grok::{Error, Grok, Measure};
 use std::alloc::{AllocError, Global};
 use std::test::Fail;
@@ -5,11 +6,11 @@ use std::test::Fail;
 /// What compiling answers: the text, and then the keys; or the error.
 fn answer(
     alloc: Global,
-    pairs: &[(&str, &str)],
+    words: &str,
     pattern: &str,
     with_alias_only: bool,
 ) -> Result<String, AllocError> {
-    let grok = Grok::from_iter(alloc, pairs)?;
+    let grok = library(alloc, words)?;
     match grok.compile(pattern, with_alias_only) {
         Ok(pattern) => {
             let mut all = String::from_str(alloc, pattern.text())?;
@@ -26,35 +27,29 @@ fn answer(
 #[test]
 fn worked_patterns(rt: HostRuntime) -> Result<(), Fail> {
     let alloc = rt.alloc();
-    let a: &[(&str, &str)] = &[("A", "a")];
-    let b: &[(&str, &str)] = &[("A", "a"), ("B", "%{A}%{A}")];
-    let w: &[(&str, &str)] = &[("W", "w")];
-    let user: &[(&str, &str)] = &[
-        ("USERNAME", "[a-zA-Z0-9._-]+"),
-        ("USER", "%{USERNAME::text}"),
-    ];
-    let bad: &[(&str, &str)] = &[("BAD", "%{")];
-    for (pairs, pattern, mode, expected) in [
-        (b, "%{B}", false, "(?<_n_0>(?<_n_1>a)(?<_n_2>a)) A A[1] B"),
+    let a = "A=a";
+    let user = "USERNAME=[a-zA-Z0-9._-]+ USER=%{USERNAME::text}";
+    for (words, pattern, mode, expected) in [
         (
-            &[],
+            "A=a B=%{A}%{A}",
+            "%{B}",
+            false,
+            "(?<_n_0>(?<_n_1>a)(?<_n_2>a)) A A[1] B",
+        ),
+        (
+            "",
             "%{W=a}%{W=b}%{W}",
             false,
             "(?<_n_0>a)(?<_n_1>b)(?<_n_2>b) W W[1] W[2]",
         ),
         (
-            w,
+            "W=w",
             "%{W}%{W=a}%{W}",
             false,
             "(?<_n_0>w)(?<_n_1>a)(?<_n_2>a) W W[1] W[2]",
         ),
-        (
-            &[("P", "%{W}")],
-            "%{W=a}%{P}",
-            false,
-            "DefinitionNotFound(\"W\")",
-        ),
-        (&[], "%{W:k=a}%{W}", true, "(?<_n_0>a)(?:a) k"),
+        ("P=%{W}", "%{W=a}%{P}", false, "DefinitionNotFound(\"W\")"),
+        ("", "%{W:k=a}%{W}", true, "(?<_n_0>a)(?:a) k"),
         (a, "[%{A}]", false, "[(?<_n_0>a)]"),
         (a, "(?:%{A:x}|b(?<x>c))", false, "(?:(?<_n_0>a)|b(?<x>c)) x"),
         (
@@ -63,18 +58,18 @@ fn worked_patterns(rt: HostRuntime) -> Result<(), Fail> {
             true,
             "(?<_n_0>(?:[a-zA-Z0-9._-]+)) usr",
         ),
-        (&[("E", "")], "%{E}", false, "(?<_n_0>) E"),
-        (&[("E", "")], "%{E}", true, "(?:)"),
-        (&[], "", false, "CompiledPatternIsEmpty(\"\")"),
+        ("E=", "%{E}", false, "(?<_n_0>) E"),
+        ("E=", "%{E}", true, "(?:)"),
+        ("", "", false, "CompiledPatternIsEmpty(\"\")"),
         (
-            &[],
+            "",
             "(",
             false,
             "RegexCompilationFailed(\"Regex compilation failed:\\n(\")",
         ),
-        (bad, "x", false, "x"),
+        ("BAD=%{", "x", false, "x"),
         (
-            bad,
+            "BAD=%{",
             "%{BAD}",
             false,
             "GenericCompilationFailure(\"InvalidPattern\")",
@@ -92,7 +87,7 @@ fn worked_patterns(rt: HostRuntime) -> Result<(), Fail> {
             "GenericCompilationFailure(\"Alias x[1] already exists\")",
         ),
         (
-            &[],
+            "",
             "%{P:x=a}%{P:x:int=b}%{P:x[1]=c}",
             false,
             "GenericCompilationFailure(\"Alias x[1] already exists\")",
@@ -121,27 +116,22 @@ fn worked_patterns(rt: HostRuntime) -> Result<(), Fail> {
             false,
             "GenericCompilationFailure(\"InvalidPattern\")",
         ),
-        (&[], "%{nope}%{", false, "DefinitionNotFound(\"nope\")"),
+        ("", "%{nope}%{", false, "DefinitionNotFound(\"nope\")"),
         (
-            &[],
+            "",
             "%{a b}",
             false,
             "GenericCompilationFailure(\"InvalidCharacter(' ')\")",
         ),
+        ("A=%{A}%{missing}", "%{A}", false, "RecursionTooDeep"),
         (
-            &[("A", "%{A}%{missing}")],
-            "%{A}",
-            false,
-            "RecursionTooDeep",
-        ),
-        (
-            &[("A", "%{missing}%{A}")],
+            "A=%{missing}%{A}",
             "%{A}",
             false,
             "DefinitionNotFound(\"missing\")",
         ),
     ] {
-        let given = answer(alloc, pairs, pattern, mode)?;
+        let given = answer(alloc, words, pattern, mode)?;
         assert_eq!(rt; given.as_str(), expected, "at {pattern}");
     }
     Ok(())
@@ -165,30 +155,13 @@ fn extracts(rt: HostRuntime) -> Result<(), Fail> {
     Ok(())
 }
 
-/// Definitions that call one another in a row, of which the last is this text.
-fn chain(
-    alloc: Global,
-    grok: &mut Grok,
-    letter: &str,
-    count: u32,
-    last: &str,
-) -> Result<(), AllocError> {
-    for number in 1..count {
-        let name = format!(in alloc; "{letter}{number}")?;
-        let text = format!(in alloc; "%{{{letter}{}}}", number + 1)?;
-        grok.add_pattern(name.as_str(), text.as_str())?;
-    }
-    let name = format!(in alloc; "{letter}{count}")?;
-    grok.add_pattern(name.as_str(), last)
-}
-
 #[test]
 fn depth(rt: HostRuntime) -> Result<(), Fail> {
     let alloc = rt.alloc();
     let mut grok = Grok::from_iter(alloc, &[("A", "a")])?;
-    chain(alloc, &mut grok, "C", 1023, "x")?;
-    chain(alloc, &mut grok, "D", 1024, "x")?;
-    chain(alloc, &mut grok, "E", 1023, "%{A:x}")?;
+    add_chain(alloc, &mut grok, "C", 1023, "x")?;
+    add_chain(alloc, &mut grok, "D", 1024, "x")?;
+    add_chain(alloc, &mut grok, "E", 1023, "%{A:x}")?;
     let size = Measure::Size {
         length: 4093,
         groups: 0,
@@ -224,12 +197,7 @@ fn depth(rt: HostRuntime) -> Result<(), Fail> {
 #[test]
 fn hostile_libraries(rt: HostRuntime) -> Result<(), Fail> {
     let alloc = rt.alloc();
-    let mut grok = Grok::from_iter(alloc, &[("D0", "a"), ("A", "a")])?;
-    for number in 1..71u32 {
-        let name = format!(in alloc; "D{number}")?;
-        let text = format!(in alloc; "%{{D{}}}%{{D{}}}", number - 1, number - 1)?;
-        grok.add_pattern(name.as_str(), text.as_str())?;
-    }
+    let grok = doublings(alloc, "A=a")?;
     for (pattern, expected) in [
         ("%{D70}", "Memory"),
         ("%{D70}%{missing}", "DefinitionNotFound(\"missing\")"),

@@ -1,36 +1,12 @@
 //! What compiling answers over engines that take every text, or none.
 
 use crate::libraries::{add_chain, chain, doublings, library};
-use grok::{Engine, Grok, PatternOf};
+use crate::shown::shown;
+use grok::{Engine, Grok, MatchesOf, PatternOf};
 use grok_engines::{Bare, Heads, Refuser};
 use std::alloc::{AllocError, Global};
+use std::process::Abort;
 use std::test::Fail;
-
-/// The pairs of the match of the line `q`, which these engines find in every line.
-fn pairs_on_q<E: Engine>(alloc: Global, pattern: &PatternOf<E>) -> Result<String, Fail> {
-    let Some(found) = pattern.match_against("q")? else {
-        return Err("no match")?;
-    };
-    let mut all = String::new(alloc);
-    for (key, value) in found.iter() {
-        write!(&mut all, "{key}={value} ")?;
-    }
-    let collected = found.collect(alloc)?;
-    let mapped = found.collect_map(alloc)?;
-    write!(&mut all, "{} {}", collected.len(), mapped.len())?;
-    Ok(all)
-}
-
-/// The text of a pattern, its keys, and its pairs on the line `q` with how many they are.
-fn shown<E: Engine>(alloc: Global, pattern: &PatternOf<E>) -> Result<String, Fail> {
-    let mut all = String::from_str(alloc, pattern.text())?;
-    for key in pattern.capture_names() {
-        write!(&mut all, " {key}")?;
-    }
-    let pairs = pairs_on_q(alloc, pattern)?;
-    write!(&mut all, " | {pairs}")?;
-    Ok(all)
-}
 
 /// What compiling answers over the engine: what the pattern shows, or the error.
 fn answer<E: Engine>(
@@ -38,10 +14,10 @@ fn answer<E: Engine>(
     grok: &Grok,
     text: &str,
     with_alias_only: bool,
-) -> Result<String, Fail> {
+) -> Result<String, AllocError> {
     match grok.compile_with::<E>(text, with_alias_only) {
         Ok(pattern) => shown(alloc, &pattern),
-        Err(error) => Ok(format!(in alloc; "{error:?}")?),
+        Err(error) => format!(in alloc; "{error:?}"),
     }
 }
 
@@ -102,28 +78,43 @@ fn over_heads(rt: HostRuntime) -> Result<(), Fail> {
     Ok(())
 }
 
+/// The first and the third group took part, and the second did not.
+fn check_values(rt: &impl Abort, found: &MatchesOf<'_, Heads>, line: &str) {
+    for (key, expected) in [
+        ("x", Some(line)),
+        ("x[1]", Some(line)),
+        ("y", None),
+        ("z", None),
+    ] {
+        assert!(rt; found.get(key) == expected, "at {key}");
+    }
+    assert_eq!(rt; found.pattern().text(), "(?<_n_0>a)(?<_n_1>a)(?<_n_2>a)");
+}
+
+/// The answer to a line is a match with those values.
+fn check_answer(rt: &impl Abort, found: Option<MatchesOf<'_, Heads>>, line: &str) {
+    match found {
+        Some(found) => check_values(rt, &found, line),
+        None => assert!(rt; false, "no match at {line}"),
+    }
+}
+
+/// A pattern and a matcher of it that is kept give this answer to the line.
+fn check_line(rt: &impl Abort, pattern: &PatternOf<Heads>, line: &str) -> Result<(), AllocError> {
+    let mut kept = pattern.line_matcher()?;
+    check_answer(rt, pattern.match_against(line)?, line);
+    check_answer(rt, kept.match_against(line)?, line);
+    Ok(())
+}
+
 /// A group that took no part has no value, and a kept matcher answers the same.
 #[test]
 fn values_over_heads(rt: HostRuntime) -> Result<(), Fail> {
     let grok = library(rt.alloc(), "A=a")?;
     let pattern: PatternOf<Heads> = grok.compile_with("%{A:x}%{A:y:t}%{A:x}", false)?;
     assert_eq!(rt; pattern.get_extract("y"), Some("t"));
-    let mut kept = pattern.line_matcher()?;
     for line in ["q", "", "other"] {
-        let (Some(found), Some(again)) = (pattern.match_against(line)?, kept.match_against(line)?)
-        else {
-            return Err("no match")?;
-        };
-        for (key, expected) in [
-            ("x", Some(line)),
-            ("x[1]", Some(line)),
-            ("y", None),
-            ("z", None),
-        ] {
-            assert!(rt; found.get(key) == expected, "at {key}");
-            assert!(rt; again.get(key) == expected, "at {key}");
-        }
-        assert_eq!(rt; again.pattern().text(), pattern.text());
+        check_line(&rt, &pattern, line)?;
     }
     Ok(())
 }

@@ -84,6 +84,15 @@ fn last_of<'a>(pairs: &[(&'a str, &'a str)], name: &str) -> Option<&'a str> {
     found
 }
 
+/// How many pieces a text has.
+fn count_pieces(text: &str) -> u64 {
+    let mut pieces = 0u64;
+    for _piece in grok_split(text) {
+        pieces = pieces.saturating_add(1);
+    }
+    pieces
+}
+
 impl<'a> Expansion<'a> {
     fn new(alloc: Global, with_alias_only: bool) -> Expansion<'a> {
         Expansion {
@@ -220,18 +229,18 @@ impl<'a> Expansion<'a> {
         pattern: &'a str,
         with_alias_only: bool,
     ) -> Result<(Expansion<'a>, Ending<'a>), AllocError> {
-        let mut expansion = Expansion::new(alloc, with_alias_only);
+        let mut expansion: Expansion<'a> = Expansion::new(alloc, with_alias_only);
         let ending = expansion.expand(texts, pattern, LEVELS)?;
         Ok((expansion, ending))
     }
 
     /// How many pieces and how many ends the pattern and the stored texts have that were opened.
     pub fn looks(&self, texts: &Texts, pattern: &str) -> Looks {
-        let mut pieces = grok_split(pattern).count() as u64;
+        let mut pieces = count_pieces(pattern);
         let mut ends = 1u64;
         for name in self.reached.iter() {
             let text = texts.get(name).unwrap_or("");
-            pieces = pieces.saturating_add(grok_split(text).count() as u64);
+            pieces = pieces.saturating_add(count_pieces(text));
             ends = ends.saturating_add(1);
         }
         Looks { pieces, ends }

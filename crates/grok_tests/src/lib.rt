@@ -21,3 +21,5 @@ mod many;
 mod measure;
 #[cfg(test)]
 mod pieces;
+#[cfg(test)]
+mod shown;

@@ -1,6 +1,7 @@
 //! Many small libraries, made by a fixed rule.
 
 use crate::expansion::{Ending, Expansion, Texts};
+use crate::shown::shown;
 use grok::{Error, Fault, Grok, Looks, Measure, PatternOf};
 use grok_engines::Heads;
 use std::alloc::{AllocError, Global};
@@ -9,7 +10,7 @@ use std::process::Abort;
 use std::test::Fail;
 
 /// The names that have definitions.
-const NAMES: [&str; 5] = ["A", "B", "C", "D", "E"];
+static NAMES: [&str; 5] = ["A", "B", "C", "D", "E"];
 
 /// What stands for itself.
 const PLAIN: [&str; 10] = [
@@ -76,7 +77,7 @@ impl Numbers {
     }
 
     /// One of the choices.
-    fn pick(&mut self, choices: &[&'static str]) -> &'static str {
+    fn pick<'c>(&mut self, choices: &[&'c str]) -> &'c str {
         let place = self.below(choices.len());
         choices.get(place).copied().unwrap_or("")
     }
@@ -97,7 +98,7 @@ fn add_piece(
     kind: Kind,
     first: usize,
 ) -> Result<(), AllocError> {
-    let names = NAMES.get(first..).unwrap_or(&[]);
+    let names = &NAMES[first.min(NAMES.len())..];
     let choice = numbers.below(16);
     let piece = if choice == 0 && kind.has_faults {
         numbers.pick(&BROKEN)
@@ -260,33 +261,34 @@ fn table_of(
     Ok(table)
 }
 
-/// The pattern has the text, the keys and the extracts of the expansion. In the match of a line each odd group took part, and no other.
+/// What a pattern of the expansion shows: in a match each odd group took part, and no other.
+fn expected_shown(alloc: Global, expansion: &Expansion<'_>) -> Result<String, AllocError> {
+    let mut all = String::from_str(alloc, expansion.text())?;
+    let mut pairs = String::new(alloc);
+    let mut count = 0u32;
+    for (key, group) in table_of(alloc, expansion)?.iter() {
+        write!(&mut all, " {key}")?;
+        if *group % 2 == 1 {
+            write!(&mut pairs, " {key}=q")?;
+            count = count.saturating_add(1);
+        }
+    }
+    write!(&mut all, " |{pairs} {count} {count}")?;
+    Ok(all)
+}
+
+/// The pattern has the text, the keys and the extracts of the expansion.
 fn check_compiled(
     rt: &(impl Abort + AllocGlobal),
     pattern: &PatternOf<Heads>,
     expansion: &Expansion<'_>,
 ) -> Result<(), Fail> {
-    assert_eq!(rt; pattern.text(), expansion.text());
-    let Some(found) = pattern.match_against("q")? else {
-        return Err("no match")?;
-    };
-    let mut names = pattern.capture_names();
-    let mut pairs = found.iter();
-    for (key, group) in table_of(rt.alloc(), expansion)?.iter() {
-        let key = key.as_str();
-        assert_eq!(rt; names.next(), Some(key));
-        if *group % 2 == 1 {
-            assert!(rt; pairs.next() == Some((key, "q")), "at {key}");
-            assert_eq!(rt; found.get(key), Some("q"));
-        } else {
-            assert_eq!(rt; found.get(key), None);
-        }
-    }
-    assert_eq!(rt; names.next(), None);
-    assert!(rt; pairs.next().is_none());
+    let given = shown(rt.alloc(), pattern)?;
+    let expected = expected_shown(rt.alloc(), expansion)?;
+    assert_eq!(rt; given.as_str(), expected.as_str());
     for key in expansion.keys() {
-        let extract = pattern.get_extract(key.as_str());
-        assert!(rt; extract == expansion.extract(key.as_str()), "at {key}");
+        let is_right = pattern.get_extract(key.as_str()) == expansion.extract(key.as_str());
+        assert!(rt; is_right, "at {key}");
     }
     Ok(())
 }
@@ -361,10 +363,10 @@ fn many_libraries(rt: HostRuntime) -> Result<(), Fail> {
             check(&rt, &texts, pattern.as_str(), with_alias_only, &mut ends)?;
         }
     }
-    let are_many = ends.over >= 300 && ends.malformed >= 25 && ends.missing >= 50;
+    let are_many = ends.over >= 300 && ends.malformed >= 30 && ends.missing >= 30;
     assert!(rt; are_many, "{ends:?}");
     assert!(rt;
-        ends.too_deep >= 100 && ends.clashes >= 20 && ends.given_up <= 20,
+        ends.too_deep >= 80 && ends.clashes >= 30 && ends.given_up == 0,
         "{ends:?}"
     );
     Ok(())
