@@ -51,6 +51,22 @@ fn doublings(alloc: Global, last: u8) -> Result<Vec<String>, AllocError> {
     Ok(words)
 }
 
+/// These words, and behind them the doublings.
+fn with_doublings<'a>(
+    alloc: Global,
+    first: &[&'a str],
+    doublings: &'a [String],
+) -> Result<Vec<&'a str>, AllocError> {
+    let mut words: Vec<&str> = Vec::new(alloc);
+    for word in first {
+        words.push(*word)?;
+    }
+    for word in doublings {
+        words.push(word.as_str())?;
+    }
+    Ok(words)
+}
+
 #[test]
 fn measure_prints_one_line(rt: HostRuntime) -> Result<(), Fail> {
     let rows: [(&[&str], &str); 12] = [
@@ -151,10 +167,7 @@ fn measure_of_a_text_past_the_limit(rt: HostRuntime) -> Result<(), Fail> {
         ),
         ("%{D61}", "too long\n"),
     ] {
-        let mut words = vec![in rt.alloc(); "measure", "-a", pattern]?;
-        for word in &doublings {
-            words.push(word.as_str())?;
-        }
+        let words = with_doublings(rt.alloc(), &["measure", "-a", pattern], &doublings)?;
         let mut input: &[u8] = b"";
         let mut output = nothing_taken(rt.alloc());
         assert!(rt; run(rt.alloc(), &words, &mut input, &mut output).is_ok());
@@ -246,10 +259,7 @@ fn check_names_a_definition_once(rt: HostRuntime) -> Result<(), Fail> {
 #[test]
 fn check_of_long_texts_ends_at_once(rt: HostRuntime) -> Result<(), Fail> {
     let doublings = doublings(rt.alloc(), 70)?;
-    let mut words = vec![in rt.alloc(); "check", "-a"]?;
-    for word in &doublings {
-        words.push(word.as_str())?;
-    }
+    let words = with_doublings(rt.alloc(), &["check", "-a"], &doublings)?;
     let mut input: &[u8] = b"";
     let mut output = nothing_taken(rt.alloc());
     assert!(rt; run(rt.alloc(), &words, &mut input, &mut output).is_ok());
