@@ -9,7 +9,7 @@ use Rattle.grok.specs.declared.structural.Fault.{Fault as CodeFault}
 use Rattle.grok.specs.declared.measure.Sum.{Sum}
 use Rattle.grok.specs.declared.measure.Met.{Met}
 use Rattle.grok.specs.Maps.{Texts}
-use Rattle.grok.specs.Tree.{Fault, Item, items_of, Event, tree, first_structural, reached}
+use Rattle.grok.specs.Tree.{Fault, Item, items_of, Event, deepest, tree, first_structural, reached}
 use Rattle.grok.specs.Keys.{has_bracket}
 use Rattle.grok.specs.Expanded.{expanded, groups, nesting}
 use Rattle.grok.specs.Sizes.{Size}
@@ -33,14 +33,14 @@ module _ (texts : Texts) (alias_only : Bool) (pattern : List ℕ) where
   resolve = items_of (finite.get texts)
 
   abbrev answer : Answer
-  answer = measure_within 1023 alias_only resolve pattern
+  answer = measure_within deepest alias_only resolve pattern
 
   abbrev whole : List Event
   whole = tree (finite.get texts) pattern
 
   theorem : IsMeasureOf alias_only resolve (finite.entries texts) pattern whole answer
   unfolding tree
-  theorem = measures alias_only resolve (finite.get texts) (finite.entries texts) (table_of texts) (sound_texts (finite.get texts)) 1023 pattern
+  theorem = measures alias_only resolve (finite.get texts) (finite.entries texts) (table_of texts) (sound_texts (finite.get texts)) deepest pattern
 
   measured_from : (s : Result Size Fault) → answer.0 ≡ s → measured_size s ≡ measured_tree alias_only whole
   unfolding theorem
@@ -56,7 +56,7 @@ module _ (texts : Texts) (alias_only : Bool) (pattern : List ℕ) where
   weight_same : table_weight (λ text. length (resolve text)) (finite.entries texts) pattern whole ≡ reached_pieces texts pattern
   weight_same = ap (λ (weight : List ℕ → ℕ). table_weight weight (finite.entries texts) pattern whole) (λ i text. length-items_of (finite.get texts) text i)
 
-  module _ (r : Result Sum CodeFault) (met : Met) (gives : Gives r met (look_within alias_only resolve 1023 (resolve pattern) nothing_met)) where
+  module _ (r : Result Sum CodeFault) (met : Met) (gives : Gives r met (look_within alias_only resolve deepest (resolve pattern) nothing_met)) where
     given : Gives r met answer
     unfolding measure_within
     given = gives

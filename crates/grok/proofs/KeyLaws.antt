@@ -12,7 +12,7 @@ use Rattle.std.proofs.lemmas.Slice.Eq.{bytes_eq-Decides}
 use Rattle.std.proofs.lemmas.Int.Digits.{all_below_base_digits_of, same_from_digits_of}
 use Rattle.grok.specs.Pieces.{is_name_byte, Parts, Piece, Regular, Placeholder, Malformed, pieces}
 use Rattle.grok.specs.Grammar.{AllPass, ArePieces}
-use Rattle.grok.specs.Tree.{Definitions, no_definitions, with_written, opened, label_of, items_after, Item, Bytes, Broken, Opening, items_of, events, inside, tree, text_of, Label, Event, Text, Open, Close, Fails, is_absent, first_structural, reached}
+use Rattle.grok.specs.Tree.{Definitions, no_definitions, with_written, opened, label_of, items_after, Item, Bytes, Broken, Opening, items_of, events, inside, deepest, tree, text_of, Label, Event, Text, Open, Close, Fails, is_absent, first_structural, reached}
 use Rattle.grok.specs.Keys.{numeral, is_recorded, wanted, numbered, key_after, keys_after, keys, recorded, how_often, is_among, first_fault_after, Structural, Clash, ends_in_bracket, has_bracket, AreDistinct, ClashNeedsBracket, KeysAreDistinct}
 use Rattle.grok.specs.Given.{taken_of}
 use Rattle.grok.proofs.Adequate.{pieces_are}
@@ -206,7 +206,7 @@ named_inside stored (suc levels) text =
 
 named_tree : (stored : Definitions) (pattern : List ℕ) → AreNamed (tree stored pattern)
 unfolding tree
-named_tree stored pattern = named_events (inside (items_of stored) 1023) (named_inside stored 1023) (items_of stored pattern) (named_text stored pattern)
+named_tree stored pattern = named_events (inside (items_of stored) deepest) (named_inside stored deepest) (items_of stored pattern) (named_text stored pattern)
 
 pub clash_needs_bracket : ClashNeedsBracket
 clash_needs_bracket alias_only stored pattern quiet = no_clash alias_only [] (tree stored pattern) tt (named_tree stored pattern) quiet

@@ -5,7 +5,7 @@ use Rattle.std.specs.Str.{bytes_eq}
 use Rattle.std.proofs.lemmas.Bool.{true≢false, false_from_ne_true}
 use Rattle.std.proofs.lemmas.Slice.Eq.{bytes_eq-Decides}
 use Rattle.grok.specs.Pieces.{Parts, Piece, Regular, Placeholder, Malformed, pieces}
-use Rattle.grok.specs.Tree.{Definitions, no_definitions, with_written, is_absent, Fault, Missing, Label, label_of, Inline, Stored, opened, placeholder_item, items_after, items_of, Item, Event, Text, Open, Close, Fails, events, inside, tree, first_structural, reached}
+use Rattle.grok.specs.Tree.{Definitions, no_definitions, with_written, is_absent, Fault, Missing, Label, label_of, Inline, Stored, opened, placeholder_item, items_after, items_of, Item, Event, Text, Open, Close, Fails, events, inside, deepest, tree, first_structural, reached}
 use Rattle.grok.specs.Measured.{Faulty, Sized, PastLimit, size_within, fault_or, reaches}
 use Rattle.grok.specs.Expanded.{text_after, expanded, groups, nesting}
 use Rattle.grok.specs.Keys.{numeral, is_recorded}
@@ -199,7 +199,7 @@ module _ (stored other : Definitions) where
 pub unused_definitions_do_not_matter : UnusedDefinitionsDoNotMatter
 unfolding tree
 unused_definitions_do_not_matter stored other pattern agree =
-    let s = same_pieces stored other (inside (items_of stored) 1023) (inside (items_of other) 1023) (same_inside stored other 1023) no_definitions (pieces pattern) agree in
+    let s = same_pieces stored other (inside (items_of stored) deepest) (inside (items_of other) deepest) (same_inside stored other deepest) no_definitions (pieces pattern) agree in
     (s.first, s.reach)
 
 -- ---- modes

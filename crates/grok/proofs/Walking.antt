@@ -6,7 +6,7 @@ use Rattle.std.specs.Str.{bytes_eq}
 use Rattle.std.specs.String.{string_bytes}
 use Rattle.std.specs.BTreeMap.{get_by_text}
 use Rattle.std.specs.BTreeSet.{contains_text}
-use Rattle.grok.specs.Tree.{Definitions, is_absent, Label, Meaning, text_of, Item, Bytes, Broken, Opening, items_of, Event, Open, Close, events, inside, tree}
+use Rattle.grok.specs.Tree.{Definitions, is_absent, Label, Meaning, text_of, Item, Bytes, Broken, Opening, items_of, Event, Open, Close, events, inside, deepest, tree}
 use Rattle.grok.specs.Keys.{wanted, numbered, how_often, key_after, is_among, first_fault, keys, recorded}
 use Rattle.grok.specs.Given.{taken_of, in_order, extract_before, faults, after}
 use Rattle.grok.specs.declared.expand.given.Given.{Given}
@@ -137,7 +137,7 @@ module _ (alias_only : Bool) (items : List ℕ → List Item) (levels : ℕ) (la
 
 -- ---- the whole
 
-pub whole_keyed : (alias_only : Bool) (stored : Definitions) (pattern : List ℕ) (given : Given) → Passed alias_only [] (events (inside (items_of stored) 1023) (items_of stored pattern)) given → HasKeys alias_only (tree stored pattern) given
+pub whole_keyed : (alias_only : Bool) (stored : Definitions) (pattern : List ℕ) (given : Given) → Passed alias_only [] (events (inside (items_of stored) deepest) (items_of stored pattern)) given → HasKeys alias_only (tree stored pattern) given
 unfolding tree
 whole_keyed alias_only stored pattern given passed = record {
   none = passed.none;
@@ -145,7 +145,7 @@ whole_keyed alias_only stored pattern given passed = record {
   extracts = λ key. passed.shows.extracts key ∙ extract_onto [] (recorded alias_only (tree stored pattern)) key;
 }
 
-pub whole_stopped : (alias_only : Bool) (stored : Definitions) (pattern : List ℕ) (finding : Finding) → Stopped alias_only [] (events (inside (items_of stored) 1023) (items_of stored pattern)) finding → first_fault alias_only (tree stored pattern) ≡ Some (finding_view finding)
+pub whole_stopped : (alias_only : Bool) (stored : Definitions) (pattern : List ℕ) (finding : Finding) → Stopped alias_only [] (events (inside (items_of stored) deepest) (items_of stored pattern)) finding → first_fault alias_only (tree stored pattern) ≡ Some (finding_view finding)
 unfolding tree
 whole_stopped alias_only stored pattern finding stopped = stopped.fault
 

@@ -4,7 +4,7 @@ use Rattle.std.specs.Prelude.{codes}
 use Rattle.std.specs.String.{string_bytes, string_len, string_capacity}
 use Rattle.std.specs.Global.{Global}
 use Rattle.std.specs.declared.string.String.{String}
-use Rattle.grok.specs.Tree.{Definitions, Label, Meaning, text_of, Fault, Item, Opening, items_of, Event, Text, Open, Close, Fails, events, inside, first_structural, tree}
+use Rattle.grok.specs.Tree.{Definitions, Label, Meaning, text_of, Fault, Item, Opening, items_of, Event, Text, Open, Close, Fails, events, inside, first_structural, deepest, tree}
 use Rattle.grok.specs.Keys.{numeral, is_recorded, recorded}
 use Rattle.grok.specs.Expanded.{text_after, expanded}
 use Rattle.grok.specs.Writes.{head_of, IsReady, Wrote}
@@ -195,7 +195,7 @@ groups_within alias_only count (Open label meaning ∷ es) = go (is_recorded ali
     go false one none = omega (arith, none)
 
 pub ready_whole : (alias_only : Bool) (stored : Definitions) (pattern : List ℕ) (text : String Global) → first_structural (tree stored pattern) ≡ None → string_bytes text ≡ []
-    → length (expanded alias_only (tree stored pattern)) ≤ string_capacity text → IsReady alias_only (events (inside (items_of stored) 1023) (items_of stored pattern)) (record { text = text; groups = 0 })
+    → length (expanded alias_only (tree stored pattern)) ≤ string_capacity text → IsReady alias_only (events (inside (items_of stored) deepest) (items_of stored pattern)) (record { text = text; groups = 0 })
 unfolding tree
 ready_whole alias_only stored pattern text clean empty room =
     let groups = groups_within alias_only 0 (tree stored pattern) in
@@ -206,6 +206,6 @@ ready_whole alias_only stored pattern text clean empty room =
     }
 
 pub wrote_whole : (alias_only : Bool) (stored : Definitions) (pattern : List ℕ) (text : String Global) (out : Output) → string_bytes text ≡ []
-    → Wrote alias_only (events (inside (items_of stored) 1023) (items_of stored pattern)) (record { text = text; groups = 0 }) out → string_bytes out.text ≡ expanded alias_only (tree stored pattern)
+    → Wrote alias_only (events (inside (items_of stored) deepest) (items_of stored pattern)) (record { text = text; groups = 0 }) out → string_bytes out.text ≡ expanded alias_only (tree stored pattern)
 unfolding tree
 wrote_whole alias_only stored pattern text out empty w = w.text ∙ ap (λ bs. bs ++ expanded alias_only (tree stored pattern)) empty

@@ -96,9 +96,13 @@ inside items (suc levels) text = events (inside items levels) (items text) ++ Cl
 abbrev pub tree_within : ℕ → (List ℕ → List Item) → List ℕ → List Event
 tree_within levels items pattern = events (inside items levels) (items pattern)
 
+-- how many opens may stand in one another
+abbrev pub deepest : ℕ
+deepest = 1023
+
 -- THE TREE of a pattern, as a list of events: a nesting of 1,023 is allowed.
 unfoldable pub tree : Definitions → List ℕ → List Event
-tree stored pattern = tree_within 1023 (items_of stored) pattern
+tree stored pattern = tree_within deepest (items_of stored) pattern
 
 -- the first fault event; a tree is clean if it has none
 abbrev pub first_structural : List Event → Option Fault

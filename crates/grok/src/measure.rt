@@ -11,12 +11,9 @@ ghost use Rattle.grok.specs.Items.{label_view, item_view};
 use crate::defs::Grok;
 use crate::defs::stored::Stored;
 use crate::items::{Item, Items, Label, Meaning};
-use crate::structural::Fault;
+use crate::structural::{Fault, LEVELS};
 use std::alloc::{AllocError, Global};
 use std::collections::BTreeMap;
-
-/// How many levels may be opened in one another.
-const LEVELS: usize = 1023;
 
 /// What measuring a pattern answers.
 #[derive(Clone, Copy, PartialEq, Eq, Debug)]

@@ -2,6 +2,9 @@
 
 use crate::parser::GrokPatternError;
 
+/// How many placeholders may be opened in one another.
+pub(crate) const LEVELS: usize = 1023;
+
 /// A structural fault of an expansion: the first one in the order of reading is what `Grok::measure` answers.
 #[derive(Clone, Copy, PartialEq, Eq, Debug)]
 pub enum Fault<'a> {

@@ -5,7 +5,7 @@ use std::alloc::Global;
 use std::fmt;
 
 /// The definitions of these lines, `NAME=DEF` each. A later one of a name replaces an earlier one.
-pub fn from_lines(alloc: Global, lines: &str) -> Result<Grok> {
+pub(crate) fn from_lines(alloc: Global, lines: &str) -> Result<Grok> {
     let mut grok = Grok::empty(alloc);
     for line in lines.lines() {
         let Some((name, definition)) = line.split_once("=") else {
@@ -18,7 +18,7 @@ pub fn from_lines(alloc: Global, lines: &str) -> Result<Grok> {
 
 /// What measuring a pattern found, and how many looks it took.
 #[derive(Clone, Copy)]
-pub struct Findings<'a>(pub Measure<'a>, pub Looks);
+pub(crate) struct Findings<'a>(pub(crate) Measure<'a>, pub(crate) Looks);
 
 impl fmt::Display for Findings<'_> {
     fn fmt<W: fmt::Write>(&self, f: &mut fmt::Formatter<W>) -> fmt::Result {

@@ -4,7 +4,7 @@ use std::fmt;
 
 /// How many pieces of each kind a pattern has.
 #[derive(Clone, Copy, Default)]
-pub struct Pieces {
+pub(crate) struct Pieces {
     regular: u64,
     placeholders: u64,
     faults: u64,
@@ -23,7 +23,7 @@ impl fmt::Display for Pieces {
 }
 
 /// Counts the pieces of a pattern, to its end or its fault.
-pub fn count(pattern: &str) -> Pieces {
+pub(crate) fn count(pattern: &str) -> Pieces {
     let mut pieces = Pieces::default();
     for piece in parser::grok_split(pattern) {
         match piece {

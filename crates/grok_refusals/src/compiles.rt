@@ -11,7 +11,7 @@ const USERS: [(&str, &str); 2] = [
     ("USER", "%{USERNAME::text}"),
 ];
 
-pub fn call(rt: &HostRuntime, name: &str) -> Result<()> {
+pub(crate) fn call(rt: &HostRuntime, name: &str) -> Result<()> {
     match name {
         "two_levels" => compile::<Heads>(rt, &TWO_LEVELS, "%{B}", false),
         "clash" => compile::<Heads>(rt, &TWO_LEVELS, "%{A:x[1]}%{A:x}%{A:x}", false),

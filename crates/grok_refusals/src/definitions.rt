@@ -14,7 +14,7 @@ const PAIRS: [(&str, &str); 3] = [
 /// Patterns over them, and over a name that is still to be added.
 const PATTERNS: [&str; 3] = ["%{A}", "%{B:key}-%{A}", "%{NEW}"];
 
-pub fn call(rt: &HostRuntime, name: &str) -> Result<()> {
+pub(crate) fn call(rt: &HostRuntime, name: &str) -> Result<()> {
     match name {
         "empty" => empty(rt),
         "patterns" => patterns(rt),

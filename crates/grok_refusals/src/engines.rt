@@ -3,7 +3,7 @@ use anyhow::{Result, bail};
 use grok::{Engine, RegexEngine};
 use grok_engines::Bare;
 
-pub fn call(rt: &HostRuntime, name: &str) -> Result<()> {
+pub(crate) fn call(rt: &HostRuntime, name: &str) -> Result<()> {
     match name {
         "bare_captures" => bare_captures(rt),
         "regex_text" => regex_text(rt),

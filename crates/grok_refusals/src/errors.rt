@@ -3,7 +3,7 @@ use anyhow::{Result, bail};
 use grok::parser::GrokPatternError;
 use grok::{Error, Fault};
 
-pub fn call(rt: &HostRuntime, name: &str) -> Result<()> {
+pub(crate) fn call(rt: &HostRuntime, name: &str) -> Result<()> {
     match name {
         "clone_missing" => clone_missing(rt),
         "clone_refused" => clone_refused(rt),

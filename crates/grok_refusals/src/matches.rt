@@ -8,7 +8,7 @@ const LINE: &str = "5E:FF:56:A2:AF:15";
 
 const HALF_A_LINE: &str = "5E:FF";
 
-pub fn call(rt: &HostRuntime, name: &str) -> Result<()> {
+pub(crate) fn call(rt: &HostRuntime, name: &str) -> Result<()> {
     let grok = Grok::with_default_patterns(rt.alloc())?;
     if name == "bare" {
         return match_bare(rt, &grok);

@@ -2,7 +2,7 @@
 use anyhow::{Result, bail};
 use grok::Grok;
 
-pub fn call(rt: &HostRuntime, name: &str) -> Result<()> {
+pub(crate) fn call(rt: &HostRuntime, name: &str) -> Result<()> {
     match name {
         "measure" => measure(rt),
         "counted" => counted(rt),

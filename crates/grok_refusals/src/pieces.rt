@@ -4,7 +4,7 @@ use grok::parser;
 
 const PATTERN: &str = "Hello, %{name:alias[x]:extract=definition}! 100% %%{x} é%{b c}";
 
-pub fn call(rt: &HostRuntime, name: &str) -> Result<()> {
+pub(crate) fn call(rt: &HostRuntime, name: &str) -> Result<()> {
     match name {
         "split" => split(rt),
         _ => bail!("no call has this name"),

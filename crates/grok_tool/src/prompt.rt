@@ -1,4 +1,6 @@
 //! Output that goes out before the next read of input.
+ghost use Rattle.std.specs.Prelude.{◌≡◌};
+
 use std::cell::RefCell;
 use std::io;
 use std::io::{BufWriter, ErrorKind, Read, Write};
@@ -14,7 +16,11 @@ pub struct Outlet<W: Write + Drop> {
 }
 
 impl<W: Write + Drop> Outlet<W> {
-    pub fn new(buffer: BufWriter<W>) -> Outlet<W> {
+    /// The outlet in front of this buffer, which works.
+    pub(crate) fn new(buffer: BufWriter<W>) -> Outlet<W>
+        ensures buffer { result.buffer ≡ buffer }
+        ensures works { result.has_failed ≡ false }
+    {
         Outlet {
             buffer,
             has_failed: false,
@@ -54,7 +60,11 @@ pub struct PromptInput<'a, R, W: Write + Drop> {
 }
 
 impl<'a, R: Read, W: Write + Drop> PromptInput<'a, R, W> {
-    pub fn new(input: R, outlet: &'a RefCell<Outlet<W>>) -> PromptInput<'a, R, W> {
+    /// This input, which sends out what the outlet holds.
+    pub(crate) fn new(input: R, outlet: &'a RefCell<Outlet<W>>) -> PromptInput<'a, R, W>
+        ensures input { result.input ≡ input }
+        ensures outlet { result.outlet ≡ outlet }
+    {
         PromptInput { input, outlet }
     }
 
@@ -80,7 +90,10 @@ pub struct PromptOutput<'a, W: Write + Drop> {
 }
 
 impl<'a, W: Write + Drop> PromptOutput<'a, W> {
-    pub fn new(outlet: &'a RefCell<Outlet<W>>) -> PromptOutput<'a, W> {
+    /// What writes to this outlet.
+    pub(crate) fn new(outlet: &'a RefCell<Outlet<W>>) -> PromptOutput<'a, W>
+        ensures { result.outlet ≡ outlet }
+    {
         PromptOutput { outlet }
     }
 }

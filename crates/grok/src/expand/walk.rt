@@ -11,7 +11,7 @@ ghost use Rattle.grok.specs.Walks.{Shows, Walks, Keyed, finding_view};
 use crate::defs::Grok;
 use crate::expand::given::Given;
 use crate::items::{Item, Items, Label, Meaning};
-use crate::structural::Fault;
+use crate::structural::{Fault, LEVELS};
 use std::alloc::{AllocError, Global};
 
 /// What compiling finds first.
@@ -57,7 +57,7 @@ fn walk_opening<'a>(
     grok: &'a Grok,
     label: Label<'a>,
     meaning: Meaning<'a>,
-    levels: u32,
+    levels: usize,
     alias_only: bool,
     given: &mut Given,
 ) -> Result<Option<Finding<'a>>, AllocError>
@@ -79,7 +79,7 @@ fn walk_item<'a>(
     alloc: Global,
     grok: &'a Grok,
     item: Item<'a>,
-    levels: u32,
+    levels: usize,
     alias_only: bool,
     given: &mut Given,
 ) -> Result<Option<Finding<'a>>, AllocError>
@@ -100,7 +100,7 @@ fn walk_items<'a>(
     alloc: Global,
     grok: &'a Grok,
     mut items: Items<'a>,
-    levels: u32,
+    levels: usize,
     alias_only: bool,
     given: &mut Given,
 ) -> Result<Option<Finding<'a>>, AllocError>
@@ -125,7 +125,7 @@ pub(crate) fn walk<'a>(
 {
     let mut given = Given::nothing(alloc);
     let items = Items::of_text(alloc, grok, pattern);
-    match walk_items(alloc, grok, items, 1023, alias_only, &mut given)? {
+    match walk_items(alloc, grok, items, LEVELS, alias_only, &mut given)? {
         None => Ok(Ok(given)),
         Some(finding) => Ok(Err(finding)),
     }

@@ -12,6 +12,7 @@ ghost use Rattle.grok.specs.Writes.{head_of, IsReady, Wrote};
 use crate::defs::Grok;
 use crate::expand::walk::items_inside;
 use crate::items::{Item, Items, Label, Meaning};
+use crate::structural::LEVELS;
 use itoa::Buffer;
 use std::alloc::{AllocError, Global};
 
@@ -69,7 +70,7 @@ fn write_opening<'a>(
     grok: &'a Grok,
     label: Label<'a>,
     meaning: Meaning<'a>,
-    levels: u32,
+    levels: usize,
     alias_only: bool,
     out: &mut Output,
 ) -> Result<(), AllocError>
@@ -89,7 +90,7 @@ fn write_item<'a>(
     alloc: Global,
     grok: &'a Grok,
     item: Item<'a>,
-    levels: u32,
+    levels: usize,
     alias_only: bool,
     out: &mut Output,
 ) -> Result<(), AllocError>
@@ -114,7 +115,7 @@ fn write_items<'a>(
     alloc: Global,
     grok: &'a Grok,
     mut items: Items<'a>,
-    levels: u32,
+    levels: usize,
     alias_only: bool,
     out: &mut Output,
 ) -> Result<(), AllocError>
@@ -142,6 +143,6 @@ pub(crate) fn write<'a>(
 {
     let mut out = Output { text, groups: 0 };
     let items = Items::of_text(alloc, grok, pattern);
-    write_items(alloc, grok, items, 1023, alias_only, &mut out)?;
+    write_items(alloc, grok, items, LEVELS, alias_only, &mut out)?;
     Ok(out.text)
 }

@@ -14,8 +14,8 @@ returns c =
     let r = c.in_ok-answer.answer in
     let met = c.measure_items.new.met in
     let resolve = tree.items_of (finite.get texts) in
-    let gives : Gives r met (look_within alias_only resolve 1023 (resolve pattern) nothing_met) =
-    subst (λ items. Gives r met (look_within alias_only resolve 1023 items nothing_met)) c.of_text-items.ensures (c.in_ok-answer.ensures.gives nothing_met c.new-met.ensures) in
+    let gives : Gives r met (look_within alias_only resolve tree.deepest (resolve pattern) nothing_met) =
+    subst (λ items. Gives r met (look_within alias_only resolve tree.deepest items nothing_met)) c.of_text-items.ensures (c.in_ok-answer.ensures.gives nothing_met c.new-met.ensures) in
     record {
       answer = answer_is texts alias_only pattern r met gives (measure_view c.measure_of.result) c.measure_of.ensures;
       pieces = pieces_most texts alias_only pattern r met gives;
