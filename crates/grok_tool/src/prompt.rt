@@ -1,5 +1,5 @@
 //! Output that goes out before the next read of input.
-ghost use Rattle.std.specs.Prelude.{◌≡◌};
+ghost use Rattle.std.specs.Prelude.{◌≡◌, false};
 
 use std::cell::RefCell;
 use std::io;
@@ -63,7 +63,7 @@ impl<'a, R: Read, W: Write + Drop> PromptInput<'a, R, W> {
     /// This input, which sends out what the outlet holds.
     pub(crate) fn new(input: R, outlet: &'a RefCell<Outlet<W>>) -> PromptInput<'a, R, W>
         ensures input { result.input ≡ input }
-        ensures outlet { result.outlet ≡ outlet }
+        ensures outlet { result.outlet ≡ outlet.entry }
     {
         PromptInput { input, outlet }
     }
@@ -92,7 +92,7 @@ pub struct PromptOutput<'a, W: Write + Drop> {
 impl<'a, W: Write + Drop> PromptOutput<'a, W> {
     /// What writes to this outlet.
     pub(crate) fn new(outlet: &'a RefCell<Outlet<W>>) -> PromptOutput<'a, W>
-        ensures { result.outlet ≡ outlet }
+        ensures { result.outlet ≡ outlet.entry }
     {
         PromptOutput { outlet }
     }
