@@ -23,10 +23,6 @@ mod split;
 mod stream;
 #[cfg(test)]
 mod tests;
-#[cfg(test)]
-mod tests_lines;
-#[cfg(test)]
-mod tests_sizes;
 
 use command::Command;
 use fault::ToolFault;

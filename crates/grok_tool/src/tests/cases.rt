@@ -1,0 +1,75 @@
+//! One run of each command that succeeds, with its whole output.
+use super::THE_TEN;
+use super::devices::{FakeReader, FakeWriter};
+use crate::run;
+use std::process::Abort;
+
+/// A pattern that a line with a small letter matches.
+pub const KEYED: &str = "(?<k>[a-z]\\s?)";
+
+/// A line that matches, one that does not, and one that is not UTF-8 and that no line feed ends.
+pub const LINES: &[u8] = b"p\n#\n\xff";
+
+/// The words of a run on `LINES`, whether it reads these, how many answers it gives, and the answers.
+#[derive(Clone, Copy)]
+pub struct Case {
+    pub words: &'static [&'static str],
+    pub reads: bool,
+    pub answers: usize,
+    pub output: &'static str,
+}
+
+/// A case of each command.
+pub const CASES: [Case; 5] = [
+    Case {
+        words: &["split", "ab%%c"],
+        reads: false,
+        answers: 2,
+        output: "ab\n%%c\n",
+    },
+    Case {
+        words: &["measure", "%{MAC}"],
+        reads: false,
+        answers: 1,
+        output: "length 163 groups 4 nesting 2\n",
+    },
+    Case {
+        words: &["match", KEYED],
+        reads: true,
+        answers: 3,
+        output: "k=p\n\nno match\n\nnot UTF-8\n\n",
+    },
+    Case {
+        words: &["json", KEYED],
+        reads: true,
+        answers: 3,
+        output: "{\"k\":\"p\"}\nnull\nfalse\n",
+    },
+    Case {
+        words: &["check"],
+        reads: false,
+        answers: 10,
+        output: THE_TEN,
+    },
+];
+
+/// Runs a case on these devices: it succeeds, writes its output, flushes once, and reads all of its input or none.
+pub fn check_run(
+    rt: &(impl Abort + AllocGlobal),
+    case: &Case,
+    reader: &mut FakeReader<'_>,
+    writer: &mut FakeWriter,
+) {
+    let words = case.words;
+    let result = run(rt.alloc(), words, reader, writer);
+    assert!(rt; result.is_ok(), "{words:?}");
+    assert_eq!(rt;
+        writer.taken.as_slice(),
+        case.output.as_bytes(),
+        "{words:?}"
+    );
+    assert_eq!(rt; writer.flushes, 1, "{words:?}");
+    let left = if case.reads { b"".as_slice() } else { LINES };
+    assert_eq!(rt; reader.left, left, "{words:?}");
+    assert_eq!(rt; reader.calls > 0, case.reads, "{words:?}");
+}

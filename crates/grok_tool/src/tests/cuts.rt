@@ -1,0 +1,97 @@
+//! Each command on devices that move few bytes a call, or whose calls are interrupted. `run` makes an interrupted read
+//! again, and `write_all` an interrupted write, so that none of this is seen in the output.
+use super::cases::{CASES, Case, LINES, check_run};
+use super::devices::{FakeReader, FakeWriter};
+use std::process::Abort;
+use std::test::Fail;
+
+/// How many bytes the reader gives at most, and how many the writer takes.
+const WIDTHS: [(usize, usize); 10] = [
+    (1, 1),
+    (1, 2),
+    (1, 1000),
+    (2, 1),
+    (2, 3),
+    (3, 2),
+    (3, 1000),
+    (4, 5),
+    (1000, 1),
+    (1000, 1000),
+];
+
+/// Runs a case at each width, with calls of the reader or of the writer interrupted.
+fn check_widths(
+    rt: &(impl Abort + AllocGlobal),
+    case: &Case,
+    reader_interrupts: bool,
+    writer_interrupts: bool,
+) {
+    for (most_read, most_written) in WIDTHS {
+        let mut reader = FakeReader::new(LINES);
+        reader.most = most_read;
+        reader.interrupts = reader_interrupts;
+        let mut writer = FakeWriter::new(rt.alloc());
+        writer.most = most_written;
+        writer.interrupts = writer_interrupts;
+        check_run(rt, case, &mut reader, &mut writer);
+    }
+}
+
+#[test]
+fn narrow_devices_change_no_answer(rt: HostRuntime) -> Result<(), Fail> {
+    for case in CASES {
+        check_widths(&rt, &case, false, false);
+    }
+    Ok(())
+}
+
+#[test]
+fn interrupted_calls_change_no_answer(rt: HostRuntime) -> Result<(), Fail> {
+    for case in CASES {
+        check_widths(&rt, &case, true, false);
+        check_widths(&rt, &case, false, true);
+        check_widths(&rt, &case, true, true);
+    }
+    Ok(())
+}
+
+#[test]
+fn one_byte_a_call(rt: HostRuntime) -> Result<(), Fail> {
+    for case in CASES {
+        let mut reader = FakeReader::new(LINES);
+        reader.most = 1;
+        let mut writer = FakeWriter::new(rt.alloc());
+        writer.most = 1;
+        check_run(&rt, &case, &mut reader, &mut writer);
+        // A call for each of the five bytes, and one that meets the end.
+        assert_eq!(rt; reader.calls, if case.reads { 6 } else { 0 });
+        assert_eq!(rt; writer.calls, case.output.len());
+    }
+    Ok(())
+}
+
+#[test]
+fn one_write_for_each_answer(rt: HostRuntime) -> Result<(), Fail> {
+    for case in CASES {
+        let mut reader = FakeReader::new(LINES);
+        let mut writer = FakeWriter::new(rt.alloc());
+        check_run(&rt, &case, &mut reader, &mut writer);
+        assert_eq!(rt; reader.calls, if case.reads { 2 } else { 0 });
+        assert_eq!(rt; writer.calls, case.answers);
+    }
+    Ok(())
+}
+
+#[test]
+fn interrupted_calls_are_made_again(rt: HostRuntime) -> Result<(), Fail> {
+    for case in CASES {
+        let mut reader = FakeReader::new(LINES);
+        reader.interrupts = true;
+        let mut writer = FakeWriter::new(rt.alloc());
+        writer.interrupts = true;
+        check_run(&rt, &case, &mut reader, &mut writer);
+        assert_eq!(rt; reader.calls, if case.reads { 4 } else { 0 });
+        assert_eq!(rt; writer.calls, case.answers.saturating_mul(2));
+    }
+    Ok(())
+}

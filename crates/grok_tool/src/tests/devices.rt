@@ -1,0 +1,120 @@
+//! A reader and a writer that answer their calls, which are numbered from 0, as a test wants them to.
+use std::alloc::Global;
+use std::cell::RefCell;
+use std::io;
+use std::io::{ErrorKind, Read, Write};
+
+/// Whether a call gets through: each from the one numbered `bad` on fails, and where `interrupts` is set, every second
+/// one, the first among them, is interrupted.
+fn get_through(call: usize, bad: Option<usize>, interrupts: bool) -> io::Result<()> {
+    if bad.is_some_and(|bad| bad <= call) {
+        return Err(io::Error::from(ErrorKind::BrokenPipe));
+    }
+    if interrupts && call % 2 == 0 {
+        return Err(io::Error::from(ErrorKind::Interrupted));
+    }
+    Ok(())
+}
+
+/// Gives the bytes that it has left, at most `most` a call.
+#[derive(Drop)]
+pub struct FakeReader<'a> {
+    pub left: &'a [u8],
+    pub most: usize,
+    pub bad: Option<usize>,
+    pub interrupts: bool,
+    pub calls: usize,
+}
+
+impl<'a> FakeReader<'a> {
+    /// A reader that gives as much as is asked for, and works.
+    pub fn new(left: &'a [u8]) -> FakeReader<'a> {
+        FakeReader {
+            left,
+            most: usize::MAX,
+            bad: None,
+            interrupts: false,
+            calls: 0,
+        }
+    }
+}
+
+impl Read for FakeReader<'_> {
+    fn read(&mut self, buf: &mut [u8]) -> io::Result<usize> {
+        let call = self.calls;
+        self.calls = call.saturating_add(1);
+        get_through(call, self.bad, self.interrupts)?;
+        let n = self.most.min(buf.len()).min(self.left.len());
+        buf[..n].copy_from_slice(&self.left[..n]);
+        self.left = &self.left[n..];
+        Ok(n)
+    }
+}
+
+/// Keeps what it takes, at most `most` bytes a call. Each flush fails where `bad_flush` is set.
+#[derive(Drop)]
+pub struct FakeWriter {
+    pub taken: Vec<u8>,
+    pub most: usize,
+    pub bad: Option<usize>,
+    pub interrupts: bool,
+    pub bad_flush: bool,
+    pub calls: usize,
+    pub flushes: usize,
+}
+
+impl FakeWriter {
+    /// A writer that takes whatever comes, and works.
+    pub fn new(alloc: Global) -> FakeWriter {
+        FakeWriter {
+            taken: Vec::new(alloc),
+            most: usize::MAX,
+            bad: None,
+            interrupts: false,
+            bad_flush: false,
+            calls: 0,
+            flushes: 0,
+        }
+    }
+}
+
+impl Write for FakeWriter {
+    fn write(&mut self, buf: &[u8]) -> io::Result<usize> {
+        let call = self.calls;
+        self.calls = call.saturating_add(1);
+        get_through(call, self.bad, self.interrupts)?;
+        let n = self.most.min(buf.len());
+        self.taken.extend_from_slice(&buf[..n])?;
+        Ok(n)
+    }
+
+    fn flush(&mut self) -> io::Result<()> {
+        self.flushes = self.flushes.saturating_add(1);
+        if self.bad_flush {
+            return Err(io::Error::from(ErrorKind::BrokenPipe));
+        }
+        Ok(())
+    }
+}
+
+/// Hands on to a fake writer, which the test looks at meanwhile.
+#[derive(Drop)]
+pub struct SharedWriter<'a> {
+    pub writer: &'a RefCell<FakeWriter>,
+}
+
+impl Write for SharedWriter<'_> {
+    fn write(&mut self, buf: &[u8]) -> io::Result<usize> {
+        let Ok(mut writer) = self.writer.try_borrow_mut() else {
+            return Err(io::Error::from(ErrorKind::Other));
+        };
+        writer.write(buf)
+    }
+
+    fn flush(&mut self) -> io::Result<()> {
+        let Ok(mut writer) = self.writer.try_borrow_mut() else {
+            return Err(io::Error::from(ErrorKind::Other));
+        };
+        writer.flush()
+    }
+}
