@@ -17,6 +17,23 @@ read_pattern() {
     groups=$(grep -oP '\(\?P<\K\w+' <<<"$regex" | sed 's/.*/&=$&/' | tr '\n' ' ')
 }
 
+# Writes the settings under which Debian's `grok` writes the pairs of each line of a log as JSON: `write_settings LOG`.
+write_settings() {
+    local pattern=${words[0]//\"/\\\"}
+    printf '%s\n' "${words[@]:1}" | sed 's/=/ /' >"$room/definitions"
+    cat >"$room/settings" <<SETTINGS
+program {
+  load-patterns: "$room/definitions"
+  exec "cat $1"
+  match {
+    pattern: "$pattern"
+    reaction: "%{@JSON}"
+    shell: "stdout"
+  }
+}
+SETTINGS
+}
+
 # Prints what `match -a` prints, from perl's own engine.
 perl_groups='BEGIN { $regex = qr/$ENV{REGEX}/ } chomp;
     if (/$regex/) { print map({ "$_=$+{$_}\n" } sort keys %+), "\n" } else { print "no match\n\n" }'
@@ -31,6 +48,7 @@ run_tool() {
     'perl, named groups') REGEX=$regex time_once "$input" "$output" perl -ne "$perl_groups" ;;
     'grep -P -c') time_once "$input" "$output" grep -P -c -- "$regex" ;;
     'rg -or') time_once "$input" "$output" rg --no-config -N -or "$groups" -- "$regex" ;;
+    "Debian's grok") time_once "$input" "$output" grok -f "$room/settings" ;;
     'rg -c') time_once "$input" "$output" rg --no-config -c -- "$regex" ;;
     esac
 }
@@ -38,6 +56,9 @@ run_tool() {
 tools=('match' 'match -a' 'json' 'json -a' 'perl, named groups' 'grep -P -c')
 if command -v rg >/dev/null; then
     tools+=('rg -or' 'rg -c')
+fi
+if command -v grok >/dev/null; then
+    tools+=("Debian's grok")
 fi
 
 # Each run of a tool by the pattern, the log and the tool: its fewest microseconds.
@@ -48,6 +69,7 @@ compare() {
     local pattern=$1 kind=$2 tool round at log=$room/log
     read_pattern "$pattern"
     "$root/bench/make_log" "$kind" "$lines" >"$log"
+    write_settings "$log"
     for ((round = 0; round < rounds; round++)); do
         for tool in "${tools[@]}"; do
             at="$pattern $kind $tool"
@@ -117,6 +139,7 @@ for run in "${runs[@]}"; do
 done
 echo "$lines lines of each log, the fastest of $rounds runs; $began, at the end $(cut -d' ' -f1-3 /proc/loadavg)."
 command -v rg >/dev/null || echo "ripgrep isn't here: its rows are left out."
+command -v grok >/dev/null || echo "Debian's grok isn't here: its row is left out."
 echo
 print_speeds
 echo
