@@ -1,5 +1,5 @@
 #!/usr/bin/env bash
-# All benchmarks, each with its tables in markdown. They want a machine that does nothing else; each script takes under
+# All benchmarks but profile.sh, each with its tables in markdown. They want a machine that does nothing else; each script takes under
 # two minutes there.
 #
 #   bench/all.sh

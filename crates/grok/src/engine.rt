@@ -1,4 +1,4 @@
-//! What builds a text and matches lines with it.
+//! What is built from a text and matches lines.
 ghost use Rattle.std.specs.Prelude.{◌≡◌, ℕ, List, Option, length, vec_len, option_map, slice_get, Some, None, IfOk, IfSome};
 ghost use Rattle.grok.specs.Captures.{name_texts, text_of, capture_texts, IsSliceOf, AreSlicesOf};
 
@@ -16,7 +16,7 @@ pub enum Refusal {
     Memory,
 }
 
-/// What builds a text and matches lines with it.
+/// What is built from a text and matches lines.
 ///
 /// The meaning of a value is the text it was built from, the names of its groups, and for each
 /// line either no match or the text of each group. A group's number is its place in these lists,

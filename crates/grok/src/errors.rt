@@ -51,6 +51,7 @@ impl fmt::Display for Error {
 
     fn fmt<W: fmt::Write>(&self, f: &mut fmt::Formatter<W>) -> fmt::Result {
         match self {
+            // The crate's words: the 1,024th level is the one that is refused.
             Error::RecursionTooDeep => {
                 write!(f, "Recursion while compiling reached the limit of 1024")
             }

@@ -121,6 +121,7 @@ fn bracketed(label: Label<'_>, with_alias_only: bool, inner: Sum) -> Sum
     ensures brackets { (z : Size) → inner ≡ shown z →
         result ≡ shown (bracket with_alias_only (label_view label.entry) z) }
 {
+    // The brackets are `(?<_n_`, the number, `>` and `)`, or `(?:` and `)`. Numbers are counted apart.
     let (bytes, groups) = if label.is_recorded(with_alias_only) {
         (8, 1)
     } else {
@@ -139,6 +140,7 @@ fn places_below(count: usize) -> Option<usize>
 {
     let mut places = Some(count);
     let mut power: usize = 1;
+    // 10^19 is the greatest power of ten that a `usize` holds.
     'powers: for _exponent in 0..19usize {
         power *= 10;
         places = add_fit(places, Some(count.saturating_sub(power)));
@@ -252,6 +254,7 @@ impl<'a> Met<'a> {
         match self.marks.get(&name).copied() {
             None => None,
             Some(Some(sum)) if sum.height < levels => Some(Ok(sum)),
+            // It is open, which is a circle, or too high for the levels that are left.
             Some(_) => Some(Err(Fault::TooDeep)),
         }
     }

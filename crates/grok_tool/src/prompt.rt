@@ -27,6 +27,7 @@ impl<W: Write + Drop> Outlet<W> {
         }
     }
 
+    /// An error once a flush has failed.
     fn check(&self) -> io::Result<()> {
         if self.has_failed {
             return Err(io::Error::from(ErrorKind::BrokenPipe));
@@ -47,6 +48,7 @@ impl<W: Write + Drop> Outlet<W> {
     }
 }
 
+/// The outlet is lent elsewhere, which no run of ours does.
 fn in_use() -> io::Error {
     io::Error::from(ErrorKind::Other)
 }

@@ -129,6 +129,7 @@ pub fn answer_lines<A: LineAnswers, R: Read, W: Write>(
     let piece = room.as_mut_slice();
     let mut text = Vec::new(alloc);
     let mut held = Vec::new(alloc);
+    // No run comes to this many reads: the bound is for the proof that the loop ends.
     'reads: for _ in 0..u64::MAX {
         match input.read(piece) {
             Ok(0) => return finish(answers, output, &mut text, &held),

@@ -79,6 +79,7 @@ fn write_opening<'a>(
 {
     put_head(out, label.is_recorded(alias_only));
     let inner = items_inside(alloc, grok, meaning);
+    // A clean tree opens nothing where no level is left.
     write_items(alloc, grok, inner, levels - 1, alias_only, out)?;
     put(&mut out.text, ")");
     Ok(())
