@@ -8,7 +8,7 @@ use Rattle.std.specs.FinMap as finite
 use Rattle.grok.specs.declared.structural.Fault.{Fault as CodeFault}
 use Rattle.grok.specs.declared.measure.Sum.{Sum}
 use Rattle.grok.specs.declared.measure.Met.{Met}
-use Rattle.grok.specs.Maps.{Texts}
+use Rattle.grok_match.specs.Maps.{Texts}
 use Rattle.grok.specs.Tree.{Fault, Item, items_of, Event, deepest, tree, first_structural, reached}
 use Rattle.grok.specs.Keys.{has_bracket}
 use Rattle.grok.specs.Expanded.{expanded, groups, nesting}

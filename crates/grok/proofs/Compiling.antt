@@ -10,8 +10,8 @@ use Rattle.grok.specs.Tree.{Definitions, Label, Fault, Event, Text, Open, Close,
 use Rattle.grok.specs.Keys.{is_recorded, key_after, is_among, first_fault_after, Finding, Structural, Clash, has_bracket, keys, recorded, extract_of}
 use Rattle.grok.specs.Expanded.{expanded, groups, nesting}
 use Rattle.grok.specs.Measured.{Faulty, Sized, PastLimit, fault_or, size_within, measured_tree}
-use Rattle.grok.specs.Answers.{PatternValue}
-use Rattle.grok.specs.KeyTable.{IsKeyTable}
+use Rattle.grok_match.specs.Answers.{PatternValue}
+use Rattle.grok_match.specs.KeyTable.{IsKeyTable}
 use Rattle.grok.specs.declared.expand.given.Given.{Given}
 use Rattle.grok.specs.Walks.{HasKeys}
 use Rattle.grok.specs.declared.errors.Error.{Error}

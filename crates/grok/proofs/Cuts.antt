@@ -7,7 +7,8 @@ use Rattle.grok.specs.Tree.{Label, is_absent, Event, Text, Open, Close, Fails}
 use Rattle.grok.specs.Keys.{is_recorded, recorded, wanted, numbered, how_often, key_after, keys_after, keys, is_among, Finding, Structural, Clash, extract_after}
 use Rattle.grok.specs.Given.{onto, taken_of, in_order, extract_before, faults, after}
 use Rattle.grok.specs.FirstFault.{IsFaultBehind, Breaks, Meets, HasNoFault, HasFirstFault, FirstFaultIsFirst, HasNoExtract, HasLastExtract, ExtractIsLast}
-use Rattle.grok.proofs.KeyLaws.{same_text, text_same, how_often_more}
+use Rattle.grok.proofs.KeyLaws.{how_often_more}
+use Rattle.grok_match.proofs.SameText.{same_text, text_same}
 
 -- ---- one list of events after the other
 

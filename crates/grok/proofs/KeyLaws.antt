@@ -8,21 +8,15 @@ use Rattle.std.specs.Str.{bytes_eq}
 use Rattle.std.proofs.lemmas.Bool.{true≢false, false_from_ne_true, cases_eq, cases_Bool, ne_eqb, eqb-true}
 use Rattle.std.proofs.lemmas.List.{append_cancel_right}
 use Rattle.std.proofs.lemmas.List.Sums.{sum_by-cons}
-use Rattle.std.proofs.lemmas.Slice.Eq.{bytes_eq-Decides}
 use Rattle.std.proofs.lemmas.Int.Digits.{all_below_base_digits_of, same_from_digits_of}
-use Rattle.grok.specs.Pieces.{is_name_byte, Parts, Piece, Regular, Placeholder, Malformed, pieces}
-use Rattle.grok.specs.Grammar.{AllPass, ArePieces}
+use Rattle.grok_parser.specs.Pieces.{is_name_byte, Parts, Piece, Regular, Placeholder, Malformed, pieces}
+use Rattle.grok_parser.specs.Grammar.{AllPass, ArePieces}
 use Rattle.grok.specs.Tree.{Definitions, no_definitions, with_written, opened, label_of, items_after, Item, Bytes, Broken, Opening, items_of, events, inside, deepest, tree, text_of, Label, Event, Text, Open, Close, Fails, is_absent, first_structural, reached}
-use Rattle.grok.specs.Keys.{numeral, is_recorded, wanted, numbered, key_after, keys_after, keys, recorded, how_often, is_among, first_fault_after, Structural, Clash, ends_in_bracket, has_bracket, AreDistinct, ClashNeedsBracket, KeysAreDistinct}
+use Rattle.grok.specs.Keys.{is_recorded, wanted, numbered, key_after, keys_after, keys, recorded, how_often, is_among, first_fault_after, Structural, Clash, ends_in_bracket, has_bracket, AreDistinct, ClashNeedsBracket, KeysAreDistinct}
+use Rattle.grok_match.specs.Numeral.{numeral}
 use Rattle.grok.specs.Given.{taken_of}
-use Rattle.grok.proofs.Adequate.{pieces_are}
-
--- ---- equal texts
-pub same_text : (xs ys : List ℕ) → bytes_eq xs ys ≡ true → xs ≡ ys
-same_text xs ys = (bytes_eq-Decides xs ys).0
-
-pub text_same : (xs ys : List ℕ) → xs ≡ ys → bytes_eq xs ys ≡ true
-text_same xs ys = (bytes_eq-Decides xs ys).1
+use Rattle.grok_match.proofs.SameText.{same_text, text_same}
+use Rattle.grok_parser.proofs.Adequate.{pieces_are}
 
 -- ---- the last bracket
 opens_bracket : List ℕ → Bool

@@ -4,11 +4,12 @@ use Rattle.std.specs.Prelude.{codes, not, nat_lt, slice_get}
 use Rattle.std.specs.Str.{bytes_eq}
 use Rattle.std.proofs.lemmas.Bool.{true≢false, false_from_ne_true}
 use Rattle.std.proofs.lemmas.Slice.Eq.{bytes_eq-Decides}
-use Rattle.grok.specs.Pieces.{Parts, Piece, Regular, Placeholder, Malformed, pieces}
+use Rattle.grok_parser.specs.Pieces.{Parts, Piece, Regular, Placeholder, Malformed, pieces}
 use Rattle.grok.specs.Tree.{Definitions, no_definitions, with_written, is_absent, Fault, Missing, Label, label_of, Inline, Stored, opened, placeholder_item, items_after, items_of, Item, Event, Text, Open, Close, Fails, events, inside, deepest, tree, first_structural, reached}
 use Rattle.grok.specs.Measured.{Faulty, Sized, PastLimit, size_within, fault_or, reaches}
 use Rattle.grok.specs.Expanded.{text_after, expanded, groups, nesting}
-use Rattle.grok.specs.Keys.{numeral, is_recorded}
+use Rattle.grok.specs.Keys.{is_recorded}
+use Rattle.grok_match.specs.Numeral.{numeral}
 use Rattle.grok.specs.TreeLaws.{NoneDefines, OwnDefinitionHolds, EarlierDefinitionHolds, StoredDefinitionHolds, IsUnused, UnusedDefinitionsDoNotMatter, ModesFaultAlike, Unnamed, Numbered, IsTextOf, HeadsAloneDiffer}
 use Rattle.grok.proofs.TreeSizes.{first_structural-append, or_else}
 use Rattle.grok.proofs.Meeting.{reaches_left, reaches_right, reaches_head, reaches_tail}

@@ -2,7 +2,8 @@
 use Rattle.std.proofs.Common.{◌≡◌, ℕ, zero, suc, ◌+◌, ◌-◌, max, Bool, true, false, cond, List, [], ◌∷◌, ◌++◌, length, Option, Result, Some, None, Ok, Err, refl, sym, ap, subst, ◌⊎◌, inl, inr, arith, append_assoc, append-nil, length-append}
 use Rattle.std.specs.Prelude.{codes, if◌then◌else◌}
 use Rattle.grok.specs.Tree.{Fault, TooDeep, Label, Meaning, text_of, Item, Bytes, Broken, Opening, Event, Text, Open, Close, Fails, events, inside, tree_within, first_structural}
-use Rattle.grok.specs.Keys.{numeral, is_recorded, recorded}
+use Rattle.grok.specs.Keys.{is_recorded, recorded}
+use Rattle.grok_match.specs.Numeral.{numeral}
 use Rattle.grok.specs.Expanded.{text_after, groups, nesting_after, nesting, expanded}
 use Rattle.grok.specs.Sizes.{Size, no_size, size_of_bytes, plus, both, bracketed, wrapped, size_of, sizes, measured, places_from, length_of}
 use Rattle.grok.proofs.SizeLaws.{both_ok, wrapped_ok}

@@ -5,7 +5,8 @@ use Rattle.std.specs.String.{string_bytes, string_len, string_capacity}
 use Rattle.std.specs.Global.{Global}
 use Rattle.std.specs.declared.string.String.{String}
 use Rattle.grok.specs.Tree.{Definitions, Label, Meaning, text_of, Fault, Item, Opening, items_of, Event, Text, Open, Close, Fails, events, inside, first_structural, deepest, tree}
-use Rattle.grok.specs.Keys.{numeral, is_recorded, recorded}
+use Rattle.grok.specs.Keys.{is_recorded, recorded}
+use Rattle.grok_match.specs.Numeral.{numeral}
 use Rattle.grok.specs.Expanded.{text_after, expanded}
 use Rattle.grok.specs.Writes.{head_of, IsReady, Wrote}
 use Rattle.grok.specs.declared.expand.write.Output.{Output}

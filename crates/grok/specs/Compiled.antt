@@ -1,12 +1,12 @@
 -- What compiling a pattern answers.
 use Rattle.std.specs.Prelude.{◌≡◌, ◌≢◌, ℕ, ◌<◌, ◌^◌, Bool, List, [], ◌++◌, length, codes, Option, Some, None, Result, MatchResult, IfSome}
 use Rattle.std.specs.FinMap as finite
-use Rattle.grok.specs.Texts.{fault_words}
+use Rattle.grok_parser.specs.Texts.{fault_words}
 use Rattle.grok.specs.Tree.{Fault, BadPiece, Missing, TooDeep, Event, first_structural}
 use Rattle.grok.specs.Keys.{Finding, Structural, Clash, first_fault, keys, recorded, extract_of}
 use Rattle.grok.specs.Expanded.{expanded}
-use Rattle.grok.specs.KeyTable.{IsKeyTable}
-use Rattle.grok.specs.Answers.{PatternValue}
+use Rattle.grok_match.specs.KeyTable.{IsKeyTable}
+use Rattle.grok_match.specs.Answers.{PatternValue}
 use Rattle.grok.specs.Errors.{ErrorValue, RecursionTooDeep, CompiledPatternIsEmpty, DefinitionNotFound, RegexCompilationFailed, GenericCompilationFailure, Memory, error_value}
 use Rattle.grok.specs.declared.errors.Error.{Error}
 

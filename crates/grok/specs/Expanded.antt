@@ -1,7 +1,8 @@
 -- The text that a clean tree stands for, and its size.
 use Rattle.std.specs.Prelude.{ℕ, suc, ◌-◌, max, Bool, List, [], ◌∷◌, ◌++◌, length, if◌then◌else◌, codes}
 use Rattle.grok.specs.Tree.{Event, Text, Open, Close, Fails}
-use Rattle.grok.specs.Keys.{numeral, is_recorded, recorded}
+use Rattle.grok.specs.Keys.{is_recorded, recorded}
+use Rattle.grok_match.specs.Numeral.{numeral}
 
 -- the text of events that stand after so many recorded opens: the one of number k writes `(?<_n_k>`, and one that isn't recorded `(?:`
 abbrev pub text_after : Bool → ℕ → List Event → List ℕ

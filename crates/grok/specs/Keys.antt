@@ -1,14 +1,9 @@
 -- The recorded opens of a tree: their keys, where two keys clash, and their extracts.
-use Rattle.std.specs.Prelude.{◌≡◌, ℕ, zero, suc, ◌+◌, ◌==◌, Bool, true, false, not, ◌&&◌, List, [], ◌∷◌, ◌++◌, if◌then◌else◌, Option, Some, None, count_by, codes, map}
+use Rattle.std.specs.Prelude.{◌≡◌, ℕ, zero, suc, ◌==◌, Bool, true, false, not, ◌&&◌, List, [], ◌∷◌, ◌++◌, if◌then◌else◌, Option, Some, None, count_by, codes}
 use Rattle.std.specs.Option.{option_map}
-use Rattle.std.specs.Int.Digits.{digits_of}
 use Rattle.std.specs.Str.{bytes_eq}
+use Rattle.grok_match.specs.Numeral.{numeral}
 use Rattle.grok.specs.Tree.{Definitions, is_absent, Label, Event, Text, Open, Close, Fails, Fault, reached, first_structural, tree}
-
--- A number in decimal, of any length. (std's `decimal` has at most 64 digits, and a tree may have more opens than that can count.)
-abbrev pub numeral : ℕ → List ℕ
-numeral zero = codes "0"
-numeral (suc n) = map (λ digit. 48 + digit) (digits_of 10 (suc n))
 
 -- ---- recorded opens
 

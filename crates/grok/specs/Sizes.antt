@@ -1,7 +1,8 @@
 -- The size of what a text stands for, added up item by item.
 use Rattle.std.specs.Prelude.{ℕ, zero, suc, ◌+◌, max, Bool, List, [], ◌∷◌, length, if◌then◌else◌, Result, Ok, Err}
 use Rattle.grok.specs.Tree.{Fault, TooDeep, Label, text_of, Item, Bytes, Broken, Opening}
-use Rattle.grok.specs.Keys.{numeral, is_recorded}
+use Rattle.grok.specs.Keys.{is_recorded}
+use Rattle.grok_match.specs.Numeral.{numeral}
 
 -- The bytes without the numbers of groups, the groups, and how deep the opens go, 0 if there is none.
 pub record Size : Type 0 where

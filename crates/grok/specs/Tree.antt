@@ -1,8 +1,8 @@
 -- The expansion of a pattern: what each placeholder stands for, and the events of reading all of it in order.
 use Rattle.std.specs.Prelude.{ℕ, zero, suc, Bool, true, false, not, ◌&&◌, List, [], ◌∷◌, ◌++◌, if◌then◌else◌, Option, Some, None}
 use Rattle.std.specs.Str.{bytes_eq}
-use Rattle.grok.specs.declared.parser.GrokPatternError.{GrokPatternError}
-use Rattle.grok.specs.Pieces.{Parts, Piece, Regular, Placeholder, Malformed, pieces}
+use Rattle.grok_parser.specs.declared.GrokPatternError.{GrokPatternError}
+use Rattle.grok_parser.specs.Pieces.{Parts, Piece, Regular, Placeholder, Malformed, pieces}
 
 -- ---- what pieces stand for
 

@@ -1,8 +1,8 @@
 -- Laws of what placeholders stand for, and of the faults of a tree.
 use Rattle.std.specs.Prelude.{codes, ◌≡◌, ◌⊎◌, ℕ, suc, ◌+◌, Bool, true, false, List, [], ◌∷◌, ◌++◌, length, Some, None, slice_get}
-use Rattle.grok.specs.Pieces.{Parts, Piece, Regular, Placeholder, Malformed, pieces}
+use Rattle.grok_parser.specs.Pieces.{Parts, Piece, Regular, Placeholder, Malformed, pieces}
 use Rattle.grok.specs.Tree.{Definitions, is_absent, Fault, Missing, label_of, Inline, opened, Opening, items_of, Event, Text, Open, Close, Fails, tree, first_structural, reached}
-use Rattle.grok.specs.Keys.{numeral}
+use Rattle.grok_match.specs.Numeral.{numeral}
 use Rattle.grok.specs.Expanded.{expanded}
 use Rattle.grok.specs.Measured.{Faulty, measured_tree, reaches}
 

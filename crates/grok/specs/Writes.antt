@@ -2,7 +2,8 @@
 use Rattle.std.specs.Prelude.{◌≡◌, ℕ, ◌+◌, ◌<◌, ◌≤◌, ◌^◌, Bool, List, ◌++◌, length, if◌then◌else◌, codes, None}
 use Rattle.std.specs.String.{string_bytes, string_len, string_capacity}
 use Rattle.grok.specs.Tree.{Event, first_structural}
-use Rattle.grok.specs.Keys.{numeral, recorded}
+use Rattle.grok.specs.Keys.{recorded}
+use Rattle.grok_match.specs.Numeral.{numeral}
 use Rattle.grok.specs.Expanded.{text_after}
 use Rattle.grok.specs.declared.expand.write.Output.{Output}
 

@@ -11,20 +11,18 @@ ghost use Rattle.grok.specs.Expanded.{expanded};
 ghost use Rattle.grok.specs.Walks.{finding_view};
 ghost use Rattle.grok.specs.Errors.{error_value, RegexCompilationFailed, Memory as memory};
 ghost use Rattle.grok.specs.Compiled.{IsErrorOf, IsFirstError, IsBuilt, IsRefusal, Compiles};
-ghost use Rattle.grok.specs.RegexFinds.{IsReadByDefault};
-ghost use Rattle.grok.specs.Engines.{engine_regex};
+ghost use Rattle.grok_match.specs.RegexFinds.{IsReadByDefault};
+ghost use Rattle.grok_match.specs.Engines.{engine_regex};
 ghost use Rattle.regex.specs.Strings.{regex_source, regex_names};
 
 use crate::Pattern;
 use crate::defs::Grok;
-use crate::engine::{Engine, Refusal, RegexEngine};
 use crate::errors::Error;
 use crate::expand::given::Given;
 use crate::expand::walk::{Finding, walk};
 use crate::expand::write::write;
-use crate::key_table::KeyTable;
-use crate::matches::PatternOf;
 use crate::measure::Measure;
+use grok_match::{Engine, KeyTable, PatternOf, Refusal, RegexEngine};
 use std::alloc::{AllocError, Global};
 
 impl Finding<'_> {

@@ -1,7 +1,7 @@
 //! Definitions by name, and the ten that a library may begin with.
 ghost use Rattle.std.specs.Prelude.{◌≡◌, OnOk, OnErr, IfOk, map, option_copied};
 ghost use Rattle.std.specs.FinMap as finite;
-ghost use Rattle.grok.specs.Maps.{set_all, pair_texts};
+ghost use Rattle.grok_match.specs.Maps.{set_all, pair_texts};
 ghost use Rattle.grok.specs.Ten.{ten};
 
 pub(crate) mod pieces;
@@ -53,7 +53,7 @@ pub struct Grok {
 
 // Contracts see a finite map from names to texts.
 impl Model for Grok {
-    ghost use Rattle.grok.specs.Maps.{Texts, texts_code, texts_of};
+    ghost use Rattle.grok_match.specs.Maps.{Texts, texts_code, texts_of};
 
     ghost Value = { Texts };
 

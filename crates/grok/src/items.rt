@@ -3,7 +3,7 @@
 ghost use Rattle.std.specs.Prelude.{◌≡◌, [], ◌∷◌, Option, Some, option_map, IfOk, OnOk, MatchOption, List, ℕ, not, ◌&&◌, if◌then◌else◌};
 ghost use Rattle.std.specs.Str.{bytes_eq};
 ghost use Rattle.std.specs.FinMap as finite;
-ghost use Rattle.grok.specs.Pieces.{pieces};
+ghost use Rattle.grok_parser.specs.Pieces.{pieces};
 ghost use Rattle.grok.specs.Tree.{no_definitions, items_of, items_after, is_absent, opened};
 ghost use Rattle.grok.specs.Keys.{is_recorded};
 ghost use Rattle.grok.specs.Items.{item_view, label_view, written_in};
@@ -12,8 +12,8 @@ ghost use Rattle.std.specs.Borrow.{Bor};
 use crate::defs::Grok;
 use crate::defs::pieces::{Pieces, pieces_kept, pieces_of};
 use crate::defs::stored::Stored;
-use crate::parser::GrokComponent;
 use crate::structural::Fault;
+use grok_parser::GrokComponent;
 use std::alloc::{AllocError, Global};
 use std::collections::BTreeMap;
 use std::marker::Model;

@@ -1,37 +1,15 @@
 //! Laws of the definitions that the contracts speak of. Each function does nothing; its contract
 //! is what is proved.
-ghost use Rattle.std.specs.Prelude.{◌≡◌, ◌≢◌, ℕ, ◌++◌, List, [], ◌∷◌, length, Some, None};
+ghost use Rattle.std.specs.Prelude.{◌≡◌, ◌≢◌, ◌++◌, List, ℕ, ◌∷◌, Some, None};
 ghost use Rattle.std.specs.FinMap as finite;
-ghost use Rattle.grok.specs.Grammar.{NonePass};
-ghost use Rattle.grok.specs.Joined.{joined, IsClean, AreRegular};
-ghost use Rattle.grok.specs.Maps.{Texts, set_all};
+ghost use Rattle.grok_match.specs.Maps.{Texts, set_all};
 ghost use Rattle.grok.specs.Named.{NoneNames};
-ghost use Rattle.grok.specs.Pieces.{Piece, Parts, Placeholder, Malformed, pieces, is_brace};
-ghost use Rattle.grok.specs.Tiles.{Tile};
 
-pub mod answers;
 pub mod keys;
 pub mod tree;
 
-use crate::parser::GrokPatternError;
-
-/// Laws of the pieces of a text.
-///
-/// The ranges tile the text up to a fault, and a fault is the last piece, so there is one at most.
-/// Joining the pieces of a text without a fault gives the text back. A text without braces has
-/// regular pieces only, which join to it, and the definition in a placeholder is such a text. The
-/// text of a placeholder, split by itself, is that placeholder.
-#[tactic(auto, using(crate::proofs::PieceLaws::laws))]
-pub fn pieces()
-    ensures tile { (text : List ℕ) → Tile text 0 (pieces text) }
-    ensures last { (text : List ℕ) (before after : List Piece) (fault : GrokPatternError) → pieces text ≡ before ++ Malformed fault ∷ after → after ≡ [] }
-    ensures join { (text : List ℕ) → IsClean (pieces text) → joined (pieces text) ≡ text }
-    ensures regular { (text : List ℕ) → NonePass is_brace text → AreRegular (pieces text) × (joined (pieces text) ≡ text) }
-    ensures inline { (text : List ℕ) (before after : List Piece) (from to : ℕ) (pattern : List ℕ) (parts : Parts) →
-        pieces text ≡ before ++ Placeholder from to pattern parts ∷ after → NonePass is_brace parts.definition }
-    ensures alone { (text : List ℕ) (before after : List Piece) (from to : ℕ) (pattern : List ℕ) (parts : Parts) →
-        pieces text ≡ before ++ Placeholder from to pattern parts ∷ after → pieces pattern ≡ Placeholder 0 (length pattern) pattern parts ∷ [] }
-{}
+pub use grok_match::laws as answers;
+pub use grok_parser::laws::pieces;
 
 /// Laws of the definitions of a library.
 ///

@@ -3,24 +3,20 @@
 
 mod compile;
 pub mod defs;
-mod engine;
 mod errors;
 mod expand;
 mod items;
-mod key_table;
 pub mod laws;
-mod line_matcher;
-mod matches;
 mod measure;
 pub mod parser;
 mod structural;
 
 pub use defs::{Grok, patterns};
-pub use engine::kept::{KeepsSearch, RegexSearch, Search};
-pub use engine::{Engine, Refusal, RegexEngine};
 pub use errors::Error;
-pub use line_matcher::LineMatcherOf;
-pub use matches::{CaptureNames, MatchesIter, MatchesOf, PatternOf};
+pub use grok_match::{
+    CaptureNames, Engine, KeepsSearch, LineMatcherOf, MatchesIter, MatchesOf, PatternOf, Refusal,
+    RegexEngine, RegexSearch, Search,
+};
 pub use measure::{Looks, Measure};
 pub use structural::Fault;
 

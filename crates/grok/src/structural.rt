@@ -1,6 +1,6 @@
 //! What is wrong with a pattern before any engine sees it.
 
-use crate::parser::GrokPatternError;
+use grok_parser::GrokPatternError;
 
 /// How many placeholders may be opened in one another.
 pub(crate) const LEVELS: usize = 1023;

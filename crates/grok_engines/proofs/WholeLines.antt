@@ -1,7 +1,7 @@
 -- A whole line is a slice of itself.
 use Rattle.std.proofs.Common.{◌≡◌, ℕ, List, [], ◌∷◌, ◌++◌, Some, slice_get, length, arith, slice_range}
 use Rattle.std.proofs.lemmas.Grind.{common_steps}
-use Rattle.grok.specs.Captures.{IsSliceOf}
+use Rattle.grok_match.specs.Captures.{IsSliceOf}
 
 all_of : (line : List ℕ) → line ≡ slice_range line 0 (length line)
 all_of line = grind (arith, common_steps)

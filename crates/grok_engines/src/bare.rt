@@ -1,11 +1,11 @@
 //! An engine with group 0 alone.
 ghost use Rattle.std.specs.Prelude.{◌≡◌, [], ◌∷◌, None, Some, length, slice_get, string_bytes};
-ghost use Rattle.grok.specs.Captures.{name_texts};
+ghost use Rattle.grok_match.specs.Captures.{name_texts};
 ghost use Rattle.grok_engines.specs.Wholes.{whole_line};
 ghost use Rattle.std.proofs.Common.{sym, ◌∙◌};
 ghost use Rattle.std.proofs.lemmas.List.{length-map};
 
-use grok::{Engine, Refusal};
+use grok_match::{Engine, Refusal};
 use std::alloc::{AllocError, Global};
 
 /// Takes every text, has group 0 alone, and finds each line whole. Its `build` keeps the text and

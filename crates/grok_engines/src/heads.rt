@@ -1,12 +1,12 @@
 //! An engine that reads the names of groups, and nothing else.
 ghost use Rattle.std.specs.Prelude.{◌≡◌, ℕ, List, None, Some, length, slice_get, string_bytes, option_map, IfOk, IfSome};
-ghost use Rattle.grok.specs.Captures.{name_texts, text_of, IsSliceOf};
+ghost use Rattle.grok_match.specs.Captures.{name_texts, text_of, IsSliceOf};
 ghost use Rattle.grok_engines.specs.Wholes.{line_at, whole_at_odd};
 ghost use Rattle.std.proofs.Common.{sym, ◌∙◌};
 ghost use Rattle.std.proofs.lemmas.List.{length-map};
 ghost use Rattle.std.proofs.lemmas.List.FromFn.{length-map-range_with_len};
 
-use grok::{Engine, KeepsSearch, Refusal, Search};
+use grok_match::{Engine, KeepsSearch, Refusal, Search};
 use std::alloc::{AllocError, Global};
 
 /// Takes every text. Its names are those between `(?<` and `>`, from left to right. It finds each

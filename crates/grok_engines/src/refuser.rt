@@ -3,7 +3,7 @@ ghost use Rattle.std.proofs.Common.{sym, ◌∙◌};
 ghost use Rattle.std.proofs.lemmas.List.{length-map};
 
 use crate::bare::Bare;
-use grok::{Engine, Refusal};
+use grok_match::{Engine, Refusal};
 use std::alloc::{AllocError, Global};
 
 /// Refuses every text. No value of it is ever made; it would answer as `Bare` does.

@@ -1,5 +1,5 @@
 use crate::{Bare, Heads, Refuser};
-use grok::{Engine, KeepsSearch, Refusal, Search};
+use grok_match::{Engine, KeepsSearch, Refusal, Search};
 use std::test::Fail;
 
 #[test]

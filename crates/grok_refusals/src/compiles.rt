@@ -27,13 +27,16 @@ pub(crate) fn call(rt: &HostRuntime, name: &str) -> Result<()> {
     }
 }
 
+fn show_key(rt: &HostRuntime, name: &str, extract: Option<&str>) -> Result<()> {
+    print!(rt; ", {name:?} {extract:?}")?;
+    Ok(())
+}
+
 /// Prints the text of a pattern, its keys, and the extract of each.
 fn show_pattern<E: Engine>(rt: &HostRuntime, pattern: &PatternOf<E>) -> Result<()> {
-    let text = pattern.text();
-    print!(rt; "Ok({text:?}")?;
+    print!(rt; "Ok({:?}", pattern.text())?;
     'names: for name in pattern.capture_names() {
-        let extract = pattern.get_extract(name);
-        print!(rt; ", {name:?} {extract:?}")?;
+        show_key(rt, name, pattern.get_extract(name))?;
     }
     println!(rt; ")")?;
     Ok(())

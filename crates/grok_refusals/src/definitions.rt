@@ -1,8 +1,9 @@
 //! Calls on libraries of definitions.
-use crate::LABELS;
+use crate::{LABELS, finish};
 use anyhow::{Result, bail};
 use grok::Grok;
 use grok_engines::Heads;
+use std::fmt;
 
 /// Three definitions, of which two have one name.
 const PAIRS: [(&str, &str); 3] = [
@@ -59,14 +60,17 @@ fn clone(rt: &HostRuntime) -> Result<()> {
     Ok(())
 }
 
+fn show<T: fmt::Debug + Drop>(rt: &HostRuntime, when: &str, value: T) -> Result<()> {
+    println!(rt; "{when}: {value:?}")?;
+    Ok(())
+}
+
 /// Shows what all names stand for, and what the patterns measure and compile to.
 fn show_library(rt: &HostRuntime, when: &str, grok: &Grok) -> Result<()> {
-    println!(rt; "{when}: {grok:?}")?;
+    show(rt, when, grok)?;
     'patterns: for pattern in PATTERNS {
-        let measure = grok.measure(pattern, false);
-        println!(rt; "{when}: {measure:?}")?;
-        let compiled = grok.compile_with::<Heads>(pattern, false);
-        println!(rt; "{when}: {compiled:?}")?;
+        show(rt, when, grok.measure(pattern, false))?;
+        show(rt, when, grok.compile_with::<Heads>(pattern, false))?;
     }
     Ok(())
 }
@@ -77,9 +81,7 @@ fn add_pattern(rt: &HostRuntime, name: &str) -> Result<()> {
     show_library(rt, "before", &grok)?;
     'calls: for label in LABELS {
         eprintln!(rt; "[call")?;
-        let answer = grok.add_pattern(name, "x%{C=c}%{D:key:int=d}");
-        eprintln!(rt; "[done")?;
-        println!(rt; "{label}: {answer:?}")?;
+        finish(rt, label, grok.add_pattern(name, "x%{C=c}%{D:key:int=d}"))?;
         let when = format!(in rt.alloc(); "after {label}")?;
         show_library(rt, when.as_str(), &grok)?;
     }

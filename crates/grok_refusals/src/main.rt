@@ -11,9 +11,7 @@ macro_rules! twice {
     ($rt:expr, $call:expr) => {
         'calls: for label in $crate::LABELS {
             eprintln!($rt; "[call")?;
-            let answer = $call;
-            eprintln!($rt; "[done")?;
-            println!($rt; "{}: {:?}", label, answer)?;
+            $crate::finish($rt, label, $call)?;
         }
     };
 }
@@ -27,7 +25,14 @@ mod measures;
 mod pieces;
 
 use anyhow::{Result, bail};
-use std::env;
+use std::{env, fmt};
+
+/// Ends a call, and prints its answer.
+fn finish<T: fmt::Debug + Drop>(rt: &HostRuntime, label: &str, answer: T) -> Result<()> {
+    eprintln!(rt; "[done")?;
+    println!(rt; "{label}: {answer:?}")?;
+    Ok(())
+}
 
 /// The program's words, without its name.
 fn read_words(rt: &HostRuntime) -> Result<Vec<String>> {

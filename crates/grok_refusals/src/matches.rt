@@ -1,8 +1,9 @@
 //! Matches of the pattern `%{MAC}` over the ten definitions, and the calls on them.
 use crate::LABELS;
 use anyhow::{Result, bail};
-use grok::{Grok, Matches, Pattern};
+use grok::{Grok, LineMatcher, Matches, Pattern, PatternOf};
 use grok_engines::Bare;
+use std::alloc::AllocError;
 
 const LINE: &str = "5E:FF:56:A2:AF:15";
 
@@ -44,6 +45,10 @@ fn call_on_matches(rt: &HostRuntime, name: &str, matches: &Matches) -> Result<()
 
 fn match_bare(rt: &HostRuntime, grok: &Grok) -> Result<()> {
     let pattern = grok.compile_with::<Bare>("%{MAC}", false)?;
+    match_bare_line(rt, &pattern)
+}
+
+fn match_bare_line(rt: &HostRuntime, pattern: &PatternOf<Bare>) -> Result<()> {
     twice!(rt, pattern.match_against("q"));
     Ok(())
 }
@@ -59,13 +64,20 @@ fn line_matcher(rt: &HostRuntime, pattern: &Pattern) -> Result<()> {
         eprintln!(rt; "[call")?;
         let answer = pattern.line_matcher();
         eprintln!(rt; "[done")?;
-        match answer {
-            Ok(mut matcher) => {
-                let found = matcher.match_against(LINE);
-                println!(rt; "{label}: {found:?}")?;
-            }
-            Err(error) => println!(rt; "{label}: Err({error:?})")?,
-        }
+        show_matcher(rt, label, answer)?;
+    }
+    Ok(())
+}
+
+/// Shows what a matcher answers, or that there is none.
+fn show_matcher(
+    rt: &HostRuntime,
+    label: &str,
+    answer: Result<LineMatcher, AllocError>,
+) -> Result<()> {
+    match answer {
+        Ok(mut matcher) => println!(rt; "{label}: {:?}", matcher.match_against(LINE))?,
+        Err(error) => println!(rt; "{label}: Err({error:?})")?,
     }
     Ok(())
 }
@@ -73,6 +85,10 @@ fn line_matcher(rt: &HostRuntime, pattern: &Pattern) -> Result<()> {
 /// Asks one matcher twice. What a refused line left behind doesn't change the next answer.
 fn match_lines<'t>(rt: &HostRuntime, pattern: &'t Pattern, line: &'t str) -> Result<()> {
     let mut matcher = pattern.line_matcher()?;
+    ask_twice(rt, &mut matcher, line)
+}
+
+fn ask_twice<'t>(rt: &HostRuntime, matcher: &mut LineMatcher<'t>, line: &'t str) -> Result<()> {
     twice!(rt, matcher.match_against(line));
     Ok(())
 }

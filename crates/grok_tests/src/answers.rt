@@ -1,7 +1,7 @@
 //! What patterns over `regex` answer.
 
-use crate::libraries::library;
 use grok::{Error, Grok, Matches, Pattern, patterns};
+use grok_test_libraries::library;
 use std::alloc::{AllocError, Global};
 use std::process::Abort;
 use std::test::Fail;
@@ -15,16 +15,33 @@ type Row = (
     &'static [(&'static str, &'static str)],
 );
 
+/// Adds a key at the end.
+fn push_key(all: &mut String, key: &str) -> Result<(), AllocError> {
+    if !all.is_empty() {
+        all.push_str(" ")?;
+    }
+    all.push_str(key)
+}
+
 /// The keys of a pattern, with a space between.
 fn keys_of(alloc: Global, pattern: &Pattern) -> Result<String, AllocError> {
     let mut all = String::new(alloc);
     for key in pattern.capture_names() {
-        if !all.is_empty() {
-            all.push_str(" ")?;
-        }
-        all.push_str(key)?;
+        push_key(&mut all, key)?;
     }
     Ok(all)
+}
+
+/// The pattern has these keys.
+fn check_keys(
+    rt: &(impl Abort + AllocGlobal),
+    pattern: &Pattern,
+    expected: &str,
+    place: &str,
+) -> Result<(), Fail> {
+    let given = keys_of(rt.alloc(), pattern)?;
+    assert_eq!(rt; given.as_str(), expected, "at {place}");
+    Ok(())
 }
 
 /// Adds `KEY=VALUE` at the end.
@@ -35,25 +52,78 @@ fn push_pair(all: &mut String, key: &str, value: &str) -> Result<(), AllocError>
     write!(all, "{key}={value}")
 }
 
-/// The pairs of a match by each way to have them: `iter`, a `for`, `collect` and `collect_map`.
-fn pairs_of<'a>(alloc: Global, found: &'a Matches<'a>) -> Result<[String; 4], AllocError> {
-    let mut by_iter = String::new(alloc);
+/// The pairs of a match by `iter`.
+fn by_iter<'a>(alloc: Global, found: &'a Matches<'a>) -> Result<String, AllocError> {
+    let mut all = String::new(alloc);
     for (key, value) in found.iter() {
-        push_pair(&mut by_iter, key, value)?;
+        push_pair(&mut all, key, value)?;
     }
-    let mut by_for = String::new(alloc);
+    Ok(all)
+}
+
+/// The pairs of a match by a `for` over it.
+fn by_for<'a>(alloc: Global, found: &'a Matches<'a>) -> Result<String, AllocError> {
+    let mut all = String::new(alloc);
     for (key, value) in found {
-        push_pair(&mut by_for, key, value)?;
+        push_pair(&mut all, key, value)?;
     }
-    let mut by_collect = String::new(alloc);
+    Ok(all)
+}
+
+/// The pairs of a match by `collect`.
+fn by_collect<'a>(alloc: Global, found: &'a Matches<'a>) -> Result<String, AllocError> {
+    let mut all = String::new(alloc);
     for (key, value) in found.collect(alloc)?.iter() {
-        push_pair(&mut by_collect, key, value)?;
+        push_pair(&mut all, key, value)?;
     }
-    let mut by_map = String::new(alloc);
+    Ok(all)
+}
+
+/// The pairs of a match by `collect_map`.
+fn by_map<'a>(alloc: Global, found: &'a Matches<'a>) -> Result<String, AllocError> {
+    let mut all = String::new(alloc);
     for (key, value) in found.collect_map(alloc)?.iter() {
-        push_pair(&mut by_map, key, value)?;
+        push_pair(&mut all, key, value)?;
     }
-    Ok([by_iter, by_for, by_collect, by_map])
+    Ok(all)
+}
+
+/// The pairs are those that are expected of the line.
+fn check_pairs(rt: &impl Abort, given: String, line: &str, expected: &str) {
+    assert_eq!(rt; given.as_str(), expected, "at {line}");
+}
+
+/// The match has these pairs by each way to have them.
+fn check_each_way<'a>(
+    rt: &(impl Abort + AllocGlobal),
+    found: &'a Matches<'a>,
+    line: &str,
+    expected: &str,
+) -> Result<(), AllocError> {
+    check_pairs(rt, by_iter(rt.alloc(), found)?, line, expected);
+    check_pairs(rt, by_for(rt.alloc(), found)?, line, expected);
+    check_pairs(rt, by_collect(rt.alloc(), found)?, line, expected);
+    check_pairs(rt, by_map(rt.alloc(), found)?, line, expected);
+    Ok(())
+}
+
+/// The value that the pairs of a match give the key.
+fn paired_with<'a>(found: &'a Matches<'a>, key: &str) -> Option<&'a str> {
+    let mut paired = None;
+    for (other, value) in found.iter() {
+        if other == key {
+            paired = Some(value);
+        }
+    }
+    paired
+}
+
+/// Each key of the match has the value that its pairs give it.
+fn check_values<'a>(rt: &impl Abort, found: &'a Matches<'a>, line: &str) {
+    for key in found.pattern().capture_names() {
+        let is_right = found.get(key) == paired_with(found, key);
+        assert!(rt; is_right, "at {line} {key}");
+    }
 }
 
 /// The match has these pairs, and each of its keys has its value.
@@ -63,18 +133,8 @@ fn check_found<'a>(
     line: &str,
     expected: &str,
 ) -> Result<(), Fail> {
-    for given in pairs_of(rt.alloc(), found)?.iter() {
-        assert_eq!(rt; given.as_str(), expected, "at {line}");
-    }
-    for key in found.pattern().capture_names() {
-        let mut paired = None;
-        for (other, value) in found.iter() {
-            if other == key {
-                paired = Some(value);
-            }
-        }
-        assert!(rt; found.get(key) == paired, "at {line} {key}");
-    }
+    check_each_way(rt, found, line, expected)?;
+    check_values(rt, found, line);
     assert!(rt; found.get("unknown").is_none());
     Ok(())
 }
@@ -109,14 +169,19 @@ fn check_lines(
     Ok(())
 }
 
+/// The row holds.
+fn check_row(rt: &(impl Abort + AllocGlobal), row: &Row) -> Result<(), Fail> {
+    let (words, text, with_alias_only, keys, lines) = row;
+    let grok = library(rt.alloc(), words)?;
+    let pattern = grok.compile(text, *with_alias_only)?;
+    check_keys(rt, &pattern, keys, text)?;
+    check_lines(rt, &pattern, lines)
+}
+
 /// Each row holds.
 fn check_rows(rt: &(impl Abort + AllocGlobal), rows: &[Row]) -> Result<(), Fail> {
-    for (words, text, with_alias_only, keys, lines) in rows {
-        let grok = library(rt.alloc(), words)?;
-        let pattern = grok.compile(text, *with_alias_only)?;
-        let given = keys_of(rt.alloc(), &pattern)?;
-        assert_eq!(rt; given.as_str(), *keys, "at {text}");
-        check_lines(rt, &pattern, lines)?;
+    for row in rows {
+        check_row(rt, row)?;
     }
     Ok(())
 }
@@ -428,14 +493,8 @@ fn tests_of_the_crate(rt: HostRuntime) -> Result<(), Fail> {
     )
 }
 
-/// Keys that are nearly those of the pattern have no value.
-#[test]
-fn keys_that_are_not_there(rt: HostRuntime) -> Result<(), Fail> {
-    let grok = library(rt.alloc(), "A=a B=%{A}%{A}")?;
-    let pattern = grok.compile("%{B}", false)?;
-    let Some(found) = pattern.match_against("aa")? else {
-        return Err("no match")?;
-    };
+/// The values of a match of `%{B}`, by key.
+fn check_near_keys(rt: &impl Abort, found: &Matches<'_>) {
     for (key, expected) in [
         ("", None),
         ("A", Some("a")),
@@ -450,13 +509,55 @@ fn keys_that_are_not_there(rt: HostRuntime) -> Result<(), Fail> {
     ] {
         assert!(rt; found.get(key) == expected, "at {key}");
     }
+}
+
+/// A match of a pattern without keys has no value.
+fn check_no_keys(rt: &impl Abort, found: &Matches<'_>) {
+    for key in ["", "A", "_n_0", "a"] {
+        assert!(rt; found.get(key).is_none(), "at {key}");
+    }
+}
+
+/// The line `aa` has a match of `%{B}`, with those values.
+fn check_near_keys_over(rt: &impl Abort, grok: &Grok) -> Result<(), Fail> {
+    let pattern = grok.compile("%{B}", false)?;
+    let Some(found) = pattern.match_against("aa")? else {
+        return Err("no match")?;
+    };
+    check_near_keys(rt, &found);
+    Ok(())
+}
+
+/// The line `a` has a match of `[%{A}]`, without a value.
+fn check_no_keys_over(rt: &impl Abort, grok: &Grok) -> Result<(), Fail> {
     let pattern = grok.compile("[%{A}]", false)?;
     let Some(found) = pattern.match_against("a")? else {
         return Err("no match")?;
     };
-    for key in ["", "A", "_n_0", "a"] {
-        assert!(rt; found.get(key).is_none(), "at {key}");
-    }
+    check_no_keys(rt, &found);
+    Ok(())
+}
+
+/// Keys that are nearly those of the pattern have no value.
+#[test]
+fn keys_that_are_not_there(rt: HostRuntime) -> Result<(), Fail> {
+    let grok = library(rt.alloc(), "A=a B=%{A}%{A}")?;
+    check_near_keys_over(&rt, &grok)?;
+    check_no_keys_over(&rt, &grok)
+}
+
+/// The pattern over the library of the words has this extract for the key.
+fn check_extract(
+    rt: &(impl Abort + AllocGlobal),
+    words: &str,
+    text: &str,
+    with_alias_only: bool,
+    key: &str,
+    expected: Option<&str>,
+) -> Result<(), Fail> {
+    let pattern = library(rt.alloc(), words)?.compile(text, with_alias_only)?;
+    let is_right = pattern.get_extract(key) == expected;
+    assert!(rt; is_right, "at {text} {with_alias_only} {key}");
     Ok(())
 }
 
@@ -481,11 +582,7 @@ fn kept_extracts(rt: HostRuntime) -> Result<(), Fail> {
         // A group written by hand has no extract.
         ("A=a", "%{A:x:int}(?<y>b)", false, "y", None),
     ] {
-        let pattern = library(rt.alloc(), words)?.compile(text, with_alias_only)?;
-        assert!(rt;
-            pattern.get_extract(key) == expected,
-            "at {text} {with_alias_only} {key}"
-        );
+        check_extract(&rt, words, text, with_alias_only, key, expected)?;
     }
     Ok(())
 }
@@ -509,20 +606,36 @@ fn a_pattern_owns_what_it_holds(rt: HostRuntime) -> Result<(), Fail> {
     Ok(())
 }
 
+/// `%{A}` compiles into this text.
+fn check_text(rt: &impl Abort, grok: &Grok, expected: &str) -> Result<(), Fail> {
+    let pattern = grok.compile("%{A}", false)?;
+    assert_eq!(rt; pattern.text(), expected);
+    Ok(())
+}
+
+/// The definition of `A` is set to `c` after the pattern was compiled, which keeps its own.
+fn check_set_again(rt: &impl Abort, grok: &mut Grok, earlier: &Pattern) -> Result<(), Fail> {
+    let copy = grok.clone()?;
+    grok.add_pattern("A", "c")?;
+    assert_eq!(rt; earlier.text(), "(?<_n_0>b)");
+    check_text(rt, grok, "(?<_n_0>c)")?;
+    check_text(rt, &copy, "(?<_n_0>b)")
+}
+
 /// The definitions that a pattern is compiled with are those at that time.
 #[test]
 fn definitions_set_again(rt: HostRuntime) -> Result<(), Fail> {
     let mut grok = library(rt.alloc(), "A=a%{B}")?;
     grok.add_pattern("A", "b")?;
     let earlier = grok.compile("%{A}", false)?;
-    let copy = grok.clone()?;
-    grok.add_pattern("A", "c")?;
-    let later = grok.compile("%{A}", false)?;
-    let copied = copy.compile("%{A}", false)?;
-    assert_eq!(rt; earlier.text(), "(?<_n_0>b)");
-    assert_eq!(rt; later.text(), "(?<_n_0>c)");
-    assert_eq!(rt; copied.text(), "(?<_n_0>b)");
-    Ok(())
+    check_set_again(&rt, &mut grok, &earlier)
+}
+
+/// The pattern of the name compiles, and has the one key.
+fn check_default(rt: &(impl Abort + AllocGlobal), grok: &Grok, name: &str) -> Result<(), Fail> {
+    let text = format!(in rt.alloc(); "^%{{{name}:k}}$")?;
+    let pattern = grok.compile(text.as_str(), true)?;
+    check_keys(rt, &pattern, "k", name)
 }
 
 /// Each of the ten compiles by its name.
@@ -530,11 +643,32 @@ fn definitions_set_again(rt: HostRuntime) -> Result<(), Fail> {
 fn the_ten_compile(rt: HostRuntime) -> Result<(), Fail> {
     let grok = Grok::with_default_patterns(rt.alloc())?;
     for (name, _) in patterns() {
-        let text = format!(in rt.alloc(); "^%{{{name}:k}}$")?;
-        let pattern = grok.compile(text.as_str(), true)?;
-        let keys = keys_of(rt.alloc(), &pattern)?;
-        assert_eq!(rt; keys.as_str(), "k", "at {name}");
+        check_default(&rt, &grok, name)?;
     }
+    Ok(())
+}
+
+/// A pattern is shown by its text and its extracts.
+fn check_shown_pattern(rt: &(impl Abort + AllocGlobal), pattern: &Pattern) -> Result<(), Fail> {
+    let shown = format!(in rt.alloc(); "{pattern:?}")?;
+    assert_eq!(rt;
+        shown.as_str(),
+        r#"Pattern { text: "(?<_n_0>a)(?<_n_1>a)", extracts: {"x": "t"} }"#
+    );
+    Ok(())
+}
+
+/// An answer to a line is shown by its pairs, and a library by its definitions.
+fn check_shown_answer(
+    rt: &(impl Abort + AllocGlobal),
+    grok: &Grok,
+    found: &Option<Matches<'_>>,
+) -> Result<(), Fail> {
+    let shown = format!(in rt.alloc(); "{found:?} {grok:?}")?;
+    assert_eq!(rt;
+        shown.as_str(),
+        r#"Some({"A": "a", "x": "a"}) Grok {"A": "a"}"#
+    );
     Ok(())
 }
 
@@ -542,16 +676,6 @@ fn the_ten_compile(rt: HostRuntime) -> Result<(), Fail> {
 fn shown_patterns(rt: HostRuntime) -> Result<(), Fail> {
     let grok = library(rt.alloc(), "A=a")?;
     let pattern = grok.compile("%{A:x:t}%{A}", false)?;
-    let shown = format!(in rt.alloc(); "{pattern:?}")?;
-    assert_eq!(rt;
-        shown.as_str(),
-        r#"Pattern { text: "(?<_n_0>a)(?<_n_1>a)", extracts: {"x": "t"} }"#
-    );
-    let found = pattern.match_against("aa")?;
-    let shown = format!(in rt.alloc(); "{found:?} {grok:?}")?;
-    assert_eq!(rt;
-        shown.as_str(),
-        r#"Some({"A": "a", "x": "a"}) Grok {"A": "a"}"#
-    );
-    Ok(())
+    check_shown_pattern(&rt, &pattern)?;
+    check_shown_answer(&rt, &grok, &pattern.match_against("aa")?)
 }

@@ -1,5 +1,6 @@
 use grok::{Grok, patterns};
 use std::alloc::{AllocError, Global};
+use std::process::Abort;
 use std::test::Fail;
 
 /// The ten names with their definitions, written out.
@@ -27,22 +28,35 @@ fn library(alloc: Global, entries: &[(&str, &str)]) -> Result<String, AllocError
     let mut all = String::from_str(alloc, "Grok {")?;
     let mut separator = "";
     for (name, text) in entries {
-        let entry = format!(in alloc; "{separator}{name:?}: {text:?}")?;
-        all.push_str(entry.as_str())?;
+        write!(&mut all, "{separator}{name:?}: {text:?}")?;
         separator = ", ";
     }
     all.push_str("}")?;
     Ok(all)
 }
 
+/// The pair of a name and its text is the expected one.
+fn check_pair(rt: &impl Abort, given: &(&str, &str), expected: &(&str, &str)) {
+    let (name, text) = given;
+    let (expected_name, expected_text) = expected;
+    assert_eq!(rt; *name, *expected_name);
+    assert_eq!(rt; *text, *expected_text, "at {name}");
+}
+
 #[test]
 fn the_ten(rt: HostRuntime) {
     let given = patterns();
     assert_eq!(rt; given.len(), TEN.len());
-    for ((name, text), (expected_name, expected_text)) in given.iter().zip(TEN.iter()) {
-        assert_eq!(rt; *name, *expected_name);
-        assert_eq!(rt; *text, *expected_text, "at {name}");
+    for (pair, expected) in given.iter().zip(TEN.iter()) {
+        check_pair(&rt, pair, expected);
     }
+}
+
+/// The library is shown so.
+fn check_shown(rt: &(impl Abort + AllocGlobal), grok: &Grok, expected: &str) -> Result<(), Fail> {
+    let shown = format!(in rt.alloc(); "{grok:?}")?;
+    assert_eq!(rt; shown.as_str(), expected);
+    Ok(())
 }
 
 #[test]
@@ -64,50 +78,32 @@ fn default_libraries(rt: HostRuntime) -> Result<(), Fail> {
         ciscomac, commonmac, day, mac, month, space, user, username, windowsmac, year,
     ];
     let expected = library(alloc, &sorted)?;
-    let defaults = format!(in alloc; "{:?}", Grok::default(alloc)?)?;
-    assert_eq!(rt; defaults.as_str(), expected.as_str());
-    let ten = format!(in alloc; "{:?}", Grok::with_default_patterns(alloc)?)?;
-    assert_eq!(rt; ten.as_str(), expected.as_str());
-    let none = format!(in alloc; "{:?}", Grok::empty(alloc))?;
-    assert_eq!(rt; none.as_str(), "Grok {}");
-    Ok(())
+    check_shown(&rt, &Grok::default(alloc)?, expected.as_str())?;
+    check_shown(&rt, &Grok::with_default_patterns(alloc)?, expected.as_str())?;
+    check_shown(&rt, &Grok::empty(alloc), "Grok {}")
 }
 
 #[test]
 fn the_later_pair_counts(rt: HostRuntime) -> Result<(), Fail> {
-    let alloc = rt.alloc();
-    let grok = Grok::from_iter(alloc, &[("A", "a"), ("B", "b"), ("A", "c")])?;
-    let shown = format!(in alloc; "{grok:?}")?;
-    assert_eq!(rt; shown.as_str(), r#"Grok {"A": "c", "B": "b"}"#);
-    Ok(())
+    let grok = Grok::from_iter(rt.alloc(), &[("A", "a"), ("B", "b"), ("A", "c")])?;
+    check_shown(&rt, &grok, r#"Grok {"A": "c", "B": "b"}"#)
 }
 
 #[test]
 fn a_clone_is_its_own(rt: HostRuntime) -> Result<(), Fail> {
-    let alloc = rt.alloc();
-    let mut grok = Grok::from_iter(alloc, &[("A", "a"), ("B", "b")])?;
+    let mut grok = Grok::from_iter(rt.alloc(), &[("A", "a"), ("B", "b")])?;
     let mut copy = grok.clone()?;
     copy.add_pattern("B", "d")?;
     grok.add_pattern("C", "%{A}")?;
-    let shown = format!(in alloc; "{grok:?} {copy:?}")?;
-    assert_eq!(rt;
-        shown.as_str(),
-        r#"Grok {"A": "a", "B": "b", "C": "%{A}"} Grok {"A": "a", "B": "d"}"#
-    );
-    Ok(())
+    check_shown(&rt, &grok, r#"Grok {"A": "a", "B": "b", "C": "%{A}"}"#)?;
+    check_shown(&rt, &copy, r#"Grok {"A": "a", "B": "d"}"#)
 }
 
 #[test]
 fn any_text_is_accepted(rt: HostRuntime) -> Result<(), Fail> {
-    let alloc = rt.alloc();
-    let mut grok = Grok::empty(alloc);
+    let mut grok = Grok::empty(rt.alloc());
     grok.add_pattern("", "")?;
     grok.add_pattern("BAD", "%{")?;
     grok.add_pattern("%{é}", "%{é}")?;
-    let shown = format!(in alloc; "{grok:?}")?;
-    assert_eq!(rt;
-        shown.as_str(),
-        r#"Grok {"": "", "%{é}": "%{é}", "BAD": "%{"}"#
-    );
-    Ok(())
+    check_shown(&rt, &grok, r#"Grok {"": "", "%{é}": "%{é}", "BAD": "%{"}"#)
 }

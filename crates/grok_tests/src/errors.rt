@@ -1,11 +1,12 @@
 //! The errors of compiling, and how they are shown.
 
-use crate::libraries::library;
 use grok::Fault::{Malformed, Missing, TooDeep};
 use grok::parser::GrokPatternError::{InvalidCharacter, InvalidPattern, InvalidPatternDefinition};
-use grok::{Error, Refusal};
+use grok::{Error, Fault, Grok, Refusal};
+use grok_test_libraries::library;
 use std::alloc::{AllocError, Global};
 use std::error;
+use std::process::Abort;
 use std::test::Fail;
 
 fn text(alloc: Global, text: &str) -> Result<String, AllocError> {
@@ -29,6 +30,24 @@ fn errors(alloc: Global) -> Result<[Error; 8], AllocError> {
         Error::DefinitionNotFound(text(alloc, "\"é\\")?),
         Error::GenericCompilationFailure(text(alloc, "Alias x[1] already exists")?),
     ])
+}
+
+/// The error has this debug text.
+fn check_debug(rt: &(impl Abort + AllocGlobal), error: &Error, expected: &str) -> Result<(), Fail> {
+    let shown = format!(in rt.alloc(); "{error:?}")?;
+    assert_eq!(rt; shown.as_str(), expected);
+    Ok(())
+}
+
+/// The error is displayed so.
+fn check_display(
+    rt: &(impl Abort + AllocGlobal),
+    error: &Error,
+    expected: &str,
+) -> Result<(), Fail> {
+    let shown = displayed(rt.alloc(), error)?;
+    assert_eq!(rt; shown.as_str(), expected);
+    Ok(())
 }
 
 #[test]
@@ -66,11 +85,27 @@ fn shown_errors(rt: HostRuntime) -> Result<(), Fail> {
     ];
     let errors = errors(rt.alloc())?;
     for (error, (display, debug)) in errors.iter().zip(expected.iter()) {
-        let shown = displayed(rt.alloc(), error)?;
-        assert_eq!(rt; shown.as_str(), *display);
-        let shown = format!(in rt.alloc(); "{error:?}")?;
-        assert_eq!(rt; shown.as_str(), *debug);
+        check_display(&rt, error, display)?;
+        check_debug(&rt, error, debug)?;
     }
+    Ok(())
+}
+
+/// A clone of the error at this place equals it, and no other one.
+fn check_clone(rt: &impl Abort, errors: &[Error], place: usize, error: &Error) -> Result<(), Fail> {
+    let copy = error.clone()?;
+    for (other_place, other) in errors.iter().enumerate() {
+        let is_same = copy == *other;
+        assert_eq!(rt; is_same, place == other_place, "{error:?} {other:?}");
+    }
+    Ok(())
+}
+
+/// Refusals are shown and compared.
+fn check_refusals(rt: &(impl Abort + AllocGlobal)) -> Result<(), Fail> {
+    let shown = format!(in rt.alloc(); "{:?} {:?}", Refusal::Refused, Refusal::Memory)?;
+    assert_eq!(rt; shown.as_str(), "Refused Memory");
+    assert_ne!(rt; Refusal::Refused, Refusal::Memory);
     Ok(())
 }
 
@@ -79,16 +114,19 @@ fn shown_errors(rt: HostRuntime) -> Result<(), Fail> {
 fn equal_errors(rt: HostRuntime) -> Result<(), Fail> {
     let errors = errors(rt.alloc())?;
     for (place, error) in errors.iter().enumerate() {
-        let copy = error.clone()?;
-        for (other_place, other) in errors.iter().enumerate() {
-            let is_same = copy == *other;
-            assert_eq!(rt; is_same, place == other_place, "{error:?} {other:?}");
-        }
+        check_clone(&rt, &errors, place, error)?;
     }
-    let shown = format!(in rt.alloc(); "{:?} {:?}", Refusal::Refused, Refusal::Memory)?;
-    assert_eq!(rt; shown.as_str(), "Refused Memory");
-    assert_ne!(rt; Refusal::Refused, Refusal::Memory);
-    Ok(())
+    check_refusals(&rt)
+}
+
+/// The error of a fault has this debug text.
+fn check_fault(
+    rt: &(impl Abort + AllocGlobal),
+    fault: Fault<'_>,
+    expected: &str,
+) -> Result<(), Fail> {
+    let error = fault.to_error(rt.alloc())?;
+    check_debug(rt, &error, expected)
 }
 
 #[test]
@@ -113,11 +151,36 @@ fn errors_of_faults(rt: HostRuntime) -> Result<(), Fail> {
             "GenericCompilationFailure(\"InvalidCharacter('é')\")",
         ),
     ] {
-        let error = fault.to_error(rt.alloc())?;
-        let shown = format!(in rt.alloc(); "{error:?}")?;
-        assert_eq!(rt; shown.as_str(), expected);
+        check_fault(&rt, fault, expected)?;
     }
     Ok(())
+}
+
+/// Compiling has this error.
+fn check_error(
+    rt: &(impl Abort + AllocGlobal),
+    grok: &Grok,
+    pattern: &str,
+    with_alias_only: bool,
+    expected: &str,
+) -> Result<(), Fail> {
+    match grok.compile(pattern, with_alias_only) {
+        Ok(_) => assert!(rt; false, "a pattern at {pattern}"),
+        Err(error) => check_debug(rt, &error, expected)?,
+    }
+    Ok(())
+}
+
+/// Compiling has this error over the library of the words.
+fn check_row(
+    rt: &(impl Abort + AllocGlobal),
+    words: &str,
+    pattern: &str,
+    with_alias_only: bool,
+    expected: &str,
+) -> Result<(), Fail> {
+    let grok = library(rt.alloc(), words)?;
+    check_error(rt, &grok, pattern, with_alias_only, expected)
 }
 
 /// What compiling over `regex` answers for patterns that have a fault.
@@ -159,14 +222,7 @@ fn errors_of_patterns(rt: HostRuntime) -> Result<(), Fail> {
             "RegexCompilationFailed(\"Regex compilation failed:\\n(?:()\")",
         ),
     ] {
-        let grok = library(rt.alloc(), words)?;
-        match grok.compile(pattern, with_alias_only) {
-            Ok(_) => assert!(rt; false, "a pattern at {pattern}"),
-            Err(error) => {
-                let shown = format!(in rt.alloc(); "{error:?}")?;
-                assert_eq!(rt; shown.as_str(), expected, "at {pattern}");
-            }
-        }
+        check_row(&rt, words, pattern, with_alias_only, expected)?;
     }
     Ok(())
 }

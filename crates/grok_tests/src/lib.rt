@@ -1,25 +1,11 @@
-// Tests of the crate `grok`, as tables.
+//! Tests of what `grok` says: pieces of texts, definitions, errors, compiled patterns, and answers to lines.
 #![tactic(auto)]
 
 #[cfg(test)]
 mod answers;
 #[cfg(test)]
-mod compiling;
-#[cfg(test)]
 mod definitions;
-#[cfg(test)]
-mod engines;
 #[cfg(test)]
 mod errors;
 #[cfg(test)]
-mod expansion;
-#[cfg(test)]
-mod libraries;
-#[cfg(test)]
-mod many;
-#[cfg(test)]
-mod measure;
-#[cfg(test)]
 mod pieces;
-#[cfg(test)]
-mod shown;

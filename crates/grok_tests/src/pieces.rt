@@ -1,6 +1,7 @@
 use grok::parser::GrokPatternError::{InvalidCharacter, InvalidPattern, InvalidPatternDefinition};
 use grok::parser::{GrokComponent, GrokPatternError, grok_split};
 use std::alloc::{AllocError, Global};
+use std::process::Abort;
 use std::test::Fail;
 
 /// What a piece has, field by field: its range, its text, the parts of a placeholder; or its fault.
@@ -24,15 +25,27 @@ fn row(alloc: Global, piece: &GrokComponent<'_>) -> Result<String, AllocError> {
     }
 }
 
+/// Adds the row of a piece, with a line feed behind it.
+fn push_row(alloc: Global, all: &mut String, piece: &GrokComponent<'_>) -> Result<(), AllocError> {
+    let row = row(alloc, piece)?;
+    all.push_str(row.as_str())?;
+    all.push_str("\n")
+}
+
 /// The rows of the pieces of the text, each with a line feed behind it.
 fn rows(alloc: Global, text: &str) -> Result<String, AllocError> {
     let mut all = String::new(alloc);
     for piece in grok_split(text) {
-        let row = row(alloc, &piece)?;
-        all.push_str(row.as_str())?;
-        all.push_str("\n")?;
+        push_row(alloc, &mut all, &piece)?;
     }
     Ok(all)
+}
+
+/// The pieces of the text have these rows.
+fn check_rows(rt: &(impl Abort + AllocGlobal), text: &str, expected: &str) -> Result<(), Fail> {
+    let given = rows(rt.alloc(), text)?;
+    assert_eq!(rt; given.as_str(), expected, "at {text}");
+    Ok(())
 }
 
 /// The fault of a text, if it is all that a split gives, and nothing comes after it.
@@ -76,10 +89,25 @@ fn pieces_with_ranges_and_parts(rt: HostRuntime) -> Result<(), Fail> {
             "0..1 a\n1..5 %{A} name=A alias= extract= definition=\nInvalidCharacter(' ')\n",
         ),
     ] {
-        let given = rows(rt.alloc(), text)?;
-        assert_eq!(rt; given.as_str(), expected, "at {text}");
+        check_rows(&rt, text, expected)?;
     }
     Ok(())
+}
+
+/// The text is one placeholder with these parts.
+fn check_placeholder(
+    rt: &(impl Abort + AllocGlobal),
+    text: &str,
+    name: &str,
+    alias: &str,
+    extract: &str,
+    definition: &str,
+) -> Result<(), Fail> {
+    let expected = format!(in rt.alloc();
+        "0..{} {text} name={name} alias={alias} extract={extract} definition={definition}\n",
+        text.len()
+    )?;
+    check_rows(rt, text, expected.as_str())
 }
 
 #[test]
@@ -95,12 +123,7 @@ fn legal_placeholders(rt: HostRuntime) -> Result<(), Fail> {
         ("%{name:name[x]}", "name", "name[x]", "", ""),
         ("%{name:name[x]:name[y]}", "name", "name[x]", "name[y]", ""),
     ] {
-        let given = rows(rt.alloc(), text)?;
-        let expected = format!(in rt.alloc();
-            "0..{} {text} name={name} alias={alias} extract={extract} definition={definition}\n",
-            text.len()
-        )?;
-        assert_eq!(rt; given.as_str(), expected.as_str(), "at {text}");
+        check_placeholder(&rt, text, name, alias, extract, definition)?;
     }
     Ok(())
 }
@@ -140,17 +163,36 @@ fn illegal_placeholders(rt: HostRuntime) {
     }
 }
 
-/// The pieces of the text, each with a line feed behind it: as Display writes them, and as Debug does.
-fn shown(alloc: Global, text: &str) -> Result<(String, String), AllocError> {
-    let mut displayed = String::new(alloc);
-    let mut debugged = String::new(alloc);
+/// The pieces of the text as Display writes them, each with a line feed behind it.
+fn displayed(alloc: Global, text: &str) -> Result<String, AllocError> {
+    let mut all = String::new(alloc);
     for piece in grok_split(text) {
-        let line = format!(in alloc; "{piece}\n")?;
-        displayed.push_str(line.as_str())?;
-        let line = format!(in alloc; "{piece:?}\n")?;
-        debugged.push_str(line.as_str())?;
+        write!(&mut all, "{piece}\n")?;
     }
-    Ok((displayed, debugged))
+    Ok(all)
+}
+
+/// The pieces of the text as Debug writes them, each with a line feed behind it.
+fn debugged(alloc: Global, text: &str) -> Result<String, AllocError> {
+    let mut all = String::new(alloc);
+    for piece in grok_split(text) {
+        write!(&mut all, "{piece:?}\n")?;
+    }
+    Ok(all)
+}
+
+/// The pieces of the text are displayed so.
+fn check_display(rt: &(impl Abort + AllocGlobal), text: &str, expected: &str) -> Result<(), Fail> {
+    let given = displayed(rt.alloc(), text)?;
+    assert_eq!(rt; given.as_str(), expected);
+    Ok(())
+}
+
+/// The pieces of the text have this debug text.
+fn check_debug(rt: &(impl Abort + AllocGlobal), text: &str, expected: &str) -> Result<(), Fail> {
+    let given = debugged(rt.alloc(), text)?;
+    assert_eq!(rt; given.as_str(), expected);
+    Ok(())
 }
 
 #[test]
@@ -183,11 +225,17 @@ fn shown_pieces(rt: HostRuntime) -> Result<(), Fail> {
             "<error InvalidPatternDefinition>\n",
         ),
     ] {
-        let (displayed, debugged) = shown(rt.alloc(), text)?;
-        assert_eq!(rt; displayed.as_str(), display);
-        assert_eq!(rt; debugged.as_str(), debug);
+        check_display(&rt, text, display)?;
+        check_debug(&rt, text, debug)?;
     }
     Ok(())
+}
+
+/// A fault is shown the same in both ways.
+fn check_shown_fault(rt: &(impl Abort + AllocGlobal), text: &str, debug: &str) -> Result<(), Fail> {
+    let line = format!(in rt.alloc(); "{debug}\n")?;
+    check_display(rt, text, line.as_str())?;
+    check_debug(rt, text, line.as_str())
 }
 
 /// Rust's debug text of each character, within the name of the fault.
@@ -205,10 +253,7 @@ fn odd_characters(rt: HostRuntime) -> Result<(), Fail> {
         ("%{\u{200b}}", r"<error InvalidCharacter('\u{200b}')>"),
         ("%{😀}", "<error InvalidCharacter('😀')>"),
     ] {
-        let (displayed, debugged) = shown(rt.alloc(), text)?;
-        let line = format!(in rt.alloc(); "{debug}\n")?;
-        assert_eq!(rt; displayed.as_str(), line.as_str());
-        assert_eq!(rt; debugged.as_str(), line.as_str());
+        check_shown_fault(&rt, text, debug)?;
     }
     Ok(())
 }
@@ -219,9 +264,21 @@ const VIEWS: &str =
 const QUERIES: &str =
     r"%{NUMBER:ts}\t%{NOTSPACE:uid}\t%{IP:orig_h}\t%{INT:orig_p}\t%{IP:resp_h}\t%{INT:resp_p}\t%{WORD:proto}\t%{INT:trans_id}\t%{GREEDYDATA:query}\t%{GREEDYDATA:qclass}\t%{GREEDYDATA:qclass_name}\t%{GREEDYDATA:qtype}\t%{GREEDYDATA:qtype_name}\t%{GREEDYDATA:rcode}\t%{GREEDYDATA:rcode_name}\t%{GREEDYDATA:AA}\t%{GREEDYDATA:TC}\t%{GREEDYDATA:RD}\t%{GREEDYDATA:RA}\t%{GREEDYDATA:Z}\t%{GREEDYDATA:answers}\t%{GREEDYDATA:TTLs}\t%{GREEDYDATA:rejected}";
 
-#[test]
-fn real_grok_patterns(rt: HostRuntime) -> Result<(), Fail> {
-    let mut expected = String::new(rt.alloc());
+/// The text has no fault, and its pieces are its parts in their order.
+fn check_joined(rt: &(impl Abort + AllocGlobal), text: &str) -> Result<(), Fail> {
+    let mut joined = String::new(rt.alloc());
+    for piece in grok_split(text) {
+        let is_fault = matches!(piece, GrokComponent::PatternError(_));
+        assert!(rt; !is_fault, "at {piece}");
+        write!(&mut joined, "{piece}")?;
+    }
+    assert_eq!(rt; joined.as_str(), text);
+    Ok(())
+}
+
+/// The rows of the pieces of `VIEWS`.
+fn rows_of_views(alloc: Global) -> Result<String, AllocError> {
+    let mut all = String::new(alloc);
     for row in [
         r"0..12 (?:\(Views: ",
         r"12..28 %{NUMBER:viewms} name=NUMBER alias=viewms extract= definition=",
@@ -231,22 +288,17 @@ fn real_grok_patterns(rt: HostRuntime) -> Result<(), Fail> {
         r"91..115 %{NUMBER:activerecordms} name=NUMBER alias=activerecordms extract= definition=",
         r"115..119 ms)?",
     ] {
-        expected.push_str(row)?;
-        expected.push_str("\n")?;
+        write!(&mut all, "{row}\n")?;
     }
-    let given = rows(rt.alloc(), VIEWS)?;
-    assert_eq!(rt; given.as_str(), expected.as_str());
-    for text in [VIEWS, QUERIES] {
-        let mut joined = String::new(rt.alloc());
-        for piece in grok_split(text) {
-            let is_fault = matches!(piece, GrokComponent::PatternError(_));
-            assert!(rt; !is_fault, "at {piece}");
-            let shown = format!(in rt.alloc(); "{piece}")?;
-            joined.push_str(shown.as_str())?;
-        }
-        assert_eq!(rt; joined.as_str(), text);
-    }
-    Ok(())
+    Ok(all)
+}
+
+#[test]
+fn real_grok_patterns(rt: HostRuntime) -> Result<(), Fail> {
+    let expected = rows_of_views(rt.alloc())?;
+    check_rows(&rt, VIEWS, expected.as_str())?;
+    check_joined(&rt, VIEWS)?;
+    check_joined(&rt, QUERIES)
 }
 
 #[test]

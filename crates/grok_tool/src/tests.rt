@@ -4,13 +4,15 @@ mod cuts;
 mod devices;
 mod failing;
 mod lines;
+mod outcome;
 mod prompt;
 mod sizes;
 mod splits;
 
-use crate::fault::ToolFault;
-use crate::run;
-use devices::FakeWriter;
+use devices::{FakeReader, FakeWriter};
+use grok_commands::ToolFault;
+use outcome::{Ending, check_untouched, outcome_of};
+use std::process::Abort;
 use std::test::Fail;
 
 /// What `check` without words writes: the sizes of the ten names.
@@ -44,34 +46,38 @@ const MISUSES: [&[&str]; 12] = [
 #[test]
 fn wrong_words(rt: HostRuntime) -> Result<(), Fail> {
     for words in MISUSES {
-        let mut input: &[u8] = b"left alone";
-        let mut writer = FakeWriter::new(rt.alloc());
-        let result = run(rt.alloc(), words, &mut input, &mut writer);
-        assert!(rt; matches!(result, Err(ToolFault::Usage)), "at {words:?}");
-        assert_eq!(rt; input, b"left alone".as_slice());
-        assert_eq!(rt; writer.calls, 0);
-        assert_eq!(rt; writer.flushes, 0);
+        let reader = FakeReader::new(b"left alone");
+        let outcome = outcome_of(&rt, words, reader, FakeWriter::new(rt.alloc()), "");
+        check_untouched(&rt, words, outcome, Ending::Usage, b"left alone");
     }
     Ok(())
 }
 
+/// The fault prints this text.
+fn check_text(rt: &(impl Abort + AllocGlobal), fault: ToolFault, wanted: &str) -> Result<(), Fail> {
+    let text = fault.to_string(rt.alloc())?;
+    assert_eq!(rt; text.as_str(), wanted);
+    Ok(())
+}
+
+#[test]
+fn text_of_a_pattern_fault(rt: HostRuntime) -> Result<(), Fail> {
+    let pattern = String::from_str(rt.alloc(), "é")?;
+    check_text(
+        &rt,
+        ToolFault::Pattern(grok::Error::CompiledPatternIsEmpty(pattern)),
+        "The given pattern \"é\" ended up compiling into an empty regex",
+    )
+}
+
 #[test]
 fn texts_of_faults(rt: HostRuntime) -> Result<(), Fail> {
-    let pattern = String::from_str(rt.alloc(), "é")?;
-    for (fault, want) in [
-        (
-            ToolFault::Pattern(grok::Error::CompiledPatternIsEmpty(pattern)),
-            "The given pattern \"é\" ended up compiling into an empty regex",
-        ),
-        (
-            ToolFault::Usage,
-            "usage: grok_tool split PATTERN | measure [-a] PATTERN [NAME=DEF].. | match [-a] PATTERN [NAME=DEF].. | json [-a] PATTERN [NAME=DEF].. | check [-a] [NAME=DEF]..",
-        ),
-        (ToolFault::Memory, "Out of memory"),
-        (ToolFault::Read, "read failed"),
-        (ToolFault::Write, "write failed"),
-    ] {
-        assert_eq!(rt; fault.to_string(rt.alloc())?.as_str(), want);
-    }
-    Ok(())
+    check_text(
+        &rt,
+        ToolFault::Usage,
+        "usage: grok_tool split PATTERN | measure [-a] PATTERN [NAME=DEF].. | match [-a] PATTERN [NAME=DEF].. | json [-a] PATTERN [NAME=DEF].. | check [-a] [NAME=DEF]..",
+    )?;
+    check_text(&rt, ToolFault::Memory, "Out of memory")?;
+    check_text(&rt, ToolFault::Read, "read failed")?;
+    check_text(&rt, ToolFault::Write, "write failed")
 }

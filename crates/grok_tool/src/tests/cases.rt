@@ -1,7 +1,7 @@
 //! One run of each command that succeeds, with its whole output.
 use super::THE_TEN;
 use super::devices::{FakeReader, FakeWriter};
-use crate::run;
+use super::outcome::{Ending, Outcome, check_outcome, outcome_of};
 use std::process::Abort;
 
 /// A pattern that a line with a small letter matches.
@@ -17,6 +17,13 @@ pub struct Case {
     pub reads: bool,
     pub answers: usize,
     pub output: &'static str,
+}
+
+impl Case {
+    /// The reads of a run that is right, where a run had so many: at least one, or none.
+    pub fn wanted_reads(&self, reads: usize) -> usize {
+        if self.reads { reads.max(1) } else { 0 }
+    }
 }
 
 /// A case of each command.
@@ -54,22 +61,27 @@ pub const CASES: [Case; 5] = [
 ];
 
 /// Runs a case on these devices: it succeeds, writes its output, flushes once, and reads all of its input or none.
-pub fn check_run(
+pub fn check_run<'a>(
     rt: &(impl Abort + AllocGlobal),
     case: &Case,
-    reader: &mut FakeReader<'_>,
-    writer: &mut FakeWriter,
-) {
+    reader: FakeReader<'a>,
+    writer: FakeWriter,
+) -> Outcome<'a> {
     let words = case.words;
-    let result = run(rt.alloc(), words, reader, writer);
-    assert!(rt; result.is_ok(), "{words:?}");
-    assert_eq!(rt;
-        writer.taken.as_slice(),
-        case.output.as_bytes(),
-        "{words:?}"
-    );
-    assert_eq!(rt; writer.flushes, 1, "{words:?}");
+    let outcome = outcome_of(rt, words, reader, writer, case.output);
     let left = if case.reads { b"".as_slice() } else { LINES };
-    assert_eq!(rt; reader.left, left, "{words:?}");
-    assert_eq!(rt; reader.calls > 0, case.reads, "{words:?}");
+    check_outcome(
+        rt,
+        words,
+        outcome,
+        Outcome {
+            ending: Ending::Well,
+            left,
+            reads: case.wanted_reads(outcome.reads),
+            taken: case.output.len(),
+            flushes: 1,
+            ..outcome
+        },
+    );
+    outcome
 }

@@ -2,6 +2,7 @@
 //! again, and `write_all` an interrupted write, so that none of this is seen in the output.
 use super::cases::{CASES, Case, LINES, check_run};
 use super::devices::{FakeReader, FakeWriter};
+use super::outcome::{Outcome, check_outcome};
 use std::process::Abort;
 use std::test::Fail;
 
@@ -33,7 +34,7 @@ fn check_widths(
         let mut writer = FakeWriter::new(rt.alloc());
         writer.most = most_written;
         writer.interrupts = writer_interrupts;
-        check_run(rt, case, &mut reader, &mut writer);
+        check_run(rt, case, reader, writer);
     }
 }
 
@@ -55,6 +56,27 @@ fn interrupted_calls_change_no_answer(rt: HostRuntime) -> Result<(), Fail> {
     Ok(())
 }
 
+/// The devices of this outcome were called so often.
+fn check_calls(
+    rt: &(impl Abort + AllocGlobal),
+    outcome: Outcome<'_>,
+    case: &Case,
+    reads: usize,
+    writes: usize,
+) {
+    let reads = if case.reads { reads } else { 0 };
+    check_outcome(
+        rt,
+        case.words,
+        outcome,
+        Outcome {
+            reads,
+            writes,
+            ..outcome
+        },
+    );
+}
+
 #[test]
 fn one_byte_a_call(rt: HostRuntime) -> Result<(), Fail> {
     for case in CASES {
@@ -62,10 +84,9 @@ fn one_byte_a_call(rt: HostRuntime) -> Result<(), Fail> {
         reader.most = 1;
         let mut writer = FakeWriter::new(rt.alloc());
         writer.most = 1;
-        check_run(&rt, &case, &mut reader, &mut writer);
-        // A call for each of the five bytes, and one that meets the end.
-        assert_eq!(rt; reader.calls, if case.reads { 6 } else { 0 });
-        assert_eq!(rt; writer.calls, case.output.len());
+        let outcome = check_run(&rt, &case, reader, writer);
+        // A read for each of the five bytes, and one that meets the end.
+        check_calls(&rt, outcome, &case, 6, case.output.len());
     }
     Ok(())
 }
@@ -73,11 +94,9 @@ fn one_byte_a_call(rt: HostRuntime) -> Result<(), Fail> {
 #[test]
 fn one_write_for_each_answer(rt: HostRuntime) -> Result<(), Fail> {
     for case in CASES {
-        let mut reader = FakeReader::new(LINES);
-        let mut writer = FakeWriter::new(rt.alloc());
-        check_run(&rt, &case, &mut reader, &mut writer);
-        assert_eq!(rt; reader.calls, if case.reads { 2 } else { 0 });
-        assert_eq!(rt; writer.calls, case.answers);
+        let reader = FakeReader::new(LINES);
+        let outcome = check_run(&rt, &case, reader, FakeWriter::new(rt.alloc()));
+        check_calls(&rt, outcome, &case, 2, case.answers);
     }
     Ok(())
 }
@@ -89,9 +108,8 @@ fn interrupted_calls_are_made_again(rt: HostRuntime) -> Result<(), Fail> {
         reader.interrupts = true;
         let mut writer = FakeWriter::new(rt.alloc());
         writer.interrupts = true;
-        check_run(&rt, &case, &mut reader, &mut writer);
-        assert_eq!(rt; reader.calls, if case.reads { 4 } else { 0 });
-        assert_eq!(rt; writer.calls, case.answers.saturating_mul(2));
+        let outcome = check_run(&rt, &case, reader, writer);
+        check_calls(&rt, outcome, &case, 4, case.answers.saturating_mul(2));
     }
     Ok(())
 }

@@ -1,8 +1,7 @@
 //! Each command on devices that fail.
 use super::cases::{CASES, Case, KEYED, LINES, check_run};
 use super::devices::{FakeReader, FakeWriter};
-use crate::fault::ToolFault;
-use crate::run;
+use super::outcome::{Ending, Outcome, check_outcome, outcome_of};
 use std::process::Abort;
 use std::test::Fail;
 
@@ -51,92 +50,122 @@ const FAILED_READS: [(&[&str], &[u8], &[&str]); 4] = [
     ),
 ];
 
-/// Runs these words on a reader that fails after so many bytes: they answer that, have written this, and read no more.
+/// Runs these words on a reader that gives one byte a call and whose call `bad` fails: they answer that, have written
+/// this, and read no more.
 fn check_failed_read(
     rt: &(impl Abort + AllocGlobal),
     words: &[&str],
     input: &[u8],
-    given: usize,
+    interrupts: bool,
+    bad: usize,
     wanted: &str,
 ) {
-    for (interrupts, bad) in [(false, given), (true, given.saturating_mul(2))] {
-        let mut reader = FakeReader::new(input);
-        reader.most = 1;
-        reader.interrupts = interrupts;
-        reader.bad = Some(bad);
-        let mut writer = FakeWriter::new(rt.alloc());
-        let result = run(rt.alloc(), words, &mut reader, &mut writer);
-        assert!(rt; matches!(result, Err(ToolFault::Read)), "{words:?} {bad}");
-        assert_eq!(rt; reader.calls, bad.saturating_add(1), "{words:?} {bad}");
-        assert_eq!(rt;
-            writer.taken.as_slice(),
-            wanted.as_bytes(),
-            "{words:?} {bad}"
-        );
+    let mut reader = FakeReader::new(input);
+    reader.most = 1;
+    reader.interrupts = interrupts;
+    reader.bad = Some(bad);
+    let outcome = outcome_of(rt, words, reader, FakeWriter::new(rt.alloc()), wanted);
+    check_outcome(
+        rt,
+        words,
+        outcome,
+        Outcome {
+            ending: Ending::Read,
+            reads: bad.saturating_add(1),
+            taken: wanted.len(),
+            ..outcome
+        },
+    );
+}
+
+/// Runs these words on readers that fail once they gave none of the input's bytes, one of them, and so on to all of
+/// them, with calls interrupted or not.
+fn check_failed_reads(
+    rt: &(impl Abort + AllocGlobal),
+    words: &[&str],
+    input: &[u8],
+    before: &[&str],
+) {
+    assert_eq!(rt; before.len(), input.len().saturating_add(1), "{words:?}");
+    for (given, wanted) in before.iter().enumerate() {
+        check_failed_read(rt, words, input, false, given, wanted);
+        check_failed_read(rt, words, input, true, given.saturating_mul(2), wanted);
     }
 }
 
 #[test]
 fn a_failed_read(rt: HostRuntime) -> Result<(), Fail> {
     for (words, input, before) in FAILED_READS {
-        assert_eq!(rt; before.len(), input.len().saturating_add(1), "{words:?}");
-        for (given, wanted) in before.iter().enumerate() {
-            check_failed_read(&rt, words, input, given, wanted);
-        }
+        check_failed_reads(&rt, words, input, before);
     }
     Ok(())
+}
+
+/// Runs a case that reads on a reader that always fails: it answers that and writes nothing.
+fn check_first_read(rt: &(impl Abort + AllocGlobal), case: &Case, reader: FakeReader<'_>) {
+    let words = case.words;
+    let outcome = outcome_of(rt, words, reader, FakeWriter::new(rt.alloc()), "");
+    check_outcome(
+        rt,
+        words,
+        outcome,
+        Outcome {
+            ending: Ending::Read,
+            writes: 0,
+            ..outcome
+        },
+    );
 }
 
 #[test]
 fn a_reader_that_always_fails(rt: HostRuntime) -> Result<(), Fail> {
     for case in CASES {
-        let words = case.words;
         let mut reader = FakeReader::new(LINES);
         reader.bad = Some(0);
-        let mut writer = FakeWriter::new(rt.alloc());
         if case.reads {
-            let result = run(rt.alloc(), words, &mut reader, &mut writer);
-            assert!(rt; matches!(result, Err(ToolFault::Read)), "{words:?}");
-            assert_eq!(rt; writer.calls, 0, "{words:?}");
+            check_first_read(&rt, &case, reader);
         } else {
-            check_run(&rt, &case, &mut reader, &mut writer);
+            check_run(&rt, &case, reader, FakeWriter::new(rt.alloc()));
         }
     }
     Ok(())
 }
 
-/// Runs a case on this writer: it answers that a write failed, and the writer has the output's first `count` bytes.
+/// Runs a case on this writer: it answers that a write failed, and the writer has the output's first `count` bytes. The
+/// writer was called and flushed so often.
 fn check_failed_write(
     rt: &(impl Abort + AllocGlobal),
     case: &Case,
-    writer: &mut FakeWriter,
+    writer: FakeWriter,
     count: usize,
+    writes: usize,
+    flushes: usize,
 ) {
     let words = case.words;
-    let mut reader = FakeReader::new(LINES);
-    let result = run(rt.alloc(), words, &mut reader, writer);
-    assert!(rt;
-        matches!(result, Err(ToolFault::Write)),
-        "{words:?} {count}"
+    let outcome = outcome_of(rt, words, FakeReader::new(LINES), writer, case.output);
+    check_outcome(
+        rt,
+        words,
+        outcome,
+        Outcome {
+            ending: Ending::Write,
+            reads: case.wanted_reads(outcome.reads),
+            taken: count,
+            writes,
+            flushes,
+            ..outcome
+        },
     );
-    assert_eq!(rt; writer.taken.len(), count, "{words:?}");
-    assert!(rt;
-        case.output.as_bytes().starts_with(&writer.taken),
-        "{words:?} {count}"
-    );
-    assert_eq!(rt; reader.calls > 0, case.reads, "{words:?} {count}");
 }
 
-/// Runs a case on writers that take one byte a call and fail at a call, each of them in turn.
+/// Runs a case on writers that take one byte a call and fail at a call, each of them in turn. Nothing is written or
+/// flushed after that.
 fn check_failed_writes(rt: &(impl Abort + AllocGlobal), case: &Case) {
     for bad in 0..case.output.len() {
         let mut writer = FakeWriter::new(rt.alloc());
         writer.most = 1;
         writer.bad = Some(bad);
-        check_failed_write(rt, case, &mut writer, bad);
-        // Nothing was written or flushed any more.
-        assert_eq!(rt; writer.calls, bad.saturating_add(1));
-        assert_eq!(rt; writer.flushes, 0);
+        check_failed_write(rt, case, writer, bad, bad.saturating_add(1), 0);
     }
 }
 
@@ -153,9 +182,7 @@ fn a_writer_that_takes_nothing(rt: HostRuntime) -> Result<(), Fail> {
     for case in CASES {
         let mut writer = FakeWriter::new(rt.alloc());
         writer.most = 0;
-        check_failed_write(&rt, &case, &mut writer, 0);
-        assert_eq!(rt; writer.calls, 1);
-        assert_eq!(rt; writer.flushes, 0);
+        check_failed_write(&rt, &case, writer, 0, 1, 0);
     }
     Ok(())
 }
@@ -165,9 +192,7 @@ fn a_failed_flush(rt: HostRuntime) -> Result<(), Fail> {
     for case in CASES {
         let mut writer = FakeWriter::new(rt.alloc());
         writer.bad_flush = true;
-        check_failed_write(&rt, &case, &mut writer, case.output.len());
-        assert_eq!(rt; writer.calls, case.answers);
-        assert_eq!(rt; writer.flushes, 1);
+        check_failed_write(&rt, &case, writer, case.output.len(), case.answers, 1);
     }
     Ok(())
 }

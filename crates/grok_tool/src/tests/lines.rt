@@ -1,8 +1,7 @@
 //! Runs of `match` and of `json`.
 use super::devices::{FakeReader, FakeWriter};
-use crate::fault::ToolFault;
-use crate::run;
-use std::alloc::{AllocError, Global};
+use super::outcome::{Ending, Outcome, check_outcome, check_pattern_fault, outcome_of};
+use std::process::Abort;
 use std::test::Fail;
 
 /// The words of a run, its input, and what it writes.
@@ -62,41 +61,74 @@ const ROWS: [(&[&str], &[u8], &str); 17] = [
     ),
 ];
 
+/// Runs the words on devices that move so many bytes a call: all of the input is read, and has this answer.
+fn check_answer(
+    rt: &(impl Abort + AllocGlobal),
+    words: &[&str],
+    input: &[u8],
+    most: usize,
+    wanted: &str,
+) {
+    let mut reader = FakeReader::new(input);
+    reader.most = most;
+    let mut writer = FakeWriter::new(rt.alloc());
+    writer.most = most;
+    let outcome = outcome_of(rt, words, reader, writer, wanted);
+    check_outcome(
+        rt,
+        words,
+        outcome,
+        Outcome {
+            ending: Ending::Well,
+            left: b"",
+            taken: wanted.len(),
+            flushes: 1,
+            ..outcome
+        },
+    );
+}
+
 #[test]
 fn each_line_has_its_answer(rt: HostRuntime) -> Result<(), Fail> {
-    for (words, input, wanted) in ROWS {
-        for most in [1, 1000] {
-            let mut reader = FakeReader::new(input);
-            reader.most = most;
-            let mut writer = FakeWriter::new(rt.alloc());
-            writer.most = most;
-            let result = run(rt.alloc(), words, &mut reader, &mut writer);
-            assert!(rt; result.is_ok(), "{words:?}");
-            assert_eq!(rt; writer.taken.as_slice(), wanted.as_bytes(), "{words:?}");
-            assert_eq!(rt; writer.flushes, 1, "{words:?}");
-            assert!(rt; reader.left.is_empty(), "{words:?}");
-        }
+    for (words, input, wanted) in &ROWS {
+        check_answer(&rt, words, input, 1, wanted);
+        check_answer(&rt, words, input, 1000, wanted);
     }
     Ok(())
+}
+
+/// Runs a command on the input: it makes so many writes of its answers.
+fn check_writes(
+    rt: &(impl Abort + AllocGlobal),
+    word: &str,
+    input: &str,
+    calls: usize,
+    wanted: &str,
+) {
+    let words = [word, "(?<k>.)"];
+    let reader = FakeReader::new(input.as_bytes());
+    let writer = FakeWriter::new(rt.alloc());
+    let outcome = outcome_of(rt, &words, reader, writer, wanted);
+    check_outcome(
+        rt,
+        &words,
+        outcome,
+        Outcome {
+            ending: Ending::Well,
+            taken: wanted.len(),
+            writes: calls,
+            ..outcome
+        },
+    );
 }
 
 #[test]
 fn one_write_for_each_answer(rt: HostRuntime) -> Result<(), Fail> {
-    for (word, input, calls) in [("match", "a\nb\n\nc", 4usize), ("json", "a\nb\n\nc", 4)] {
-        let mut reader = FakeReader::new(input.as_bytes());
-        let mut writer = FakeWriter::new(rt.alloc());
-        assert!(rt; run(rt.alloc(), &[word, "(?<k>.)"], &mut reader, &mut writer).is_ok());
-        assert_eq!(rt; writer.calls, calls, "{word}");
-    }
+    let pairs = "k=a\n\nk=b\n\nno match\n\nk=c\n\n";
+    check_writes(&rt, "match", "a\nb\n\nc", 4, pairs);
+    let objects = "{\"k\":\"a\"}\n{\"k\":\"b\"}\nnull\n{\"k\":\"c\"}\n";
+    check_writes(&rt, "json", "a\nb\n\nc", 4, objects);
     Ok(())
-}
-
-/// What the fault of a run says, or nothing.
-fn told(alloc: Global, outcome: Result<(), ToolFault>) -> Result<String, AllocError> {
-    match outcome {
-        Ok(()) => Ok(String::new(alloc)),
-        Err(fault) => fault.to_string(alloc),
-    }
 }
 
 /// Words whose pattern is at fault, and what the fault says.
@@ -118,13 +150,7 @@ const FAULTS: [(&[&str], &str); 3] = [
 #[test]
 fn a_fault_comes_before_the_first_read(rt: HostRuntime) -> Result<(), Fail> {
     for (words, wanted) in FAULTS {
-        let mut reader = FakeReader::new(b"abc");
-        let mut writer = FakeWriter::new(rt.alloc());
-        let result = run(rt.alloc(), words, &mut reader, &mut writer);
-        let shown = told(rt.alloc(), result)?;
-        assert_eq!(rt; shown.as_str(), wanted);
-        assert_eq!(rt; reader.calls, 0, "{wanted}");
-        assert!(rt; writer.taken.is_empty(), "{wanted}");
+        check_pattern_fault(&rt, words, b"abc", wanted)?;
     }
     Ok(())
 }
@@ -139,35 +165,64 @@ const FAILED_READS: [(usize, usize, usize); 5] = [
     (4, 10, 20),
 ];
 
+/// What `match` and `json` write on that input.
+const PAIRS: &str = "k=p\n\nk=q\n\n";
+
+const OBJECTS: &str = "{\"k\":\"p\"}\n{\"k\":\"q\"}\n";
+
+/// Runs a command on a reader whose call `bad` fails: it has written so many bytes by then.
+fn check_failed_read(
+    rt: &(impl Abort + AllocGlobal),
+    word: &str,
+    bad: usize,
+    taken: usize,
+    whole: &str,
+) {
+    let words = [word, "(?<k>.)"];
+    let mut reader = FakeReader::new(b"p\nq");
+    reader.most = 1;
+    reader.bad = Some(bad);
+    let writer = FakeWriter::new(rt.alloc());
+    let outcome = outcome_of(rt, &words, reader, writer, whole);
+    let ending = if bad < 4 { Ending::Read } else { Ending::Well };
+    let wanted = Outcome {
+        ending,
+        taken,
+        ..outcome
+    };
+    check_outcome(rt, &words, outcome, wanted);
+}
+
 #[test]
 fn a_failed_read_after_a_line(rt: HostRuntime) -> Result<(), Fail> {
     for (bad, pairs, objects) in FAILED_READS {
-        for (word, wanted) in [("match", pairs), ("json", objects)] {
-            let mut reader = FakeReader::new(b"p\nq");
-            reader.most = 1;
-            reader.bad = Some(bad);
-            let mut writer = FakeWriter::new(rt.alloc());
-            let result = run(rt.alloc(), &[word, "(?<k>.)"], &mut reader, &mut writer);
-            let has_failed = matches!(result, Err(ToolFault::Read));
-            assert!(rt; has_failed == (bad < 4), "{word} {bad}");
-            assert_eq!(rt; writer.taken.len(), wanted, "{word} {bad}");
-        }
+        check_failed_read(&rt, "match", bad, pairs, PAIRS);
+        check_failed_read(&rt, "json", bad, objects, OBJECTS);
     }
     Ok(())
 }
 
+/// Runs a command on a writer that takes one byte a call and whose call `bad` fails: the bytes before that were written.
+fn check_failed_write(rt: &(impl Abort + AllocGlobal), word: &str, bad: usize, whole: &str) {
+    let words = [word, "(?<k>.)"];
+    let reader = FakeReader::new(b"p\nq\nr\n");
+    let mut writer = FakeWriter::new(rt.alloc());
+    writer.most = 1;
+    writer.bad = Some(bad);
+    let outcome = outcome_of(rt, &words, reader, writer, whole);
+    let wanted = Outcome {
+        ending: Ending::Write,
+        taken: bad,
+        ..outcome
+    };
+    check_outcome(rt, &words, outcome, wanted);
+}
+
 #[test]
 fn a_failed_write_of_an_answer(rt: HostRuntime) -> Result<(), Fail> {
-    for word in ["match", "json"] {
-        for bad in [0usize, 1, 4, 6] {
-            let mut reader = FakeReader::new(b"p\nq\nr\n");
-            let mut writer = FakeWriter::new(rt.alloc());
-            writer.most = 1;
-            writer.bad = Some(bad);
-            let result = run(rt.alloc(), &[word, "(?<k>.)"], &mut reader, &mut writer);
-            assert!(rt; matches!(result, Err(ToolFault::Write)), "{word} {bad}");
-            assert_eq!(rt; writer.taken.len(), bad, "{word} {bad}");
-        }
+    for bad in [0usize, 1, 4, 6] {
+        check_failed_write(&rt, "match", bad, PAIRS);
+        check_failed_write(&rt, "json", bad, OBJECTS);
     }
     Ok(())
 }

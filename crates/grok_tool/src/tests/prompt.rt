@@ -3,8 +3,10 @@ use super::devices::{FakeReader, FakeWriter, SharedWriter};
 use crate::prompt::{Outlet, PromptInput, PromptOutput};
 use std::cell::RefCell;
 use std::io::{BufWriter, Read, Write};
+use std::process::Abort;
 use std::test::Fail;
 
+/// How many bytes the writer has taken.
 fn taken_len(writer: &RefCell<FakeWriter>) -> usize {
     match writer.try_borrow() {
         Ok(writer) => writer.taken.len(),
@@ -18,6 +20,32 @@ fn set_bad(writer: &RefCell<FakeWriter>, bad: Option<usize>) -> Result<(), Fail>
     Ok(())
 }
 
+/// The writer has taken so many bytes.
+fn check_taken(rt: &(impl Abort + AllocGlobal), writer: &RefCell<FakeWriter>, wanted: usize) {
+    assert_eq!(rt; taken_len(writer), wanted);
+}
+
+/// A read gives so many bytes, at most two.
+fn check_read<R: Read>(rt: &(impl Abort + AllocGlobal), input: &mut R, wanted: usize) {
+    let mut piece = [0u8; 2];
+    assert_eq!(rt; input.read(&mut piece).ok(), Some(wanted));
+}
+
+/// The bytes are written, or a fault is answered.
+fn check_write<W: Write>(
+    rt: &(impl Abort + AllocGlobal),
+    output: &mut W,
+    bytes: &[u8],
+    works: bool,
+) {
+    assert_eq!(rt; output.write_all(bytes).is_ok(), works);
+}
+
+/// The output is flushed, or a fault is answered.
+fn check_flush<W: Write>(rt: &(impl Abort + AllocGlobal), output: &mut W, works: bool) {
+    assert_eq!(rt; output.flush().is_ok(), works);
+}
+
 #[test]
 fn a_read_sends_what_is_held(rt: HostRuntime) -> Result<(), Fail> {
     let writer = RefCell::new(FakeWriter::new(rt.alloc()));
@@ -25,19 +53,18 @@ fn a_read_sends_what_is_held(rt: HostRuntime) -> Result<(), Fail> {
     let outlet = RefCell::new(Outlet::new(BufWriter::with_capacity(rt.alloc(), 8, shared)?));
     let mut input = PromptInput::new(FakeReader::new(b"pqr"), &outlet);
     let mut output = PromptOutput::new(&outlet);
-    let mut piece = [0u8; 2];
-    output.write_all(b"abc")?;
-    assert_eq!(rt; taken_len(&writer), 0);
-    assert_eq!(rt; input.read(&mut piece)?, 2);
-    assert_eq!(rt; taken_len(&writer), 3);
-    output.write_all(b"de")?;
-    assert_eq!(rt; taken_len(&writer), 3);
-    output.flush()?;
-    assert_eq!(rt; taken_len(&writer), 5);
-    output.write_all(b"0123456789")?;
-    assert_eq!(rt; taken_len(&writer), 15);
-    assert_eq!(rt; input.read(&mut piece)?, 1);
-    assert_eq!(rt; input.read(&mut piece)?, 0);
+    check_write(&rt, &mut output, b"abc", true);
+    check_taken(&rt, &writer, 0);
+    check_read(&rt, &mut input, 2);
+    check_taken(&rt, &writer, 3);
+    check_write(&rt, &mut output, b"de", true);
+    check_taken(&rt, &writer, 3);
+    check_flush(&rt, &mut output, true);
+    check_taken(&rt, &writer, 5);
+    check_write(&rt, &mut output, b"0123456789", true);
+    check_taken(&rt, &writer, 15);
+    check_read(&rt, &mut input, 1);
+    check_read(&rt, &mut input, 0);
     Ok(())
 }
 
@@ -48,14 +75,13 @@ fn a_failed_flush_ends_the_input(rt: HostRuntime) -> Result<(), Fail> {
     let outlet = RefCell::new(Outlet::new(BufWriter::with_capacity(rt.alloc(), 8, shared)?));
     let mut input = PromptInput::new(FakeReader::new(b"pqr"), &outlet);
     let mut output = PromptOutput::new(&outlet);
-    let mut piece = [0u8; 2];
-    output.write_all(b"abc")?;
+    check_write(&rt, &mut output, b"abc", true);
     set_bad(&writer, Some(0))?;
-    assert_eq!(rt; input.read(&mut piece)?, 0);
+    check_read(&rt, &mut input, 0);
     set_bad(&writer, None)?;
-    assert_eq!(rt; input.read(&mut piece)?, 0);
-    assert!(rt; output.write_all(b"d").is_err());
-    assert!(rt; output.flush().is_err());
-    assert_eq!(rt; taken_len(&writer), 0);
+    check_read(&rt, &mut input, 0);
+    check_write(&rt, &mut output, b"d", false);
+    check_flush(&rt, &mut output, false);
+    check_taken(&rt, &writer, 0);
     Ok(())
 }

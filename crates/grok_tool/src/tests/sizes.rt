@@ -1,10 +1,11 @@
 //! Runs of `measure` and of `check`.
 use super::THE_TEN;
-use super::devices::FakeWriter;
-use crate::fault::ToolFault;
-use crate::run;
+use super::devices::{FakeReader, FakeWriter};
+use super::outcome::{
+    Ending, Outcome, check_outcome, check_pattern_fault, ending_of, outcome_at, outcome_of,
+};
 use std::alloc::{AllocError, Global};
-use std::io;
+use std::process::Abort;
 use std::test::Fail;
 
 /// The words `D0=a`, and after it for each next number a word that doubles the one before.
@@ -24,13 +25,39 @@ fn with_doublings<'a>(
     doublings: &'a [String],
 ) -> Result<Vec<&'a str>, AllocError> {
     let mut words: Vec<&str> = Vec::new(alloc);
-    for word in first {
-        words.push(*word)?;
-    }
+    words.extend_from_slice(first)?;
     for word in doublings {
         words.push(word.as_str())?;
     }
     Ok(words)
+}
+
+/// Runs words that succeed and read nothing, and gives what they write, in so many writes.
+fn written(rt: &(impl Abort + AllocGlobal), words: &[&str], writes: usize) -> Vec<u8> {
+    let mut reader = FakeReader::new(b"left alone");
+    let mut writer = FakeWriter::new(rt.alloc());
+    let ending = ending_of(rt.alloc(), words, &mut reader, &mut writer);
+    let outcome = outcome_at(ending, &reader, &writer);
+    check_outcome(
+        rt,
+        words,
+        outcome,
+        Outcome {
+            ending: Ending::Well,
+            left: b"left alone",
+            reads: 0,
+            writes,
+            flushes: 1,
+            ..outcome
+        },
+    );
+    writer.taken
+}
+
+/// Runs words that succeed and read nothing: they write this, in so many writes.
+fn check_written(rt: &(impl Abort + AllocGlobal), words: &[&str], writes: usize, wanted: &str) {
+    let taken = written(rt, words, writes);
+    assert_eq!(rt; taken.as_slice(), wanted.as_bytes(), "at {words:?}");
 }
 
 /// The words of a run, and its line.
@@ -73,14 +100,7 @@ const SIZES: [(&[&str], &str); 12] = [
 #[test]
 fn measure_prints_one_line(rt: HostRuntime) -> Result<(), Fail> {
     for (words, want) in SIZES {
-        let mut input: &[u8] = b"left alone";
-        let mut writer = FakeWriter::new(rt.alloc());
-        let result = run(rt.alloc(), words, &mut input, &mut writer);
-        assert!(rt; result.is_ok(), "at {words:?}");
-        assert_eq!(rt; writer.taken.as_slice(), want.as_bytes(), "at {words:?}");
-        assert_eq!(rt; writer.calls, 1);
-        assert_eq!(rt; writer.flushes, 1);
-        assert_eq!(rt; input, b"left alone".as_slice());
+        check_written(&rt, words, 1, want);
     }
     Ok(())
 }
@@ -112,18 +132,20 @@ const FAULTS: [(&[&str], &str); 5] = [
 #[test]
 fn measure_answers_a_fault_before_it_writes(rt: HostRuntime) -> Result<(), Fail> {
     for (words, want) in FAULTS {
-        let mut input: &[u8] = b"left alone";
-        let mut writer = FakeWriter::new(rt.alloc());
-        let result = run(rt.alloc(), words, &mut input, &mut writer);
-        let Err(fault) = result else {
-            return Err(Fail::from(io::Error::from(io::ErrorKind::Other)));
-        };
-        assert!(rt; matches!(&fault, ToolFault::Pattern(_)), "at {words:?}");
-        assert_eq!(rt; fault.to_string(rt.alloc())?.as_str(), want);
-        assert_eq!(rt; writer.calls, 0);
-        assert_eq!(rt; writer.flushes, 0);
-        assert_eq!(rt; input, b"left alone".as_slice());
+        check_pattern_fault(&rt, words, b"left alone", want)?;
     }
+    Ok(())
+}
+
+/// Measures a pattern over the doublings: the line is as wanted.
+fn check_doubled(
+    rt: &(impl Abort + AllocGlobal),
+    doublings: &[String],
+    pattern: &str,
+    want: &str,
+) -> Result<(), AllocError> {
+    let words = with_doublings(rt.alloc(), &["measure", "-a", pattern], doublings)?;
+    check_written(rt, &words, 1, want);
     Ok(())
 }
 
@@ -137,12 +159,7 @@ fn measure_of_a_text_past_the_limit(rt: HostRuntime) -> Result<(), Fail> {
         ),
         ("%{D61}", "too long\n"),
     ] {
-        let words = with_doublings(rt.alloc(), &["measure", "-a", pattern], &doublings)?;
-        let mut input: &[u8] = b"";
-        let mut writer = FakeWriter::new(rt.alloc());
-        assert!(rt; run(rt.alloc(), &words, &mut input, &mut writer).is_ok());
-        assert_eq!(rt; writer.taken.as_slice(), want.as_bytes());
-        assert_eq!(rt; writer.calls, 1);
+        check_doubled(&rt, &doublings, pattern, want)?;
     }
     Ok(())
 }
@@ -168,14 +185,7 @@ const LISTS: [(&[&str], &str); 2] = [
 #[test]
 fn check_lists_the_ten(rt: HostRuntime) -> Result<(), Fail> {
     for (words, want) in LISTS {
-        let mut input: &[u8] = b"left alone";
-        let mut writer = FakeWriter::new(rt.alloc());
-        let result = run(rt.alloc(), words, &mut input, &mut writer);
-        assert!(rt; result.is_ok(), "at {words:?}");
-        assert_eq!(rt; writer.taken.as_slice(), want.as_bytes(), "at {words:?}");
-        assert_eq!(rt; writer.calls, 10);
-        assert_eq!(rt; writer.flushes, 1);
-        assert_eq!(rt; input, b"left alone".as_slice());
+        check_written(&rt, words, 10, want);
     }
     Ok(())
 }
@@ -183,72 +193,73 @@ fn check_lists_the_ten(rt: HostRuntime) -> Result<(), Fail> {
 #[test]
 fn check_names_each_fault(rt: HostRuntime) -> Result<(), Fail> {
     let words = ["check", "B=%{nope}", "A=%{A}", "=x", "a-b=x"];
-    let mut input: &[u8] = b"left alone";
-    let mut writer = FakeWriter::new(rt.alloc());
-    assert!(rt; run(rt.alloc(), &words, &mut input, &mut writer).is_ok());
     let first = ": Something unexpected happened during the compilation phase: \"InvalidPattern\"\n\
         A: Recursion while compiling reached the limit of 1024\n\
         B: The given pattern definition name \"nope\" could not be found in the definition map\n\
         CISCOMAC: length 50 groups 1 nesting 1\n";
     let last = "YEAR: length 20 groups 1 nesting 1\n\
         a-b: Something unexpected happened during the compilation phase: \"InvalidCharacter('-')\"\n";
-    assert!(rt; writer.taken.starts_with(first.as_bytes()));
-    assert!(rt; writer.taken.ends_with(last.as_bytes()));
-    assert_eq!(rt; writer.calls, 14);
-    assert_eq!(rt; writer.flushes, 1);
-    assert_eq!(rt; input, b"left alone".as_slice());
+    let list = written(&rt, &words, 14);
+    assert!(rt; list.starts_with(first.as_bytes()));
+    assert!(rt; list.ends_with(last.as_bytes()));
     Ok(())
 }
 
 #[test]
 fn check_names_a_definition_once(rt: HostRuntime) -> Result<(), Fail> {
     let words = ["check", "A=a", "DAY=x", "A=bcd"];
-    let mut input: &[u8] = b"";
-    let mut writer = FakeWriter::new(rt.alloc());
-    assert!(rt; run(rt.alloc(), &words, &mut input, &mut writer).is_ok());
     let first = "A: length 12 groups 1 nesting 1\n\
         CISCOMAC: length 50 groups 1 nesting 1\n\
         COMMONMAC: length 49 groups 1 nesting 1\n\
         DAY: length 10 groups 1 nesting 1\n\
         MAC: length 163 groups 4 nesting 2\n";
-    assert!(rt; writer.taken.starts_with(first.as_bytes()));
-    assert_eq!(rt; writer.calls, 11);
+    let list = written(&rt, &words, 11);
+    assert!(rt; list.starts_with(first.as_bytes()));
     Ok(())
 }
+
+/// Lines among those of a list that has the doublings up to `D70`.
+const LONG_TEXTS: [&str; 3] = [
+    "\nD0: length 5 groups 0 nesting 1\nD1: length 14 groups 0 nesting 2\nD10: ",
+    "\nD60: length 10376293541461622780 groups 0 nesting 61\nD61: too long\nD62: too long\n",
+    "\nD70: too long\nD8: ",
+];
 
 #[test]
 fn check_of_long_texts_ends_at_once(rt: HostRuntime) -> Result<(), Fail> {
     let doublings = doublings(rt.alloc(), 70)?;
     let words = with_doublings(rt.alloc(), &["check", "-a"], &doublings)?;
-    let mut input: &[u8] = b"";
-    let mut writer = FakeWriter::new(rt.alloc());
-    assert!(rt; run(rt.alloc(), &words, &mut input, &mut writer).is_ok());
-    assert_eq!(rt; writer.calls, 81);
-    let text = str::from_utf8(&writer.taken).unwrap_or("");
-    for line in [
-        "\nD0: length 5 groups 0 nesting 1\nD1: length 14 groups 0 nesting 2\nD10: ",
-        "\nD60: length 10376293541461622780 groups 0 nesting 61\nD61: too long\nD62: too long\n",
-        "\nD70: too long\nD8: ",
-    ] {
+    let list = written(&rt, &words, 81);
+    let text = str::from_utf8(&list).unwrap_or("");
+    for line in LONG_TEXTS {
         assert!(rt; text.contains(line), "at {line}");
     }
     Ok(())
 }
 
+/// Runs the words on a writer whose call `bad` fails: they answer that, and neither write nor flush any more.
+fn check_failed_write(rt: &(impl Abort + AllocGlobal), words: &[&str], bad: usize, whole: &str) {
+    let mut writer = FakeWriter::new(rt.alloc());
+    writer.bad = Some(bad);
+    let outcome = outcome_of(rt, words, FakeReader::new(b""), writer, whole);
+    check_outcome(
+        rt,
+        words,
+        outcome,
+        Outcome {
+            ending: Ending::Write,
+            writes: bad.saturating_add(1),
+            flushes: 0,
+            ..outcome
+        },
+    );
+}
+
 #[test]
 fn a_failed_write_of_a_size(rt: HostRuntime) -> Result<(), Fail> {
-    let mut input: &[u8] = b"";
-    let mut writer = FakeWriter::new(rt.alloc());
-    writer.bad = Some(0);
-    let result = run(rt.alloc(), &["measure", "a"], &mut input, &mut writer);
-    assert!(rt; matches!(result, Err(ToolFault::Write)));
+    check_failed_write(&rt, &["measure", "a"], 0, "");
     for bad in 0..10 {
-        let mut writer = FakeWriter::new(rt.alloc());
-        writer.bad = Some(bad);
-        let result = run(rt.alloc(), &["check"], &mut input, &mut writer);
-        assert!(rt; matches!(result, Err(ToolFault::Write)), "at {bad}");
-        assert_eq!(rt; writer.calls, bad.saturating_add(1));
-        assert_eq!(rt; writer.flushes, 0);
+        check_failed_write(&rt, &["check"], bad, THE_TEN);
     }
     Ok(())
 }

@@ -1,6 +1,6 @@
 use Rattle.std.proofs.Common.{None, string_bytes, option_map, rules}
 use Rattle.std.proofs.lemmas.List.{map-append}
-use Rattle.grok.specs.Captures.{name_texts}
+use Rattle.grok_match.specs.Captures.{name_texts}
 use Rattle.grok_engines.proofs.WholeLines.{first_stays}
 use Rattle.grok_engines.proofs.heads.read_heads.Goals as goal
 

@@ -1,7 +1,7 @@
 use Rattle.std.proofs.Common.{◌≡◌, Some, None, slice_get}
 use denote.Text.{Utf8}
 use denote.Shadow.{shadow}
-use Rattle.grok.specs.Captures.{name_texts}
+use Rattle.grok_match.specs.Captures.{name_texts}
 use Rattle.grok_engines.proofs.heads.read_heads.Given as goal
 
 -- the first name stays

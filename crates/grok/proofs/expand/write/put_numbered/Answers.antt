@@ -1,8 +1,8 @@
 use Rattle.std.proofs.Common.{◌≡◌, ◌++◌, length, ◌∙◌, ap, sym, arith, append_assoc, length-append}
 use Rattle.std.specs.Prelude.{codes}
 use Rattle.std.specs.String.{string_bytes}
-use Rattle.grok.specs.Keys.{numeral}
-use Rattle.grok.proofs.Numerals.{numeral_is_decimal}
+use Rattle.grok_match.specs.Numeral.{numeral}
+use Rattle.grok_match.proofs.Numerals.{numeral_is_decimal}
 use Rattle.grok.proofs.expand.write.put_numbered.Goals as goal
 
 pub put-requires-2 : goal.put-requires-2

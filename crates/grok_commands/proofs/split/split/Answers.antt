@@ -1,0 +1,17 @@
+use Rattle.std.proofs.Common.{string_bytes}
+use Rattle.std.specs.Io.KnownBytes.{Appends}
+use Rattle.grok_parser.specs.Pieces.{pieces}
+use Rattle.grok_parser.specs.Views.{piece_view}
+use Rattle.grok_commands.specs.Split.{IsPieceLine}
+use Rattle.grok_commands.proofs.Answering.{answered_step}
+use Rattle.grok_commands.proofs.split.split.Goals as goal
+
+pub pieces-preserved : goal.pieces-preserved
+pieces-preserved g c =
+    let sent : Appends (g.W.Write.contents c.pieces.output) (g.W.Write.contents c.send.new.output) (string_bytes c.write_line.new.text) = rw c.as_bytes.ensures.value at c.in_ok-send.ensures.ok in
+    record {
+      can_next = tt;
+      is_finite = tt;
+      answered = answered_step IsPieceLine (pieces c.args.pattern.now) c.pieces.piece-iterator c.next.new.self (piece_view c.in-Some.piece) _ _ _ (string_bytes c.write_line.new.text)
+          c.pieces.invariant.answered c.in-Some.ensures.steps c.in_ok-write_line.ensures sent;
+    }

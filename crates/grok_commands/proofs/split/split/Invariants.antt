@@ -1,0 +1,11 @@
+use Rattle.grok_parser.specs.Pieces.{pieces}
+use Rattle.grok_commands.specs.Split.{IsPieceLine}
+use Rattle.grok_commands.specs.Progress.{Answered}
+use Rattle.grok_commands.proofs.split.split.Given as goal
+
+abbrev pub invariant-pieces : goal.invariant-pieces
+invariant-pieces g l = record {
+  can_next : (goal.iterator-pieces g).can_next l.piece-iterator;
+  is_finite : (goal.iterator-pieces g).is_finite l.piece-iterator;
+  answered : Answered IsPieceLine (pieces l.fn.pattern) l.piece-iterator (g.W.Write.contents l.fn.output) (g.W.Write.contents l.output);
+}

@@ -1,0 +1,36 @@
+-- What is printed of a measured pattern.
+use Rattle.std.specs.Prelude.{◌≡◌, ℕ, Bool, List, [], ◌∷◌, ◌++◌, Option, Some, None, codes, decimal}
+use Rattle.grok_match.specs.Maps.{Texts}
+use Rattle.grok.specs.Measured.{Measured, Faulty, Sized, PastLimit, tree_of, measured_tree}
+use Rattle.grok.specs.Errors.{ErrorValue, error_text}
+use Rattle.grok.specs.Compiled.{IsFaultError}
+
+abbrev pub size_text : ℕ → ℕ → ℕ → List ℕ
+size_text length groups nesting = codes "length " ++ decimal length ++ codes " groups " ++ decimal groups ++ codes " nesting " ++ decimal nesting
+
+-- what is printed where no fault was found
+abbrev pub text_of_size : Measured → Option (List ℕ)
+text_of_size (Faulty fault) = None
+text_of_size (Sized length groups nesting) = Some (size_text length groups nesting)
+text_of_size PastLimit = Some (codes "too long")
+
+-- the answer of a pattern, where these texts are defined
+abbrev pub measured_in : Texts → Bool → List ℕ → Measured
+measured_in texts alias_only pattern = measured_tree alias_only (tree_of texts pattern)
+
+-- ---- check
+
+-- The size, or the text of the error of the fault: that of a malformed piece is known as far as the words of its fault are.
+abbrev pub IsMeasuredText : Measured → List ℕ → Type 0
+IsMeasuredText (Faulty fault) text = (error : ErrorValue) × IsFaultError fault error × (text ≡ error_text error)
+IsMeasuredText (Sized length groups nesting) text = text ≡ size_text length groups nesting
+IsMeasuredText PastLimit text = text ≡ codes "too long"
+
+-- `%{NAME}`
+abbrev pub placeholder_of : List ℕ → List ℕ
+placeholder_of name = codes "%{" ++ name ++ codes "}"
+
+-- the name of a definition, `: `, what measuring its placeholder answers, and a line feed
+abbrev pub IsCheckLine : Texts → Bool → List ℕ → List ℕ → Type 0
+IsCheckLine texts alias_only name line =
+    (text : List ℕ) × IsMeasuredText (measured_in texts alias_only (placeholder_of name)) text × (line ≡ name ++ codes ": " ++ text ++ codes "\n")

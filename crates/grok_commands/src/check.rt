@@ -1,0 +1,70 @@
+//! The answers of `check`.
+ghost use Rattle.std.specs.Prelude.{◌≡◌, ◌⊎◌, OnOk, IfOk, IfErr, IsErrOf, string_bytes};
+ghost use Rattle.std.specs.FinMap as finite;
+ghost use Rattle.grok_commands.specs.Answers.{HasAnswered, HasBegun};
+ghost use Rattle.grok_commands.specs.Library.{library_of};
+ghost use Rattle.grok_commands.specs.SizeTexts.{measured_in, placeholder_of, IsMeasuredText, IsCheckLine};
+
+use crate::definitions::Definitions;
+use crate::fault::ToolFault;
+use crate::measure::write_measure;
+use crate::output::{end, send};
+use grok::{Grok, Measure};
+use std::alloc::{AllocError, Global};
+use std::io::Write;
+
+/// The measure of the placeholder of a name, as a text.
+fn measured_text(
+    alloc: Global,
+    grok: &Grok,
+    name: &str,
+    alias_only: bool,
+) -> Result<String, AllocError>
+    ensures { IfOk result (λ text. IsMeasuredText (measured_in grok.now alias_only (placeholder_of name.now)) (string_bytes text)) }
+{
+    let pattern = format!(in alloc; "%{{{name}}}")?;
+    let measure = grok.measure(pattern.as_str(), alias_only)?;
+    let mut text = String::new(alloc);
+    match write_measure(&mut text, measure)? {
+        None => Ok(text),
+        Some(fault) => fault.to_error(alloc)?.to_string(alloc),
+    }
+}
+
+/// Puts the line of a definition into `line`, in place of what it holds.
+fn write_line(
+    alloc: Global,
+    line: &mut String,
+    grok: &Grok,
+    name: &str,
+    alias_only: bool,
+) -> Result<(), AllocError>
+    ensures { OnOk result (IsCheckLine grok.now alias_only name.now (string_bytes line.new)) }
+{
+    let text = measured_text(alloc, grok, name, alias_only)?;
+    line.clear();
+    write!(line, "{name}: {text}\n")
+}
+
+/// Sends the measure of each definition, in byte order of the names, each with a line feed by one `write_all`.
+pub fn check<W: Write>(
+    alloc: Global,
+    alias_only: bool,
+    definitions: &Definitions<'_>,
+    output: &mut W,
+) -> Result<(), ToolFault>
+    ensures ok { OnOk result (HasAnswered (IsCheckLine (library_of definitions.now) alias_only) (finite.keys (library_of definitions.now))
+        (W.contents output.old) (W.contents output.new)) }
+    ensures memory { IsErrOf result ToolFault.Memory → HasBegun (IsCheckLine (library_of definitions.now) alias_only) (finite.keys (library_of definitions.now))
+        (W.contents output.old) (W.contents output.new) }
+    ensures kind { IfErr result (λ fault. (fault ≡ ToolFault.Memory) ⊎ (fault ≡ ToolFault.Write)) }
+{
+    let grok = definitions.library(alloc)?;
+    let names = definitions.names(alloc)?;
+    let mut line = String::new(alloc);
+    'names: for name in &names {
+        write_line(alloc, &mut line, &grok, name, alias_only)?;
+        send(output, line.as_bytes())?;
+    }
+    end(output)
+}

@@ -1,0 +1,337 @@
+//! An expansion that writes every text out, by recursion over the pieces alone. It is slow and plain, and what the library answers is compared with it.
+
+use grok::parser::{GrokComponent, grok_split};
+use grok::{Fault, Looks, Measure};
+use std::alloc::{AllocError, Global};
+use std::collections::{BTreeMap, BTreeSet};
+
+/// How many placeholders may stand in one another.
+const LEVELS: usize = 1023;
+
+/// How many pieces an expansion may have here.
+const MOST_PIECES: usize = 100_000;
+
+/// Names with their texts, each name once.
+#[derive(Debug, Drop)]
+pub struct Texts {
+    pairs: Vec<(&'static str, String)>,
+}
+
+/// How an expansion ends.
+#[derive(Drop)]
+pub enum Ending<'a> {
+    Over,
+    Fault(Fault<'a>),
+    /// It has more pieces than this expansion takes.
+    GivenUp,
+}
+
+/// What comes of one piece of a text.
+#[derive(Drop)]
+enum Step<'a> {
+    Written,
+    Fault(Fault<'a>),
+    /// The front of a placeholder is written, and what it stands for is to be opened.
+    Open {
+        name: &'a str,
+        meaning: &'a str,
+        /// The meaning is the name's stored text.
+        is_stored: bool,
+    },
+}
+
+/// What was written and given out so far.
+#[derive(Drop)]
+pub struct Expansion<'a> {
+    alloc: Global,
+    with_alias_only: bool,
+    text: String,
+    nesting: usize,
+    /// How many recorded placeholders have each wanted key.
+    wanted: BTreeMap<&'a str, usize>,
+    /// The keys of the recorded placeholders, in order.
+    keys: Vec<String>,
+    given: BTreeSet<String>,
+    /// The first key that was to be given twice.
+    clash: Option<String>,
+    extracts: BTreeMap<String, &'a str>,
+    /// The names whose stored text was opened.
+    reached: BTreeSet<&'a str>,
+    pieces: usize,
+}
+
+impl Texts {
+    pub fn new(alloc: Global) -> Texts {
+        Texts {
+            pairs: Vec::new(alloc),
+        }
+    }
+
+    /// Adds a name that isn't there yet.
+    pub fn add(&mut self, name: &'static str, text: String) -> Result<(), AllocError> {
+        self.pairs.push((name, text))?;
+        Ok(())
+    }
+
+    pub fn pairs(&self) -> &[(&'static str, String)] {
+        self.pairs.as_slice()
+    }
+
+    fn get(&self, name: &str) -> Option<&str> {
+        for (other, text) in self.pairs.iter() {
+            if *other == name {
+                return Some(text.as_str());
+            }
+        }
+        None
+    }
+}
+
+/// The last text of the name.
+fn last_of<'a>(pairs: &[(&'a str, &'a str)], name: &str) -> Option<&'a str> {
+    let mut found = None;
+    for (other, text) in pairs {
+        if *other == name {
+            found = Some(*text);
+        }
+    }
+    found
+}
+
+/// How many pieces a text has.
+fn count_pieces(text: &str) -> u64 {
+    let mut pieces = 0u64;
+    for _piece in grok_split(text) {
+        pieces = pieces.saturating_add(1);
+    }
+    pieces
+}
+
+impl<'a> Expansion<'a> {
+    fn new(alloc: Global, with_alias_only: bool) -> Expansion<'a> {
+        Expansion {
+            alloc,
+            with_alias_only,
+            text: String::new(alloc),
+            nesting: 0,
+            wanted: BTreeMap::new(alloc),
+            keys: Vec::new(alloc),
+            given: BTreeSet::new(alloc),
+            clash: None,
+            extracts: BTreeMap::new(alloc),
+            reached: BTreeSet::new(alloc),
+            pieces: 0,
+        }
+    }
+
+    pub fn with_alias_only(&self) -> bool {
+        self.with_alias_only
+    }
+
+    pub fn text(&self) -> &str {
+        self.text.as_str()
+    }
+
+    /// The keys of the recorded placeholders, in order.
+    pub fn keys(&self) -> &[String] {
+        self.keys.as_slice()
+    }
+
+    /// The first key that was to be given twice.
+    pub fn clash(&self) -> Option<&str> {
+        match &self.clash {
+            Some(key) => Some(key.as_str()),
+            None => None,
+        }
+    }
+
+    pub fn extract(&self, key: &str) -> Option<&'a str> {
+        self.extracts.get(key).copied()
+    }
+
+    /// The key of one more placeholder with this wanted key.
+    fn next_key(&mut self, wanted: &'a str) -> Result<String, AllocError> {
+        let before = self.wanted.get(&wanted).copied().unwrap_or(0);
+        self.wanted.insert(wanted, before.saturating_add(1))?;
+        if before == 0 {
+            String::from_str(self.alloc, wanted)
+        } else {
+            format!(in self.alloc; "{wanted}[{before}]")
+        }
+    }
+
+    /// Keeps the key as the clash, if it is the first that was given before.
+    fn note_clash(&mut self, key: &str) -> Result<(), AllocError> {
+        if self.clash.is_none() && self.given.contains(key) {
+            self.clash = Some(String::from_str(self.alloc, key)?);
+        }
+        Ok(())
+    }
+
+    /// Keeps the extract of a key, if it has one.
+    fn note_extract(&mut self, key: &str, extract: &'a str) -> Result<(), AllocError> {
+        if !extract.is_empty() {
+            let key = String::from_str(self.alloc, key)?;
+            self.extracts.insert(key, extract)?;
+        }
+        Ok(())
+    }
+
+    /// Keeps the key among those that were given.
+    fn note_key(&mut self, key: String) -> Result<(), AllocError> {
+        self.given.insert(key.clone()?)?;
+        self.keys.push(key)?;
+        Ok(())
+    }
+
+    /// Gives a recorded placeholder its number and its key.
+    fn record(&mut self, wanted: &'a str, extract: &'a str) -> Result<(), AllocError> {
+        let number = self.keys.len();
+        let key = self.next_key(wanted)?;
+        self.note_clash(key.as_str())?;
+        self.note_extract(key.as_str(), extract)?;
+        self.note_key(key)?;
+        write!(&mut self.text, "(?<_n_{number}>")
+    }
+
+    /// Writes the front of a placeholder's group.
+    fn begin(&mut self, name: &'a str, alias: &'a str, extract: &'a str) -> Result<(), AllocError> {
+        if !alias.is_empty() {
+            self.record(alias, extract)
+        } else if self.with_alias_only {
+            self.text.push_str("(?:")
+        } else {
+            self.record(name, extract)
+        }
+    }
+
+    /// Writes the front of a placeholder, and says what it stands for.
+    fn place(
+        &mut self,
+        texts: &'a Texts,
+        own: &[(&'a str, &'a str)],
+        name: &'a str,
+        alias: &'a str,
+        extract: &'a str,
+    ) -> Result<Step<'a>, AllocError> {
+        let inline = last_of(own, name);
+        let Some(meaning) = inline.or(texts.get(name)) else {
+            return Ok(Step::Fault(Fault::Missing(name)));
+        };
+        self.begin(name, alias, extract)?;
+        Ok(Step::Open {
+            name,
+            meaning,
+            is_stored: inline.is_none(),
+        })
+    }
+
+    /// Writes what stands for itself and the front of a placeholder, whose definition is one of the text's own.
+    fn step(
+        &mut self,
+        texts: &'a Texts,
+        own: &mut Vec<(&'a str, &'a str)>,
+        piece: GrokComponent<'a>,
+    ) -> Result<Step<'a>, AllocError> {
+        match piece {
+            GrokComponent::RegularExpression { string, .. } => {
+                self.text.push_str(string)?;
+                Ok(Step::Written)
+            }
+            GrokComponent::PatternError(fault) => Ok(Step::Fault(Fault::Malformed(fault))),
+            GrokComponent::GrokPattern {
+                name,
+                alias,
+                extract,
+                definition,
+                ..
+            } => {
+                if !definition.is_empty() {
+                    own.push((name, definition))?;
+                }
+                self.place(texts, own.as_slice(), name, alias, extract)
+            }
+        }
+    }
+
+    /// Keeps that a name was opened, where so many more levels were left.
+    fn enter(&mut self, name: &'a str, is_stored: bool, levels: usize) -> Result<(), AllocError> {
+        self.nesting = self.nesting.max((LEVELS + 1).saturating_sub(levels));
+        if is_stored {
+            self.reached.insert(name)?;
+        }
+        Ok(())
+    }
+
+    /// Expands a text, where so many more levels may be opened.
+    fn expand(
+        &mut self,
+        texts: &'a Texts,
+        text: &'a str,
+        levels: usize,
+    ) -> Result<Ending<'a>, AllocError> {
+        let mut own: Vec<(&'a str, &'a str)> = Vec::new(self.alloc);
+        'pieces: for piece in grok_split(text) {
+            self.pieces = self.pieces.saturating_add(1);
+            if self.pieces > MOST_PIECES {
+                return Ok(Ending::GivenUp);
+            }
+            match self.step(texts, &mut own, piece)? {
+                Step::Written => {}
+                Step::Fault(fault) => return Ok(Ending::Fault(fault)),
+                Step::Open {
+                    name,
+                    meaning,
+                    is_stored,
+                } => {
+                    if levels == 0 {
+                        return Ok(Ending::Fault(Fault::TooDeep));
+                    }
+                    self.enter(name, is_stored, levels)?;
+                    match self.expand(texts, meaning, levels - 1)? {
+                        Ending::Over => self.text.push_str(")")?,
+                        ending => return Ok(ending),
+                    }
+                }
+            }
+        }
+        Ok(Ending::Over)
+    }
+
+    /// Expands a pattern.
+    pub fn of(
+        alloc: Global,
+        texts: &'a Texts,
+        pattern: &'a str,
+        with_alias_only: bool,
+    ) -> Result<(Expansion<'a>, Ending<'a>), AllocError> {
+        let mut expansion: Expansion<'a> = Expansion::new(alloc, with_alias_only);
+        let ending = expansion.expand(texts, pattern, LEVELS)?;
+        Ok((expansion, ending))
+    }
+
+    /// How many pieces and how many ends the pattern and the stored texts have that were opened.
+    pub fn looks(&self, texts: &Texts, pattern: &str) -> Looks {
+        let mut pieces = count_pieces(pattern);
+        let mut ends = 1u64;
+        for name in self.reached.iter() {
+            let text = texts.get(name).unwrap_or("");
+            pieces = pieces.saturating_add(count_pieces(text));
+            ends = ends.saturating_add(1);
+        }
+        Looks { pieces, ends }
+    }
+
+    /// The measure of an expansion that came to an end.
+    pub fn measure(&self, ending: &Ending<'a>) -> Option<Measure<'a>> {
+        match ending {
+            Ending::Over => Some(Measure::Size {
+                length: self.text.len(),
+                groups: self.keys.len(),
+                nesting: self.nesting,
+            }),
+            Ending::Fault(fault) => Some(Measure::Fault(*fault)),
+            Ending::GivenUp => None,
+        }
+    }
+}

@@ -1,0 +1,10 @@
+pub mod Numeral
+pub mod Maps
+pub mod Captures
+pub mod RegexFinds
+pub mod Engines
+pub mod EngineLaws
+pub mod KeyTable
+pub mod KeyPlaces
+pub mod Answers
+pub mod AnswerLaws

@@ -1,0 +1,12 @@
+pub mod Runs
+pub mod Words
+pub mod Open
+pub mod Rests
+pub mod Next
+pub mod Examples
+pub mod Regular
+pub mod Written
+pub mod Found
+pub mod Faults
+pub mod Adequate
+pub mod PieceLaws

@@ -1,0 +1,90 @@
+use grok::{Grok, patterns};
+use std::alloc::{AllocError, Global};
+
+/// Adds the default definition of the name, or all ten for `*`.
+fn add_default(grok: &mut Grok, word: &str) -> Result<(), AllocError> {
+    for (name, text) in patterns() {
+        if word == "*" || *name == word {
+            grok.add_pattern(name, text)?;
+        }
+    }
+    Ok(())
+}
+
+/// Adds what the word says: `NAME=TEXT`, or one of the ten default definitions by its name, or all by `*`.
+fn add_word(grok: &mut Grok, word: &str) -> Result<(), AllocError> {
+    match word.split_once("=") {
+        Some((name, text)) => grok.add_pattern(name, text),
+        None => add_default(grok, word),
+    }
+}
+
+/// The library of these words, which spaces separate: a word `NAME=TEXT` is added, and a word without a `=` names one of the ten default definitions, or all by `*`.
+pub fn library(alloc: Global, words: &str) -> Result<Grok, AllocError> {
+    let mut grok = Grok::empty(alloc);
+    for word in words.split(' ') {
+        add_word(&mut grok, word)?;
+    }
+    Ok(grok)
+}
+
+/// Adds the link of this letter and number, which stands for the text.
+fn add_link(
+    alloc: Global,
+    grok: &mut Grok,
+    letter: &str,
+    number: u32,
+    text: &str,
+) -> Result<(), AllocError> {
+    let name = format!(in alloc; "{letter}{number}")?;
+    grok.add_pattern(name.as_str(), text)
+}
+
+/// Adds the link of this letter and number, which stands for the next one.
+fn add_inner_link(
+    alloc: Global,
+    grok: &mut Grok,
+    letter: &str,
+    number: u32,
+) -> Result<(), AllocError> {
+    let next = number.saturating_add(1);
+    let text = format!(in alloc; "%{{{letter}{next}}}")?;
+    add_link(alloc, grok, letter, number, text.as_str())
+}
+
+/// Adds so many links, each named by the letter and its number from 1 on: each stands for the next one, and the one numbered `count` for `last`.
+pub fn add_chain(
+    alloc: Global,
+    grok: &mut Grok,
+    letter: &str,
+    count: u32,
+    last: &str,
+) -> Result<(), AllocError> {
+    for number in 1..count {
+        add_inner_link(alloc, grok, letter, number)?;
+    }
+    add_link(alloc, grok, letter, count, last)
+}
+
+/// The library of one chain of so many links.
+pub fn chain(alloc: Global, letter: &str, count: u32, last: &str) -> Result<Grok, AllocError> {
+    let mut grok = Grok::empty(alloc);
+    add_chain(alloc, &mut grok, letter, count, last)?;
+    Ok(grok)
+}
+
+/// Adds the doubling above the one of this number.
+fn add_doubling(alloc: Global, grok: &mut Grok, below: u32) -> Result<(), AllocError> {
+    let text = format!(in alloc; "%{{D{below}}}%{{D{below}}}")?;
+    add_link(alloc, grok, "D", below.saturating_add(1), text.as_str())
+}
+
+/// The library of the words, with D0, which stands for `a`, and D1 to D70, each of which stands for two of the one before.
+pub fn doublings(alloc: Global, words: &str) -> Result<Grok, AllocError> {
+    let mut grok = library(alloc, words)?;
+    grok.add_pattern("D0", "a")?;
+    for below in 0..70u32 {
+        add_doubling(alloc, &mut grok, below)?;
+    }
+    Ok(grok)
+}
