@@ -1,14 +1,3 @@
-pub mod Commands
-pub mod Views
-pub mod Answers
 pub mod Split
-pub mod Faults
-pub mod JsonObjects
-pub mod LineTexts
-pub mod Library
 pub mod SizeTexts
 pub mod Runs
-pub mod Lines
-pub mod Traffic
-pub mod Streams
-pub mod Progress

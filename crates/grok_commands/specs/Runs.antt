@@ -11,14 +11,14 @@ use Rattle.grok_match.specs.Answers.{PatternValue}
 use Rattle.grok.specs.Errors.{ErrorValue, Memory}
 use Rattle.grok.specs.Measured.{Measured, Faulty, Sized, PastLimit, tree_of}
 use Rattle.grok.specs.Compiled.{IsFaultError, IsCompileError, IsPatternOf}
-use Rattle.grok_commands.specs.Commands.{RequestValue, CommandValue, Split, Measure, Match, Json, Check}
-use Rattle.grok_commands.specs.Answers.{HasAnswered, HasBegun}
-use Rattle.grok_commands.specs.Library.{library_of}
-use Rattle.grok_commands.specs.LineTexts.{Finds, match_answer, json_answer}
+use Rattle.grok_words.specs.Commands.{RequestValue, CommandValue, Split, Measure, Match, Json, Check}
+use Rattle.grok_lines.specs.Answers.{HasAnswered, HasBegun}
+use Rattle.grok_words.specs.Library.{library_of}
+use Rattle.grok_lines.specs.LineTexts.{Finds, match_answer, json_answer}
 use Rattle.grok_commands.specs.SizeTexts.{text_of_size, measured_in, IsCheckLine}
 use Rattle.grok_commands.specs.Split.{IsPieceLine}
-use Rattle.grok_commands.specs.Streams.{HasAnsweredInput, HasAnsweredEnded, HasAnsweredSome}
-use Rattle.grok_commands.specs.Traffic.{Traffic}
+use Rattle.grok_lines.specs.Streams.{HasAnsweredInput, HasAnsweredEnded, HasAnsweredSome}
+use Rattle.grok_lines.specs.Traffic.{Traffic}
 
 -- nothing was read, or nothing written
 abbrev pub IsUnread : Traffic → Type 0

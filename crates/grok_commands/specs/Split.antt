@@ -3,7 +3,7 @@ use Rattle.std.specs.Prelude.{◌≡◌, ℕ, List, ◌++◌, Option, Some, code
 use Rattle.std.specs.Fmt.{◌++?◌}
 use Rattle.grok_parser.specs.Pieces.{Piece, Regular, Placeholder, Malformed}
 use Rattle.grok_parser.specs.Texts.{fault_words}
-use Rattle.grok_commands.specs.Answers.{Prints}
+use Rattle.grok_lines.specs.Answers.{Prints}
 
 -- A piece's own bytes, or `<error F>` of a fault F. They are left open where the fault's words are, since it has a character that isn't ASCII.
 abbrev pub piece_text : Piece → Option (List ℕ)

@@ -1,15 +1,14 @@
 //! The answers of `check`.
 ghost use Rattle.std.specs.Prelude.{◌≡◌, ◌⊎◌, OnOk, IfOk, IfErr, IsErrOf, string_bytes};
 ghost use Rattle.std.specs.FinMap as finite;
-ghost use Rattle.grok_commands.specs.Answers.{HasAnswered, HasBegun};
-ghost use Rattle.grok_commands.specs.Library.{library_of};
+ghost use Rattle.grok_lines.specs.Answers.{HasAnswered, HasBegun};
+ghost use Rattle.grok_words.specs.Library.{library_of};
 ghost use Rattle.grok_commands.specs.SizeTexts.{measured_in, placeholder_of, IsMeasuredText, IsCheckLine};
 
-use crate::definitions::Definitions;
-use crate::fault::ToolFault;
 use crate::measure::write_measure;
-use crate::output::{end, send};
 use grok::{Grok, Measure};
+use grok_lines::{ToolFault, end, send};
+use grok_words::Definitions;
 use std::alloc::{AllocError, Global};
 use std::io::Write;
 

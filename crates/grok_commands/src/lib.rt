@@ -3,26 +3,19 @@
 
 ghost use Rattle.std.specs.Prelude.{◌≡◌, ◌↔◌, None, OnOk, IfSome, IsErrOf};
 ghost use Rattle.std.specs.Io.KnownBytes.{Keeps};
-ghost use Rattle.grok_commands.specs.Commands.{texts, command_of};
+ghost use Rattle.grok_words.specs.Commands.{texts, command_of};
 ghost use Rattle.grok_commands.specs.Runs.{IsDone, IsPatternFault, IsCutShort, IsReadFault, IsWriteFault};
 ghost use Rattle.grok.specs.Errors.{error_value};
 ghost use Rattle.grok.specs.declared.errors.Error.{Error};
-ghost use Rattle.grok_commands.specs.Traffic.{traffic};
+ghost use Rattle.grok_lines.specs.Traffic.{traffic};
 
 mod check;
-mod command;
-mod definitions;
-mod fault;
-mod json_object;
-mod line_answers;
 mod matching;
 mod measure;
-mod output;
 mod split;
-mod stream;
 
-use command::Command;
-pub use fault::ToolFault;
+pub use grok_lines::ToolFault;
+use grok_words::{Command, read_command};
 use std::alloc::Global;
 use std::io::{Read, Write};
 
@@ -60,7 +53,7 @@ pub fn run<R: Read, W: Write>(
     ensures write { IsErrOf result ToolFault.Write → IfSome (command_of (texts words.now)) (λ command. IsWriteFault command (traffic
         (R.remaining input.old) (R.remaining input.new) (W.contents output.old) (W.contents output.new))) }
 {
-    let Some(command) = command::read_command(words) else {
+    let Some(command) = read_command(words) else {
         return Err(ToolFault::Usage);
     };
     match command {

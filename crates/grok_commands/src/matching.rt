@@ -1,20 +1,29 @@
 //! The runs of `match` and of `json`.
 ghost use Rattle.std.specs.Prelude.{◌≡◌, ◌≢◌, ◌⊎◌, IfOk, IfErr, OnOk, IsErrOf};
 ghost use Rattle.std.specs.Io.KnownBytes.{Keeps};
-ghost use Rattle.grok.specs.Errors.{error_value};
+ghost use Rattle.grok.specs.Errors.{error_value, Memory as memory};
 ghost use Rattle.grok.specs.declared.errors.Error.{Error};
-ghost use Rattle.grok_commands.specs.Views.{request_view};
-ghost use Rattle.grok_commands.specs.Traffic.{traffic};
-ghost use Rattle.grok_commands.specs.Streams.{HasAnsweredInput, HasAnsweredEnded, HasAnsweredSome};
+ghost use Rattle.grok_words.specs.Views.{request_view};
+ghost use Rattle.grok_lines.specs.Traffic.{traffic};
+ghost use Rattle.grok_lines.specs.Streams.{HasAnsweredInput, HasAnsweredEnded, HasAnsweredSome};
 ghost use Rattle.grok_commands.specs.Runs.{match_of, json_of, IsCompiled, IsRefused, HasPattern};
 
-use crate::command::Request;
-use crate::fault::{ToolFault, pattern_fault};
-use crate::line_answers::{JsonAnswers, PairAnswers};
-use crate::stream::answer_lines;
 use grok::Pattern;
+use grok_lines::{JsonAnswers, PairAnswers, ToolFault, answer_lines};
+use grok_words::Request;
 use std::alloc::Global;
 use std::io::{Read, Write};
+
+/// The fault of a run whose pattern isn't compiled.
+fn pattern_fault(error: grok::Error) -> ToolFault
+    ensures memory { error_value error ≡ memory → result ≡ ToolFault.Memory }
+    ensures pattern { error_value error ≢ memory → result ≡ ToolFault.Pattern error }
+{
+    match error {
+        grok::Error::Memory => ToolFault::Memory,
+        error => ToolFault::Pattern(error),
+    }
+}
 
 /// The pattern of a request.
 fn compile(alloc: Global, request: &Request<'_>) -> Result<Pattern, ToolFault>

@@ -6,14 +6,13 @@ ghost use Rattle.grok.specs.Items.{fault_view};
 ghost use Rattle.grok.specs.Measured.{Faulty};
 ghost use Rattle.grok.specs.Met.{measure_view};
 ghost use Rattle.grok_commands.specs.SizeTexts.{text_of_size};
-ghost use Rattle.grok_commands.specs.Views.{request_view};
+ghost use Rattle.grok_words.specs.Views.{request_view};
 ghost use Rattle.grok_commands.specs.Runs.{measured, IsFaulty};
 ghost use Rattle.grok.specs.declared.errors.Error.{Error};
 
-use crate::command::Request;
-use crate::fault::ToolFault;
-use crate::output::{end, send};
 use grok::{Fault, Measure};
+use grok_lines::{ToolFault, end, send};
+use grok_words::Request;
 use std::alloc::{AllocError, Global};
 use std::io::Write;
 

@@ -2,12 +2,11 @@
 ghost use Rattle.std.specs.Prelude.{◌≡◌, ◌⊎◌, OnOk, IfErr, IsErrOf, string_bytes};
 ghost use Rattle.grok_parser.specs.Pieces.{pieces};
 ghost use Rattle.grok_parser.specs.Views.{piece_view};
-ghost use Rattle.grok_commands.specs.Answers.{HasAnswered, HasBegun};
+ghost use Rattle.grok_lines.specs.Answers.{HasAnswered, HasBegun};
 ghost use Rattle.grok_commands.specs.Split.{IsPieceLine};
 
-use crate::fault::ToolFault;
-use crate::output::{end, send};
 use grok::parser::{GrokComponent, grok_split};
+use grok_lines::{ToolFault, end, send};
 use std::alloc::{AllocError, Global};
 use std::io::Write;
 

@@ -2,10 +2,10 @@ use Rattle.std.proofs.Common.{◌≡◌, ◌∙◌, ◌∷◌, drop, ap, ◌+◌
 use Rattle.std.specs.FinMap as finite
 use Rattle.std.specs.Io.KnownBytes.{Appends}
 use Rattle.std.proofs.lemmas.List.{drop_more}
-use Rattle.grok_commands.specs.Commands.{texts}
-use Rattle.grok_commands.specs.Library.{library_of}
+use Rattle.grok_words.specs.Commands.{texts}
+use Rattle.grok_words.specs.Library.{library_of}
 use Rattle.grok_commands.specs.SizeTexts.{IsCheckLine}
-use Rattle.grok_commands.proofs.Answering.{answered_start, answered_step}
+use Rattle.grok_lines.proofs.Answering.{answered_start, answered_step}
 use Rattle.grok_commands.proofs.check.check.Goals as goal
 
 pub names-init : goal.names-init

@@ -1,8 +1,8 @@
 use Rattle.std.proofs.Common.{drop}
 use Rattle.std.specs.FinMap as finite
-use Rattle.grok_commands.specs.Commands.{texts}
-use Rattle.grok_commands.specs.Library.{library_of}
-use Rattle.grok_commands.specs.Progress.{Answered}
+use Rattle.grok_words.specs.Commands.{texts}
+use Rattle.grok_words.specs.Library.{library_of}
+use Rattle.grok_lines.specs.Progress.{Answered}
 use Rattle.grok_commands.specs.SizeTexts.{IsCheckLine}
 use Rattle.grok_commands.proofs.check.check.Given as goal
 

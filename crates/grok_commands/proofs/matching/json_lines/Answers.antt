@@ -1,10 +1,10 @@
 use Rattle.std.proofs.Common.{◌≡◌, ◌⊎◌, inl, inr, IfErr, subst}
 use Rattle.std.proofs.lemmas.Result.{on_ok_weaker}
-use Rattle.grok_commands.specs.Traffic.{traffic}
-use Rattle.grok_commands.specs.Streams.{HasAnsweredInput, HasAnsweredEnded, HasAnsweredSome}
+use Rattle.grok_lines.specs.Traffic.{traffic}
+use Rattle.grok_lines.specs.Streams.{HasAnsweredInput, HasAnsweredEnded, HasAnsweredSome}
 use Rattle.grok_commands.specs.Runs.{json_of}
-use Rattle.grok_commands.specs.declared.fault.ToolFault.{ToolFault}
-use Rattle.grok_commands.specs.declared.fault.ToolFault.TheVariants.{Memory, Read, Write}
+use Rattle.grok_lines.specs.declared.fault.ToolFault.{ToolFault}
+use Rattle.grok_lines.specs.declared.fault.ToolFault.TheVariants.{Memory, Read, Write}
 use Rattle.grok_commands.proofs.matching.json_lines.Goals as goal
 
 pub returns-clause-ok : goal.returns-clause-ok
