@@ -2,6 +2,7 @@
 ghost use Rattle.std.specs.Prelude.{◌≡◌, ◌⊎◌, OnOk, IfOk, IfErr, IsErrOf, string_bytes};
 ghost use Rattle.std.specs.FinMap as finite;
 ghost use Rattle.grok_lines.specs.Answers.{HasAnswered, HasBegun};
+ghost use Rattle.grok.specs.Met.{measure_view};
 ghost use Rattle.grok_words.specs.Library.{library_of};
 ghost use Rattle.grok_commands.specs.SizeTexts.{measured_in, placeholder_of, IsMeasuredText, IsCheckLine};
 
@@ -11,6 +12,17 @@ use grok_lines::{ToolFault, end, send};
 use grok_words::Definitions;
 use std::alloc::{AllocError, Global};
 use std::io::Write;
+
+/// A measure, as a text.
+fn text_of(alloc: Global, measure: Measure<'_>) -> Result<String, AllocError>
+    ensures { IfOk result (λ text. IsMeasuredText (measure_view measure.entry) (string_bytes text)) }
+{
+    let mut text = String::new(alloc);
+    match write_measure(&mut text, measure)? {
+        None => Ok(text),
+        Some(fault) => fault.to_error(alloc)?.to_string(alloc),
+    }
+}
 
 /// The measure of the placeholder of a name, as a text.
 fn measured_text(
@@ -23,11 +35,7 @@ fn measured_text(
 {
     let pattern = format!(in alloc; "%{{{name}}}")?;
     let measure = grok.measure(pattern.as_str(), alias_only)?;
-    let mut text = String::new(alloc);
-    match write_measure(&mut text, measure)? {
-        None => Ok(text),
-        Some(fault) => fault.to_error(alloc)?.to_string(alloc),
-    }
+    text_of(alloc, measure)
 }
 
 /// Puts the line of a definition into `line`, in place of what it holds.

@@ -1,5 +1,5 @@
+use crate::libraries::{add_chain, doublings, library};
 use grok::{Error, Grok, Measure, Pattern};
-use grok_test_libraries::{add_chain, doublings, library};
 use std::alloc::{AllocError, Global};
 use std::process::Abort;
 use std::test::Fail;
@@ -158,6 +158,50 @@ fn worked_patterns(rt: HostRuntime) -> Result<(), Fail> {
         ),
     ] {
         check_row(&rt, words, pattern, mode, expected)?;
+    }
+    Ok(())
+}
+
+/// The first fault of a pattern, or what the engine refuses.
+#[test]
+fn errors_of_patterns(rt: HostRuntime) -> Result<(), Fail> {
+    let clash = "GenericCompilationFailure(\"Alias x[1] already exists\")";
+    let invalid = "GenericCompilationFailure(\"InvalidPattern\")";
+    for (words, pattern, with_alias_only, expected) in [
+        ("A=a", "%{A:x[1]}%{A:x}%{A:x}", true, clash),
+        ("A=a", "%{A:x[1]}%{A:x}%{A:x}%{missing}", false, clash),
+        ("A=a", "%{A:x}%{A:x}%{A:x[1]}", false, clash),
+        ("A=a B=%{A:x}%{A:x}", "%{A:x[1]}%{B}", true, clash),
+        (
+            "A=%{A:x[1]}%{missing}",
+            "%{A:x}%{A:x}",
+            false,
+            "RecursionTooDeep",
+        ),
+        ("A=%{B} B=%{C} C=%{A}", "%{A}", false, "RecursionTooDeep"),
+        ("P=%{W=a}", "%{P}%{W}", false, "DefinitionNotFound(\"W\")"),
+        ("BAD=x%{ A=a", "%{BAD}", false, invalid),
+        ("BAD=x%{ A=a", "%{A}%{BAD}%{nope}", true, invalid),
+        (
+            "",
+            "%{N=a{2}}",
+            false,
+            "GenericCompilationFailure(\"InvalidPatternDefinition\")",
+        ),
+        (
+            "",
+            "%{né}",
+            true,
+            "GenericCompilationFailure(\"InvalidCharacter('é')\")",
+        ),
+        (
+            "A=(",
+            "%{A}",
+            true,
+            "RegexCompilationFailed(\"Regex compilation failed:\\n(?:()\")",
+        ),
+    ] {
+        check_row(&rt, words, pattern, with_alias_only, expected)?;
     }
     Ok(())
 }

@@ -1,8 +1,8 @@
+use crate::libraries::{add_chain, chain, doublings, library};
 use grok::Fault::{Malformed, Missing, TooDeep};
 use grok::Measure::TooLong;
 use grok::parser::GrokPatternError::{InvalidCharacter, InvalidPattern, InvalidPatternDefinition};
 use grok::{Fault, Grok, Looks, Measure};
-use grok_test_libraries::{add_chain, chain, doublings, library};
 use std::alloc::{AllocError, Global};
 use std::process::Abort;
 use std::test::Fail;

@@ -7,3 +7,5 @@ mod engines;
 mod expansion;
 #[cfg(test)]
 mod many;
+#[cfg(test)]
+mod showing;

@@ -1,9 +1,9 @@
 //! Many small libraries, made by a fixed rule.
 
 use crate::expansion::{Ending, Expansion, Texts};
+use crate::showing::shown;
 use grok::{Error, Fault, Grok, Looks, Measure, PatternOf};
 use grok_engines::Heads;
-use grok_test_libraries::shown;
 use std::alloc::{AllocError, Global};
 use std::collections::BTreeMap;
 use std::process::Abort;

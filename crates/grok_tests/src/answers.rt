@@ -1,19 +1,30 @@
 //! What patterns over `regex` answer.
 
 use grok::{Error, Grok, Matches, Pattern, patterns};
-use grok_test_libraries::library;
 use std::alloc::{AllocError, Global};
 use std::process::Abort;
 use std::test::Fail;
 
-/// A library by its words, a pattern, whether only aliases count, its keys, and lines with their answers.
+/// Names with their definitions.
+type Definitions = &'static [(&'static str, &'static str)];
+
+/// Definitions, a pattern, whether only aliases count, its keys, and lines with their answers.
 type Row = (
-    &'static str,
+    Definitions,
     &'static str,
     bool,
     &'static str,
     &'static [(&'static str, &'static str)],
 );
+
+/// The library of the ten and of these definitions.
+fn library(alloc: Global, definitions: Definitions) -> Result<Grok, AllocError> {
+    let mut grok = Grok::with_default_patterns(alloc)?;
+    for (name, text) in definitions {
+        grok.add_pattern(name, text)?;
+    }
+    Ok(grok)
+}
 
 /// Adds a key at the end.
 fn push_key(all: &mut String, key: &str) -> Result<(), AllocError> {
@@ -155,15 +166,26 @@ fn check_answer(
     }
 }
 
-/// Each line has its answer, and a matcher that is kept gives the same.
+/// Each line has its answer.
 fn check_lines(
+    rt: &(impl Abort + AllocGlobal),
+    pattern: &Pattern,
+    lines: &[(&str, &str)],
+) -> Result<(), Fail> {
+    for (line, expected) in lines {
+        check_answer(rt, pattern.match_against(line)?, line, expected)?;
+    }
+    Ok(())
+}
+
+/// Each line has its answer from a matcher that is kept.
+fn check_kept_lines(
     rt: &(impl Abort + AllocGlobal),
     pattern: &Pattern,
     lines: &[(&str, &str)],
 ) -> Result<(), Fail> {
     let mut kept = pattern.line_matcher()?;
     for (line, expected) in lines {
-        check_answer(rt, pattern.match_against(line)?, line, expected)?;
         check_answer(rt, kept.match_against(line)?, line, expected)?;
     }
     Ok(())
@@ -171,11 +193,12 @@ fn check_lines(
 
 /// The row holds.
 fn check_row(rt: &(impl Abort + AllocGlobal), row: &Row) -> Result<(), Fail> {
-    let (words, text, with_alias_only, keys, lines) = row;
-    let grok = library(rt.alloc(), words)?;
+    let (definitions, text, with_alias_only, keys, lines) = row;
+    let grok = library(rt.alloc(), definitions)?;
     let pattern = grok.compile(text, *with_alias_only)?;
     check_keys(rt, &pattern, keys, text)?;
-    check_lines(rt, &pattern, lines)
+    check_lines(rt, &pattern, lines)?;
+    check_kept_lines(rt, &pattern, lines)
 }
 
 /// Each row holds.
@@ -192,7 +215,7 @@ fn answers_to_lines(rt: HostRuntime) -> Result<(), Fail> {
         &rt,
         &[
             (
-                "A=a B=%{A}%{A}",
+                &[("A", "a"), ("B", "%{A}%{A}")],
                 "%{B}",
                 false,
                 "A A[1] B",
@@ -204,87 +227,99 @@ fn answers_to_lines(rt: HostRuntime) -> Result<(), Fail> {
                 ],
             ),
             (
-                "",
+                &[],
                 "%{W=a}%{W=b}%{W}",
                 false,
                 "W W[1] W[2]",
                 &[("abb", "W=a, W[1]=b, W[2]=b")],
             ),
             (
-                "W=w",
+                &[("W", "w")],
                 "%{W}%{W=a}%{W}",
                 false,
                 "W W[1] W[2]",
                 &[("waa", "W=w, W[1]=a, W[2]=a")],
             ),
-            ("", "%{W:k=a}%{W}", true, "k", &[("aa", "k=a")]),
+            (&[], "%{W:k=a}%{W}", true, "k", &[("aa", "k=a")]),
             // In brackets a placeholder has no group, and its number may be another group's name.
-            ("A=a", "[%{A}]", false, "", &[("a", ""), ("z", "no match")]),
-            ("A=a", "[%{A}](?<_n_0>b)", false, "A", &[("ab", "A=b")]),
+            (
+                &[("A", "a")],
+                "[%{A}]",
+                false,
+                "",
+                &[("a", ""), ("z", "no match")],
+            ),
+            (
+                &[("A", "a")],
+                "[%{A}](?<_n_0>b)",
+                false,
+                "A",
+                &[("ab", "A=b")],
+            ),
             // The last group of a key counts, also where it takes no part.
             (
-                "A=a",
+                &[("A", "a")],
                 "(?:%{A:x}|b(?<x>c))",
                 false,
                 "x",
                 &[("a", ""), ("bc", "x=c")],
             ),
             (
-                "A=a",
+                &[("A", "a")],
                 "%{A:x[1]}%{A:x[1]}",
                 false,
                 "x[1] x[1][1]",
                 &[("aa", "x[1]=a, x[1][1]=a")],
             ),
             (
-                "INT=(?:[+-]?(?:[0-9]+))",
+                &[("INT", "(?:[+-]?(?:[0-9]+))")],
                 "%{INT}{1,3}",
                 false,
                 "INT",
                 &[("+1+2+3", "INT=+3")],
             ),
             (
-                "GREEDYDATA=.*",
+                &[("GREEDYDATA", ".*")],
                 r"(?<capture>\w+) %{GREEDYDATA:capture}",
                 true,
                 "capture",
                 &[("word1 word2", "capture=word2")],
             ),
-            ("E=", "%{E}", false, "E", &[("", "E="), ("q", "E=")]),
-            ("E=", "%{E}", true, "", &[("", ""), ("q", "")]),
+            (&[("E", "")], "%{E}", false, "E", &[("", "E="), ("q", "E=")]),
+            (&[("E", "")], "%{E}", true, "", &[("", ""), ("q", "")]),
             (
-                "",
+                &[],
                 "(?<k>x*)",
                 false,
                 "k",
                 &[("", "k="), ("xxy", "k=xx"), ("y", "k=")],
             ),
             (
-                "",
+                &[],
                 r"(?<k>[a-z]\s?)",
                 false,
                 "k",
                 &[("p\r", "k=p\r"), ("é", "no match")],
             ),
-            ("", "(?<q>.*)", true, "q", &[("a\"b", "q=a\"b")]),
+            (&[], "(?<q>.*)", true, "q", &[("a\"b", "q=a\"b")]),
             // Names that look as the generated ones do.
-            ("", "(?<_n_0>b)", false, "_n_0", &[("b", "_n_0=b")]),
+            (&[], "(?<_n_0>b)", false, "_n_0", &[("b", "_n_0=b")]),
             (
-                "A=a",
+                &[("A", "a")],
                 "(?<_n_1>b)%{A}",
                 false,
                 "A _n_1",
                 &[("ba", "A=a, _n_1=b")],
             ),
             (
-                "A=a",
+                &[("A", "a")],
                 "(?<_n_01>b)%{A}",
                 false,
                 "A _n_01",
                 &[("ba", "A=a, _n_01=b")],
             ),
             (
-                "A=a",
+                &[("A", "a")],
                 "é%{A}",
                 false,
                 "A",
@@ -292,29 +327,29 @@ fn answers_to_lines(rt: HostRuntime) -> Result<(), Fail> {
             ),
             // A percent sign that stands for itself.
             (
-                "",
+                &[],
                 "(?<p>(%){2})",
                 false,
                 "p",
                 &[("100%%", "p=%%"), ("100%", "no match")],
             ),
             (
-                "",
+                &[],
                 "(?<p>(?:%){2})",
                 false,
                 "p",
                 &[("100%%", "p=%%"), ("100%", "no match")],
             ),
             (
-                "",
+                &[],
                 r"(?<p>\x25{2})",
                 false,
                 "p",
                 &[("100%%", "p=%%"), ("100%", "no match")],
             ),
-            ("", "100%", false, "", &[("100%", ""), ("100", "no match")]),
+            (&[], "100%", false, "", &[("100%", ""), ("100", "no match")]),
             (
-                "*",
+                &[],
                 "%{MAC}",
                 false,
                 "CISCOMAC COMMONMAC MAC WINDOWSMAC",
@@ -335,7 +370,7 @@ fn answers_to_lines(rt: HostRuntime) -> Result<(), Fail> {
                 ],
             ),
             (
-                "*",
+                &[],
                 "%{USERNAME}",
                 false,
                 "USERNAME",
@@ -353,7 +388,7 @@ fn tests_of_the_crate(rt: HostRuntime) -> Result<(), Fail> {
         &[
             // test_simple_anonymous_pattern, test_from_iter, test_from
             (
-                "USERNAME",
+                &[],
                 "%{USERNAME}",
                 false,
                 "USERNAME",
@@ -361,7 +396,7 @@ fn tests_of_the_crate(rt: HostRuntime) -> Result<(), Fail> {
             ),
             // test_simple_named_pattern
             (
-                "USERNAME",
+                &[],
                 "%{USERNAME:usr}",
                 false,
                 "usr",
@@ -369,7 +404,7 @@ fn tests_of_the_crate(rt: HostRuntime) -> Result<(), Fail> {
             ),
             // test_alias_anonymous_pattern
             (
-                "USERNAME USER",
+                &[],
                 "%{USER}",
                 false,
                 "USER USERNAME",
@@ -380,7 +415,7 @@ fn tests_of_the_crate(rt: HostRuntime) -> Result<(), Fail> {
             ),
             // test_alias_named_pattern
             (
-                "USERNAME USER",
+                &[],
                 "%{USER:usr}",
                 false,
                 "USERNAME usr",
@@ -391,7 +426,7 @@ fn tests_of_the_crate(rt: HostRuntime) -> Result<(), Fail> {
             ),
             // test_composite_or_pattern
             (
-                "MAC CISCOMAC WINDOWSMAC COMMONMAC",
+                &[],
                 "%{MAC}",
                 false,
                 "CISCOMAC COMMONMAC MAC WINDOWSMAC",
@@ -409,7 +444,7 @@ fn tests_of_the_crate(rt: HostRuntime) -> Result<(), Fail> {
             ),
             // test_with_alias_only
             (
-                "MAC CISCOMAC WINDOWSMAC COMMONMAC",
+                &[],
                 "%{MAC:macaddr}",
                 true,
                 "macaddr",
@@ -424,7 +459,7 @@ fn tests_of_the_crate(rt: HostRuntime) -> Result<(), Fail> {
             ),
             // test_multiple_patterns
             (
-                "YEAR MONTH DAY",
+                &[],
                 "%{DAY} %{MONTH} %{YEAR}",
                 false,
                 "DAY MONTH YEAR",
@@ -435,7 +470,7 @@ fn tests_of_the_crate(rt: HostRuntime) -> Result<(), Fail> {
             ),
             // test_match_iterator, test_matches_into_iter
             (
-                "YEAR MONTH DAY USERNAME SPACE",
+                &[],
                 "%{DAY:day} %{MONTH:month} %{YEAR:year}%{SPACE}%{USERNAME:user}?",
                 true,
                 "day month user year",
@@ -452,7 +487,7 @@ fn tests_of_the_crate(rt: HostRuntime) -> Result<(), Fail> {
             ),
             // test_adhoc_pattern, test_adhoc_pattern_in_iter
             (
-                "*",
+                &[],
                 r"\[(?<threadname>[^\]]+)\]",
                 false,
                 "threadname",
@@ -460,7 +495,7 @@ fn tests_of_the_crate(rt: HostRuntime) -> Result<(), Fail> {
             ),
             // test_pattern_with_definition
             (
-                "*",
+                &[],
                 r"%{NEW_PATTERN:first=\w+} %{NEW_PATTERN:second}",
                 false,
                 "first second",
@@ -468,7 +503,7 @@ fn tests_of_the_crate(rt: HostRuntime) -> Result<(), Fail> {
             ),
             // test_capture_names
             (
-                "YEAR MONTH DAY USERNAME SPACE",
+                &[],
                 "%{YEAR}%{SPACE}%{USERNAME:user}?",
                 false,
                 "SPACE YEAR user",
@@ -476,14 +511,14 @@ fn tests_of_the_crate(rt: HostRuntime) -> Result<(), Fail> {
             ),
             // test_capture_names_with_type
             (
-                "USERNAME USER=%{USERNAME::text}",
+                &[("USER", "%{USERNAME::text}")],
                 "%{USER:usr:text}",
                 true,
                 "usr",
                 &[("root", "usr=root")],
             ),
             (
-                "USERNAME USER=%{USERNAME::text}",
+                &[("USER", "%{USERNAME::text}")],
                 "%{USER:usr:text}",
                 false,
                 "USERNAME usr",
@@ -541,21 +576,21 @@ fn check_no_keys_over(rt: &impl Abort, grok: &Grok) -> Result<(), Fail> {
 /// Keys that are nearly those of the pattern have no value.
 #[test]
 fn keys_that_are_not_there(rt: HostRuntime) -> Result<(), Fail> {
-    let grok = library(rt.alloc(), "A=a B=%{A}%{A}")?;
+    let grok = library(rt.alloc(), &[("A", "a"), ("B", "%{A}%{A}")])?;
     check_near_keys_over(&rt, &grok)?;
     check_no_keys_over(&rt, &grok)
 }
 
-/// The pattern over the library of the words has this extract for the key.
+/// The pattern over the library has this extract for the key.
 fn check_extract(
-    rt: &(impl Abort + AllocGlobal),
-    words: &str,
+    rt: &impl Abort,
+    grok: &Grok,
     text: &str,
     with_alias_only: bool,
     key: &str,
     expected: Option<&str>,
 ) -> Result<(), Fail> {
-    let pattern = library(rt.alloc(), words)?.compile(text, with_alias_only)?;
+    let pattern = grok.compile(text, with_alias_only)?;
     let is_right = pattern.get_extract(key) == expected;
     assert!(rt; is_right, "at {text} {with_alias_only} {key}");
     Ok(())
@@ -564,25 +599,26 @@ fn check_extract(
 /// Extracts by key, whether or not the key has a group.
 #[test]
 fn kept_extracts(rt: HostRuntime) -> Result<(), Fail> {
-    let users = "USERNAME USER=%{USERNAME::text}";
-    for (words, text, with_alias_only, key, expected) in [
-        (users, "%{USER:usr:text}", true, "usr", Some("text")),
-        (users, "%{USER:usr:text}", true, "USERNAME", None),
-        (users, "%{USER:usr:text}", true, "USER", None),
-        (users, "%{USER:usr:text}", true, "doesn't exist", None),
-        (users, "%{USER:usr:text}", false, "usr", Some("text")),
-        (users, "%{USER:usr:text}", false, "USERNAME", Some("text")),
-        (users, "%{USER:usr:text}", false, "USER", None),
-        ("A=a", "[%{A::t}]", false, "A", Some("t")),
-        ("", "%{P:x=a}%{P:x:int=b}", false, "x", None),
-        ("", "%{P:x=a}%{P:x:int=b}", false, "x[1]", Some("int")),
-        ("", "%{P:x:[-.]=a}", false, "x", Some("[-.]")),
-        ("", "%{P::int=a}", true, "P", None),
-        ("", "%{P::int=a}", false, "P", Some("int")),
+    let definitions = &[("A", "a"), ("USER", "%{USERNAME::text}")];
+    let grok = library(rt.alloc(), definitions)?;
+    for (text, with_alias_only, key, expected) in [
+        ("%{USER:usr:text}", true, "usr", Some("text")),
+        ("%{USER:usr:text}", true, "USERNAME", None),
+        ("%{USER:usr:text}", true, "USER", None),
+        ("%{USER:usr:text}", true, "doesn't exist", None),
+        ("%{USER:usr:text}", false, "usr", Some("text")),
+        ("%{USER:usr:text}", false, "USERNAME", Some("text")),
+        ("%{USER:usr:text}", false, "USER", None),
+        ("[%{A::t}]", false, "A", Some("t")),
+        ("%{P:x=a}%{P:x:int=b}", false, "x", None),
+        ("%{P:x=a}%{P:x:int=b}", false, "x[1]", Some("int")),
+        ("%{P:x:[-.]=a}", false, "x", Some("[-.]")),
+        ("%{P::int=a}", true, "P", None),
+        ("%{P::int=a}", false, "P", Some("int")),
         // A group written by hand has no extract.
-        ("A=a", "%{A:x:int}(?<y>b)", false, "y", None),
+        ("%{A:x:int}(?<y>b)", false, "y", None),
     ] {
-        check_extract(&rt, words, text, with_alias_only, key, expected)?;
+        check_extract(&rt, &grok, text, with_alias_only, key, expected)?;
     }
     Ok(())
 }
@@ -593,17 +629,21 @@ fn user_pattern(alloc: Global) -> Result<Pattern, Error> {
     grok.compile("%{USER:usr:text}", true)
 }
 
+/// Two matches of a pattern, the later one read first.
+fn check_two_matches(rt: &(impl Abort + AllocGlobal), pattern: &Pattern) -> Result<(), Fail> {
+    let first = pattern.match_against("john 1")?;
+    let second = pattern.match_against("2 root")?;
+    check_answer(rt, second, "2 root", "usr=root")?;
+    check_answer(rt, first, "john 1", "usr=john")
+}
+
 /// A pattern outlives its library, and serves many matches at a time.
 #[test]
 fn a_pattern_owns_what_it_holds(rt: HostRuntime) -> Result<(), Fail> {
     let pattern = user_pattern(rt.alloc())?;
     assert_eq!(rt; pattern.text(), "(?<_n_0>[a-z]+)");
     assert_eq!(rt; pattern.get_extract("usr"), Some("text"));
-    let first = pattern.match_against("john 1")?;
-    let second = pattern.match_against("2 root")?;
-    check_answer(&rt, second, "2 root", "usr=root")?;
-    check_answer(&rt, first, "john 1", "usr=john")?;
-    Ok(())
+    check_two_matches(&rt, &pattern)
 }
 
 /// `%{A}` compiles into this text.
@@ -625,7 +665,7 @@ fn check_set_again(rt: &impl Abort, grok: &mut Grok, earlier: &Pattern) -> Resul
 /// The definitions that a pattern is compiled with are those at that time.
 #[test]
 fn definitions_set_again(rt: HostRuntime) -> Result<(), Fail> {
-    let mut grok = library(rt.alloc(), "A=a%{B}")?;
+    let mut grok = library(rt.alloc(), &[("A", "a%{B}")])?;
     grok.add_pattern("A", "b")?;
     let earlier = grok.compile("%{A}", false)?;
     check_set_again(&rt, &mut grok, &earlier)
@@ -674,7 +714,7 @@ fn check_shown_answer(
 
 #[test]
 fn shown_patterns(rt: HostRuntime) -> Result<(), Fail> {
-    let grok = library(rt.alloc(), "A=a")?;
+    let grok = Grok::from_iter(rt.alloc(), &[("A", "a")])?;
     let pattern = grok.compile("%{A:x:t}%{A}", false)?;
     check_shown_pattern(&rt, &pattern)?;
     check_shown_answer(&rt, &grok, &pattern.match_against("aa")?)

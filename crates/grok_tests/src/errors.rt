@@ -1,9 +1,8 @@
-//! The errors of compiling, and how they are shown.
+//! Errors, and how they are shown.
 
 use grok::Fault::{Malformed, Missing, TooDeep};
 use grok::parser::GrokPatternError::{InvalidCharacter, InvalidPattern, InvalidPatternDefinition};
-use grok::{Error, Fault, Grok, Refusal};
-use grok_test_libraries::library;
+use grok::{Error, Fault, Refusal};
 use std::alloc::{AllocError, Global};
 use std::error;
 use std::process::Abort;
@@ -152,77 +151,6 @@ fn errors_of_faults(rt: HostRuntime) -> Result<(), Fail> {
         ),
     ] {
         check_fault(&rt, fault, expected)?;
-    }
-    Ok(())
-}
-
-/// Compiling has this error.
-fn check_error(
-    rt: &(impl Abort + AllocGlobal),
-    grok: &Grok,
-    pattern: &str,
-    with_alias_only: bool,
-    expected: &str,
-) -> Result<(), Fail> {
-    match grok.compile(pattern, with_alias_only) {
-        Ok(_) => assert!(rt; false, "a pattern at {pattern}"),
-        Err(error) => check_debug(rt, &error, expected)?,
-    }
-    Ok(())
-}
-
-/// Compiling has this error over the library of the words.
-fn check_row(
-    rt: &(impl Abort + AllocGlobal),
-    words: &str,
-    pattern: &str,
-    with_alias_only: bool,
-    expected: &str,
-) -> Result<(), Fail> {
-    let grok = library(rt.alloc(), words)?;
-    check_error(rt, &grok, pattern, with_alias_only, expected)
-}
-
-/// What compiling over `regex` answers for patterns that have a fault.
-#[test]
-fn errors_of_patterns(rt: HostRuntime) -> Result<(), Fail> {
-    let clash = "GenericCompilationFailure(\"Alias x[1] already exists\")";
-    let invalid = "GenericCompilationFailure(\"InvalidPattern\")";
-    for (words, pattern, with_alias_only, expected) in [
-        ("A=a", "%{A:x[1]}%{A:x}%{A:x}", true, clash),
-        ("A=a", "%{A:x[1]}%{A:x}%{A:x}%{missing}", false, clash),
-        ("A=a", "%{A:x}%{A:x}%{A:x[1]}", false, clash),
-        ("A=a B=%{A:x}%{A:x}", "%{A:x[1]}%{B}", true, clash),
-        (
-            "A=%{A:x[1]}%{missing}",
-            "%{A:x}%{A:x}",
-            false,
-            "RecursionTooDeep",
-        ),
-        ("A=%{B} B=%{C} C=%{A}", "%{A}", false, "RecursionTooDeep"),
-        ("P=%{W=a}", "%{P}%{W}", false, "DefinitionNotFound(\"W\")"),
-        ("BAD=x%{ A=a", "%{BAD}", false, invalid),
-        ("BAD=x%{ A=a", "%{A}%{BAD}%{nope}", true, invalid),
-        (
-            "",
-            "%{N=a{2}}",
-            false,
-            "GenericCompilationFailure(\"InvalidPatternDefinition\")",
-        ),
-        (
-            "",
-            "%{né}",
-            true,
-            "GenericCompilationFailure(\"InvalidCharacter('é')\")",
-        ),
-        (
-            "A=(",
-            "%{A}",
-            true,
-            "RegexCompilationFailed(\"Regex compilation failed:\\n(?:()\")",
-        ),
-    ] {
-        check_row(&rt, words, pattern, with_alias_only, expected)?;
     }
     Ok(())
 }

@@ -1,3 +1,5 @@
+//! What a pattern shows, as one text.
+
 use grok::{Engine, MatchesOf, PatternOf};
 use std::alloc::{AllocError, Global};
 

@@ -1,25 +1,17 @@
-use grok::{Grok, patterns};
+//! Libraries of definitions: of a few words, long chains, and doublings.
+
+use grok::Grok;
 use std::alloc::{AllocError, Global};
 
-/// Adds the default definition of the name, or all ten for `*`.
-fn add_default(grok: &mut Grok, word: &str) -> Result<(), AllocError> {
-    for (name, text) in patterns() {
-        if word == "*" || *name == word {
-            grok.add_pattern(name, text)?;
-        }
+/// Adds what the word says: `NAME=TEXT`.
+fn add_word(grok: &mut Grok, word: &str) -> Result<(), AllocError> {
+    if let Some((name, text)) = word.split_once("=") {
+        grok.add_pattern(name, text)?;
     }
     Ok(())
 }
 
-/// Adds what the word says: `NAME=TEXT`, or one of the ten default definitions by its name, or all by `*`.
-fn add_word(grok: &mut Grok, word: &str) -> Result<(), AllocError> {
-    match word.split_once("=") {
-        Some((name, text)) => grok.add_pattern(name, text),
-        None => add_default(grok, word),
-    }
-}
-
-/// The library of these words, which spaces separate: a word `NAME=TEXT` is added, and a word without a `=` names one of the ten default definitions, or all by `*`.
+/// The library of the words `NAME=TEXT`, which spaces separate.
 pub fn library(alloc: Global, words: &str) -> Result<Grok, AllocError> {
     let mut grok = Grok::empty(alloc);
     for word in words.split(' ') {
