@@ -9,13 +9,13 @@ use Rattle.grok_match.specs.Engines.{engine_regex}
 use Rattle.grok_match.specs.RegexFinds.{captures_in, IsReadByDefault}
 use Rattle.grok_match.specs.Answers.{PatternValue}
 use Rattle.grok.specs.Errors.{ErrorValue, Memory}
-use Rattle.grok.specs.Measured.{Measured, Faulty, Sized, PastLimit, tree_of}
-use Rattle.grok.specs.Compiled.{IsFaultError, IsCompileError, IsPatternOf}
+use Rattle.grok.specs.Measured.{tree_of}
+use Rattle.grok.specs.Compiled.{IsCompileError, IsPatternOf}
 use Rattle.grok_words.specs.Commands.{RequestValue, CommandValue, Split, Measure, Match, Json, Check}
 use Rattle.grok_lines.specs.Answers.{HasAnswered, HasBegun}
 use Rattle.grok_words.specs.Library.{library_of}
 use Rattle.grok_lines.specs.LineTexts.{Finds, match_answer, json_answer}
-use Rattle.grok_commands.specs.SizeTexts.{text_of_size, measured_in, IsCheckLine}
+use Rattle.grok_sizes.specs.SizeTexts.{text_of_size, measured, IsFaulty, IsCheckLine}
 use Rattle.grok_commands.specs.Split.{IsPieceLine}
 use Rattle.grok_lines.specs.Streams.{HasAnsweredInput, HasAnsweredEnded, HasAnsweredSome}
 use Rattle.grok_lines.specs.Traffic.{Traffic}
@@ -29,18 +29,9 @@ IsUnwritten t = Keeps t.written_old t.written_new
 
 -- ---- measure
 
-abbrev pub measured : RequestValue → Measured
-measured request = measured_in (library_of request.definitions) request.alias_only request.pattern
-
 -- the size has gone out as one line
 abbrev pub HasMeasured : RequestValue → Traffic → Type 0
 HasMeasured request t = (text : List ℕ) × (text_of_size (measured request) ≡ Some text) × Appends t.written_old t.written_new (text ++ codes "\n")
-
--- the error is that of the fault
-abbrev pub IsFaulty : Measured → ErrorValue → Type 0
-IsFaulty (Faulty fault) error = IsFaultError fault error
-IsFaulty (Sized length groups nesting) error = ⊥
-IsFaulty PastLimit error = ⊥
 
 -- ---- match and json
 

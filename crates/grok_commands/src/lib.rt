@@ -9,9 +9,7 @@ ghost use Rattle.grok.specs.Errors.{error_value};
 ghost use Rattle.grok.specs.declared.errors.Error.{Error};
 ghost use Rattle.grok_lines.specs.Traffic.{traffic};
 
-mod check;
 mod matching;
-mod measure;
 mod split;
 
 pub use grok_lines::ToolFault;
@@ -58,12 +56,12 @@ pub fn run<R: Read, W: Write>(
     };
     match command {
         Command::Split(pattern) => split::split(alloc, pattern, output),
-        Command::Measure(request) => measure::measure(alloc, &request, output),
+        Command::Measure(request) => grok_sizes::measure_pattern(alloc, &request, output),
         Command::Match(request) => matching::match_lines(alloc, &request, input, output),
         Command::Json(request) => matching::json_lines(alloc, &request, input, output),
         Command::Check {
             alias_only,
             definitions,
-        } => check::check(alloc, alias_only, &definitions, output),
+        } => grok_sizes::check_definitions(alloc, alias_only, &definitions, output),
     }
 }

@@ -1,4 +1,4 @@
-use Rattle.std.proofs.Common.{string_bytes}
+use Rattle.std.proofs.Common.{rules, string_bytes}
 use Rattle.std.specs.Io.KnownBytes.{Appends}
 use Rattle.grok_parser.specs.Pieces.{pieces}
 use Rattle.grok_parser.specs.Views.{piece_view}
@@ -15,3 +15,7 @@ pieces-preserved g c =
       answered = answered_step IsPieceLine (pieces c.args.pattern.now) c.pieces.piece-iterator c.next.new.self (piece_view c.in-Some.piece) _ _ _ (string_bytes c.write_line.new.text)
           c.pieces.invariant.answered c.in-Some.ensures.steps c.in_ok-write_line.ensures sent;
     }
+
+-- by one tactic, so that a wrong body is refused at once
+pub returns-clause-ok : goal.returns-clause-ok
+returns-clause-ok g c = search rules

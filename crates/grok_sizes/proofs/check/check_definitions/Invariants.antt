@@ -3,8 +3,8 @@ use Rattle.std.specs.FinMap as finite
 use Rattle.grok_words.specs.Commands.{texts}
 use Rattle.grok_words.specs.Library.{library_of}
 use Rattle.grok_lines.specs.Progress.{Answered}
-use Rattle.grok_commands.specs.SizeTexts.{IsCheckLine}
-use Rattle.grok_commands.proofs.check.check.Given as goal
+use Rattle.grok_sizes.specs.SizeTexts.{IsCheckLine}
+use Rattle.grok_sizes.proofs.check.check_definitions.Given as goal
 
 abbrev pub invariant-names : goal.invariant-names
 invariant-names g l = Answered (IsCheckLine (library_of l.fn.definitions) l.alias_only) (finite.keys (library_of l.fn.definitions)) (texts (drop l.name-index l.name-items)) (g.W.Write.contents l.fn.output) (g.W.Write.contents l.output)

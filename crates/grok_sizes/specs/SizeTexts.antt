@@ -4,6 +4,8 @@ use Rattle.grok_match.specs.Maps.{Texts}
 use Rattle.grok.specs.Measured.{Measured, Faulty, Sized, PastLimit, tree_of, measured_tree}
 use Rattle.grok.specs.Errors.{ErrorValue, error_text}
 use Rattle.grok.specs.Compiled.{IsFaultError}
+use Rattle.grok_words.specs.Commands.{RequestValue}
+use Rattle.grok_words.specs.Library.{library_of}
 
 abbrev pub size_text : ℕ → ℕ → ℕ → List ℕ
 size_text length groups nesting = codes "length " ++ decimal length ++ codes " groups " ++ decimal groups ++ codes " nesting " ++ decimal nesting
@@ -17,6 +19,18 @@ text_of_size PastLimit = Some (codes "too long")
 -- the answer of a pattern, where these texts are defined
 abbrev pub measured_in : Texts → Bool → List ℕ → Measured
 measured_in texts alias_only pattern = measured_tree alias_only (tree_of texts pattern)
+
+-- ---- measure
+
+-- the answer of a request's pattern
+abbrev pub measured : RequestValue → Measured
+measured request = measured_in (library_of request.definitions) request.alias_only request.pattern
+
+-- the error is that of the fault
+abbrev pub IsFaulty : Measured → ErrorValue → Type 0
+IsFaulty (Faulty fault) error = IsFaultError fault error
+IsFaulty (Sized length groups nesting) error = ⊥
+IsFaulty PastLimit error = ⊥
 
 -- ---- check
 

@@ -4,7 +4,7 @@ ghost use Rattle.std.specs.FinMap as finite;
 ghost use Rattle.grok_lines.specs.Answers.{HasAnswered, HasBegun};
 ghost use Rattle.grok.specs.Met.{measure_view};
 ghost use Rattle.grok_words.specs.Library.{library_of};
-ghost use Rattle.grok_commands.specs.SizeTexts.{measured_in, placeholder_of, IsMeasuredText, IsCheckLine};
+ghost use Rattle.grok_sizes.specs.SizeTexts.{measured_in, placeholder_of, IsMeasuredText, IsCheckLine};
 
 use crate::measure::write_measure;
 use grok::{Grok, Measure};
@@ -54,7 +54,7 @@ fn write_line(
 }
 
 /// Sends the measure of each definition, in byte order of the names, each with a line feed by one `write_all`.
-pub fn check<W: Write>(
+pub fn check_definitions<W: Write>(
     alloc: Global,
     alias_only: bool,
     definitions: &Definitions<'_>,

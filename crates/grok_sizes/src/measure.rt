@@ -5,9 +5,8 @@ ghost use Rattle.grok.specs.Errors.{error_value};
 ghost use Rattle.grok.specs.Items.{fault_view};
 ghost use Rattle.grok.specs.Measured.{Faulty};
 ghost use Rattle.grok.specs.Met.{measure_view};
-ghost use Rattle.grok_commands.specs.SizeTexts.{text_of_size};
 ghost use Rattle.grok_words.specs.Views.{request_view};
-ghost use Rattle.grok_commands.specs.Runs.{measured, IsFaulty};
+ghost use Rattle.grok_sizes.specs.SizeTexts.{text_of_size, measured, IsFaulty};
 ghost use Rattle.grok.specs.declared.errors.Error.{Error};
 
 use grok::{Fault, Measure};
@@ -38,7 +37,7 @@ pub fn write_measure<'a>(
 }
 
 /// Sends the size of the text that a pattern stands for, or answers its first fault.
-pub fn measure<W: Write>(
+pub fn measure_pattern<W: Write>(
     alloc: Global,
     request: &Request<'_>,
     output: &mut W,

@@ -4,9 +4,9 @@ use Rattle.std.specs.Io.KnownBytes.{Appends}
 use Rattle.std.proofs.lemmas.List.{drop_more}
 use Rattle.grok_words.specs.Commands.{texts}
 use Rattle.grok_words.specs.Library.{library_of}
-use Rattle.grok_commands.specs.SizeTexts.{IsCheckLine}
+use Rattle.grok_sizes.specs.SizeTexts.{IsCheckLine}
 use Rattle.grok_lines.proofs.Answering.{answered_start, answered_step}
-use Rattle.grok_commands.proofs.check.check.Goals as goal
+use Rattle.grok_sizes.proofs.check.check_definitions.Goals as goal
 
 pub names-init : goal.names-init
 names-init g c =
