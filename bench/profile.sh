@@ -21,7 +21,7 @@ by_owner() {
     awk -v lines="$lines" '
         { total += $1 }
         $2 ~ /^regex/ { engine += $1; next }
-        $2 ~ /^grok_(tool|commands|words|lines)/ { tool += $1; next }
+        $2 ~ /^grok_(tool|commands|sizes|words|lines)/ { tool += $1; next }
         $2 ~ /^grok/ { library += $1; next }
         { rest += $1 }
         END {
