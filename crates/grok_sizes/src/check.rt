@@ -53,7 +53,14 @@ fn write_line(
     write!(line, "{name}: {text}\n")
 }
 
-/// Sends the measure of each definition, in byte order of the names, each with a line feed by one `write_all`.
+/// Sends a line for each definition of the library, the ten too, in byte order of the names and
+/// each by one `write_all`: the name, `: `, and the size of `%{NAME}` as `measure` tells it, or the
+/// text of its error. A fault is a line as any other and ends nothing.
+///
+/// # Errors
+///
+/// - `Memory`, after the lines of some first names, each whole.
+/// - `Write` where the output failed, of which nothing more is said.
 pub fn check_definitions<W: Write>(
     alloc: Global,
     alias_only: bool,

@@ -36,7 +36,15 @@ pub fn write_measure<'a>(
     Ok(None)
 }
 
-/// Sends the size of the text that a pattern stands for, or answers its first fault.
+/// Sends the size of the text that the request's pattern stands for, with a line feed, by one
+/// `write_all`: its length in bytes, its groups, and how many levels of placeholders are nested; or
+/// `too long` where the length passes the greatest `usize`.
+///
+/// # Errors
+///
+/// - `Pattern` with the pattern's first structural fault. Nothing was written.
+/// - `Memory`, also before anything was written.
+/// - `Write` where the output failed, of which nothing more is said; the pattern had no fault.
 pub fn measure_pattern<W: Write>(
     alloc: Global,
     request: &Request<'_>,
