@@ -12,7 +12,7 @@ fn add_word(grok: &mut Grok, word: &str) -> Result<(), AllocError> {
 }
 
 /// The library of the words `NAME=TEXT`, which spaces separate.
-pub fn library(alloc: Global, words: &str) -> Result<Grok, AllocError> {
+pub(crate) fn library(alloc: Global, words: &str) -> Result<Grok, AllocError> {
     let mut grok = Grok::empty(alloc);
     for word in words.split(' ') {
         add_word(&mut grok, word)?;
@@ -45,7 +45,7 @@ fn add_inner_link(
 }
 
 /// Adds so many links, each named by the letter and its number from 1 on: each stands for the next one, and the one numbered `count` for `last`.
-pub fn add_chain(
+pub(crate) fn add_chain(
     alloc: Global,
     grok: &mut Grok,
     letter: &str,
@@ -59,7 +59,12 @@ pub fn add_chain(
 }
 
 /// The library of one chain of so many links.
-pub fn chain(alloc: Global, letter: &str, count: u32, last: &str) -> Result<Grok, AllocError> {
+pub(crate) fn chain(
+    alloc: Global,
+    letter: &str,
+    count: u32,
+    last: &str,
+) -> Result<Grok, AllocError> {
     let mut grok = Grok::empty(alloc);
     add_chain(alloc, &mut grok, letter, count, last)?;
     Ok(grok)
@@ -72,7 +77,7 @@ fn add_doubling(alloc: Global, grok: &mut Grok, below: u32) -> Result<(), AllocE
 }
 
 /// The library of the words, with D0, which stands for `a`, and D1 to D70, each of which stands for two of the one before.
-pub fn doublings(alloc: Global, words: &str) -> Result<Grok, AllocError> {
+pub(crate) fn doublings(alloc: Global, words: &str) -> Result<Grok, AllocError> {
     let mut grok = library(alloc, words)?;
     grok.add_pattern("D0", "a")?;
     for below in 0..70u32 {

@@ -61,19 +61,19 @@ pub struct Expansion<'a> {
 }
 
 impl Texts {
-    pub fn new(alloc: Global) -> Texts {
+    pub(crate) fn new(alloc: Global) -> Texts {
         Texts {
             pairs: Vec::new(alloc),
         }
     }
 
     /// Adds a name that isn't there yet.
-    pub fn add(&mut self, name: &'static str, text: String) -> Result<(), AllocError> {
+    pub(crate) fn add(&mut self, name: &'static str, text: String) -> Result<(), AllocError> {
         self.pairs.push((name, text))?;
         Ok(())
     }
 
-    pub fn pairs(&self) -> &[(&'static str, String)] {
+    pub(crate) fn pairs(&self) -> &[(&'static str, String)] {
         self.pairs.as_slice()
     }
 
@@ -124,28 +124,28 @@ impl<'a> Expansion<'a> {
         }
     }
 
-    pub fn with_alias_only(&self) -> bool {
+    pub(crate) fn with_alias_only(&self) -> bool {
         self.with_alias_only
     }
 
-    pub fn text(&self) -> &str {
+    pub(crate) fn text(&self) -> &str {
         self.text.as_str()
     }
 
     /// The keys of the recorded placeholders, in order.
-    pub fn keys(&self) -> &[String] {
+    pub(crate) fn keys(&self) -> &[String] {
         self.keys.as_slice()
     }
 
     /// The first key that was to be given twice.
-    pub fn clash(&self) -> Option<&str> {
+    pub(crate) fn clash(&self) -> Option<&str> {
         match &self.clash {
             Some(key) => Some(key.as_str()),
             None => None,
         }
     }
 
-    pub fn extract(&self, key: &str) -> Option<&'a str> {
+    pub(crate) fn extract(&self, key: &str) -> Option<&'a str> {
         self.extracts.get(key).copied()
     }
 
@@ -299,7 +299,7 @@ impl<'a> Expansion<'a> {
     }
 
     /// Expands a pattern.
-    pub fn of(
+    pub(crate) fn of(
         alloc: Global,
         texts: &'a Texts,
         pattern: &'a str,
@@ -311,7 +311,7 @@ impl<'a> Expansion<'a> {
     }
 
     /// How many pieces and how many ends the pattern and the stored texts have that were opened.
-    pub fn looks(&self, texts: &Texts, pattern: &str) -> Looks {
+    pub(crate) fn looks(&self, texts: &Texts, pattern: &str) -> Looks {
         let mut pieces = count_pieces(pattern);
         let mut ends = 1u64;
         for name in self.reached.iter() {
@@ -323,7 +323,7 @@ impl<'a> Expansion<'a> {
     }
 
     /// The measure of an expansion that came to an end.
-    pub fn measure(&self, ending: &Ending<'a>) -> Option<Measure<'a>> {
+    pub(crate) fn measure(&self, ending: &Ending<'a>) -> Option<Measure<'a>> {
         match ending {
             Ending::Over => Some(Measure::Size {
                 length: self.text.len(),

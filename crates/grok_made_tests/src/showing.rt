@@ -56,7 +56,10 @@ fn show_keys<E: Engine>(all: &mut String, pattern: &PatternOf<E>) -> Result<(), 
 }
 
 /// The text of a pattern, its keys, and its pairs on the line `q` with how many they are.
-pub fn shown<E: Engine>(alloc: Global, pattern: &PatternOf<E>) -> Result<String, AllocError> {
+pub(crate) fn shown<E: Engine>(
+    alloc: Global,
+    pattern: &PatternOf<E>,
+) -> Result<String, AllocError> {
     let mut all = String::from_str(alloc, pattern.text())?;
     show_keys(&mut all, pattern)?;
     all.push_str(" |")?;
