@@ -27,7 +27,7 @@ time_once() {
     took=$((end - start))
 }
 
-# The microseconds that grok_bench tells of a step of its last run: `told STEP`.
+# The microseconds that grok_calls tells of a step of its last run: `told STEP`.
 told() {
     sed -n "s/^$1 \([0-9]*\) us\$/\1/p" "$room/complaint"
 }

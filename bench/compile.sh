@@ -4,7 +4,7 @@
 #   bench/compile.sh [COUNT..]
 set -euo pipefail
 source "$(dirname "$0")/common.sh"
-grok_bench=$(program grok_bench)
+grok_calls=$(program grok_calls)
 rounds=3
 [ $# -gt 0 ] || set -- 10 100 1000
 
@@ -23,7 +23,7 @@ for count in "$@"; do
     wide "$count" >"$room/library"
     compiling='' measuring=''
     for ((round = 0; round < rounds; round++)); do
-        time_once "$room/library" "$room/answer" "$grok_bench" compile '%{TOP}'
+        time_once "$room/library" "$room/answer" "$grok_calls" timed compile '%{TOP}'
         compiling=$(least "$compiling" "$(told compile)") measuring=$(least "$measuring" "$(told measure)")
     done
     echo "| $count | $(ratio "$compiling" 1000) | $(ratio "$measuring" 1000) | $(ratio "$compiling" "$before")" \

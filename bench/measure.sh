@@ -5,7 +5,7 @@
 #   bench/measure.sh [COUNT..]        1000 10000 100000 where no number is given
 set -euo pipefail
 source "$(dirname "$0")/common.sh"
-grok_bench=$(program grok_bench)
+grok_calls=$(program grok_calls)
 grok_tool=$(program grok_tool)
 rounds=3
 [ $# -gt 0 ] || set -- 1000 10000 100000
@@ -15,15 +15,15 @@ measure_library() {
     local adding='' measuring='' pieces floor memory
     "$root/bench/make_library" "$1" "$2" >"$room/library"
     for ((round = 0; round < rounds; round++)); do
-        time_once "$room/library" "$room/answer" "$grok_bench" measure '%{TOP}'
+        time_once "$room/library" "$room/answer" "$grok_calls" timed measure '%{TOP}'
         adding=$(least "$adding" "$(told add)") measuring=$(least "$measuring" "$(told measure)")
     done
-    pieces=$(sed -n 's/.*pieces \([0-9]*\).*/\1/p' "$room/answer")
+    pieces=$(sed -n 's/.*pieces: \([0-9]*\).*/\1/p' "$room/answer")
     # The lines themselves are read whole in both runs.
-    floor=$(peak "$room/library" "$grok_bench" split)
-    memory=$((($(peak "$room/library" "$grok_bench" measure "%{TOP}") - floor) * 1024 / $2))
+    floor=$(peak "$room/library" "$grok_calls" timed split)
+    memory=$((($(peak "$room/library" "$grok_calls" timed measure "%{TOP}") - floor) * 1024 / $2))
     echo "| $1 | $2 | $(stat -c %s "$room/library") | $(ratio "$adding" 1000) | $(ratio "$measuring" 1000) | $pieces" \
-        "| $(ratio "$((measuring * 1000))" "$pieces" 0) | $memory | $(sed 's/ pieces.*//' "$room/answer") |"
+        "| $(ratio "$((measuring * 1000))" "$pieces" 0) | $memory | $(sed 's/ Looks.*//' "$room/answer") |"
 }
 
 # The row of a check of 1000 definitions: `check_library SHAPE`.

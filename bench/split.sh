@@ -1,11 +1,11 @@
 #!/usr/bin/env bash
 # How fast a text is split into its pieces, beside `grep -c '%{'` on the same text. Time should grow with the length
-# alone. A program's words are too short for such a text, so it goes through standard input of grok_bench.
+# alone. A program's words are too short for such a text, so it goes through standard input of grok_calls.
 #
 #   bench/split.sh [MEGABYTES..]        1 10 100 where no number is given
 set -euo pipefail
 source "$(dirname "$0")/common.sh"
-grok_bench=$(program grok_bench)
+grok_calls=$(program grok_calls)
 rounds=3
 [ $# -gt 0 ] || set -- 1 10 100
 
@@ -18,7 +18,7 @@ for megabytes in "$@"; do
     bytes=$(stat -c %s "$room/text")
     alone='' whole='' grep=''
     for ((round = 0; round < rounds; round++)); do
-        time_once "$room/text" "$room/pieces" "$grok_bench" split
+        time_once "$room/text" "$room/pieces" "$grok_calls" timed split
         alone=$(least "$alone" "$(told split)") whole=$(least "$whole" "$took")
         time_once "$room/text" "$room/count" grep -c '%{'
         grep=$(least "$grep" "$took")

@@ -1,4 +1,5 @@
-//! Tests of what `grok` measures and compiles, and of its errors for patterns, as tables.
+//! Tests of what becomes of a text on its way to a pattern: its pieces, its size, the compiled text with its keys and
+//! extracts, and each error. Long chains and hostile libraries of definitions are among them.
 #![tactic(auto)]
 
 #[cfg(test)]
@@ -6,6 +7,12 @@ mod compiling;
 #[cfg(test)]
 mod deep;
 #[cfg(test)]
+mod definitions;
+#[cfg(test)]
+mod errors;
+#[cfg(test)]
 mod libraries;
 #[cfg(test)]
 mod measure;
+#[cfg(test)]
+mod pieces;

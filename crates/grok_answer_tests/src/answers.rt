@@ -209,323 +209,322 @@ fn check_rows(rt: &(impl Abort + AllocGlobal), rows: &[Row]) -> Result<(), Fail>
     Ok(())
 }
 
+/// Answers of patterns over a few definitions and the ten.
+const ANSWERS: [Row; 25] = [
+    (
+        &[("A", "a"), ("B", "%{A}%{A}")],
+        "%{B}",
+        false,
+        "A A[1] B",
+        &[
+            ("aa", "A=a, A[1]=a, B=aa"),
+            ("baaa", "A=a, A[1]=a, B=aa"),
+            ("a", "no match"),
+            ("", "no match"),
+        ],
+    ),
+    (
+        &[],
+        "%{W=a}%{W=b}%{W}",
+        false,
+        "W W[1] W[2]",
+        &[("abb", "W=a, W[1]=b, W[2]=b")],
+    ),
+    (
+        &[("W", "w")],
+        "%{W}%{W=a}%{W}",
+        false,
+        "W W[1] W[2]",
+        &[("waa", "W=w, W[1]=a, W[2]=a")],
+    ),
+    (&[], "%{W:k=a}%{W}", true, "k", &[("aa", "k=a")]),
+    // In brackets a placeholder has no group, and its number may be another group's name.
+    (
+        &[("A", "a")],
+        "[%{A}]",
+        false,
+        "",
+        &[("a", ""), ("z", "no match")],
+    ),
+    (
+        &[("A", "a")],
+        "[%{A}](?<_n_0>b)",
+        false,
+        "A",
+        &[("ab", "A=b")],
+    ),
+    // The last group of a key counts, also where it takes no part.
+    (
+        &[("A", "a")],
+        "(?:%{A:x}|b(?<x>c))",
+        false,
+        "x",
+        &[("a", ""), ("bc", "x=c")],
+    ),
+    (
+        &[("A", "a")],
+        "%{A:x[1]}%{A:x[1]}",
+        false,
+        "x[1] x[1][1]",
+        &[("aa", "x[1]=a, x[1][1]=a")],
+    ),
+    (
+        &[("INT", "(?:[+-]?(?:[0-9]+))")],
+        "%{INT}{1,3}",
+        false,
+        "INT",
+        &[("+1+2+3", "INT=+3")],
+    ),
+    (
+        &[("GREEDYDATA", ".*")],
+        r"(?<capture>\w+) %{GREEDYDATA:capture}",
+        true,
+        "capture",
+        &[("word1 word2", "capture=word2")],
+    ),
+    (&[("E", "")], "%{E}", false, "E", &[("", "E="), ("q", "E=")]),
+    (&[("E", "")], "%{E}", true, "", &[("", ""), ("q", "")]),
+    (
+        &[],
+        "(?<k>x*)",
+        false,
+        "k",
+        &[("", "k="), ("xxy", "k=xx"), ("y", "k=")],
+    ),
+    (
+        &[],
+        r"(?<k>[a-z]\s?)",
+        false,
+        "k",
+        &[("p\r", "k=p\r"), ("é", "no match")],
+    ),
+    (&[], "(?<q>.*)", true, "q", &[("a\"b", "q=a\"b")]),
+    // Names that look as the generated ones do.
+    (&[], "(?<_n_0>b)", false, "_n_0", &[("b", "_n_0=b")]),
+    (
+        &[("A", "a")],
+        "(?<_n_1>b)%{A}",
+        false,
+        "A _n_1",
+        &[("ba", "A=a, _n_1=b")],
+    ),
+    (
+        &[("A", "a")],
+        "(?<_n_01>b)%{A}",
+        false,
+        "A _n_01",
+        &[("ba", "A=a, _n_01=b")],
+    ),
+    (
+        &[("A", "a")],
+        "é%{A}",
+        false,
+        "A",
+        &[("éa", "A=a"), ("a", "no match")],
+    ),
+    // A percent sign that stands for itself.
+    (
+        &[],
+        "(?<p>(%){2})",
+        false,
+        "p",
+        &[("100%%", "p=%%"), ("100%", "no match")],
+    ),
+    (
+        &[],
+        "(?<p>(?:%){2})",
+        false,
+        "p",
+        &[("100%%", "p=%%"), ("100%", "no match")],
+    ),
+    (
+        &[],
+        r"(?<p>\x25{2})",
+        false,
+        "p",
+        &[("100%%", "p=%%"), ("100%", "no match")],
+    ),
+    (&[], "100%", false, "", &[("100%", ""), ("100", "no match")]),
+    (
+        &[],
+        "%{MAC}",
+        false,
+        "CISCOMAC COMMONMAC MAC WINDOWSMAC",
+        &[
+            (
+                "5E:FF:56:A2:AF:15",
+                "COMMONMAC=5E:FF:56:A2:AF:15, MAC=5E:FF:56:A2:AF:15",
+            ),
+            (
+                "5EFF.56A2.AF15",
+                "CISCOMAC=5EFF.56A2.AF15, MAC=5EFF.56A2.AF15",
+            ),
+            (
+                "5E-FF-56-A2-AF-15",
+                "MAC=5E-FF-56-A2-AF-15, WINDOWSMAC=5E-FF-56-A2-AF-15",
+            ),
+            ("5E:FF", "no match"),
+        ],
+    ),
+    (
+        &[],
+        "%{USERNAME}",
+        false,
+        "USERNAME",
+        &[("john doe", "USERNAME=john"), ("###", "no match")],
+    ),
+];
+
 #[test]
 fn answers_to_lines(rt: HostRuntime) -> Result<(), Fail> {
-    check_rows(
-        &rt,
-        &[
-            (
-                &[("A", "a"), ("B", "%{A}%{A}")],
-                "%{B}",
-                false,
-                "A A[1] B",
-                &[
-                    ("aa", "A=a, A[1]=a, B=aa"),
-                    ("baaa", "A=a, A[1]=a, B=aa"),
-                    ("a", "no match"),
-                    ("", "no match"),
-                ],
-            ),
-            (
-                &[],
-                "%{W=a}%{W=b}%{W}",
-                false,
-                "W W[1] W[2]",
-                &[("abb", "W=a, W[1]=b, W[2]=b")],
-            ),
-            (
-                &[("W", "w")],
-                "%{W}%{W=a}%{W}",
-                false,
-                "W W[1] W[2]",
-                &[("waa", "W=w, W[1]=a, W[2]=a")],
-            ),
-            (&[], "%{W:k=a}%{W}", true, "k", &[("aa", "k=a")]),
-            // In brackets a placeholder has no group, and its number may be another group's name.
-            (
-                &[("A", "a")],
-                "[%{A}]",
-                false,
-                "",
-                &[("a", ""), ("z", "no match")],
-            ),
-            (
-                &[("A", "a")],
-                "[%{A}](?<_n_0>b)",
-                false,
-                "A",
-                &[("ab", "A=b")],
-            ),
-            // The last group of a key counts, also where it takes no part.
-            (
-                &[("A", "a")],
-                "(?:%{A:x}|b(?<x>c))",
-                false,
-                "x",
-                &[("a", ""), ("bc", "x=c")],
-            ),
-            (
-                &[("A", "a")],
-                "%{A:x[1]}%{A:x[1]}",
-                false,
-                "x[1] x[1][1]",
-                &[("aa", "x[1]=a, x[1][1]=a")],
-            ),
-            (
-                &[("INT", "(?:[+-]?(?:[0-9]+))")],
-                "%{INT}{1,3}",
-                false,
-                "INT",
-                &[("+1+2+3", "INT=+3")],
-            ),
-            (
-                &[("GREEDYDATA", ".*")],
-                r"(?<capture>\w+) %{GREEDYDATA:capture}",
-                true,
-                "capture",
-                &[("word1 word2", "capture=word2")],
-            ),
-            (&[("E", "")], "%{E}", false, "E", &[("", "E="), ("q", "E=")]),
-            (&[("E", "")], "%{E}", true, "", &[("", ""), ("q", "")]),
-            (
-                &[],
-                "(?<k>x*)",
-                false,
-                "k",
-                &[("", "k="), ("xxy", "k=xx"), ("y", "k=")],
-            ),
-            (
-                &[],
-                r"(?<k>[a-z]\s?)",
-                false,
-                "k",
-                &[("p\r", "k=p\r"), ("é", "no match")],
-            ),
-            (&[], "(?<q>.*)", true, "q", &[("a\"b", "q=a\"b")]),
-            // Names that look as the generated ones do.
-            (&[], "(?<_n_0>b)", false, "_n_0", &[("b", "_n_0=b")]),
-            (
-                &[("A", "a")],
-                "(?<_n_1>b)%{A}",
-                false,
-                "A _n_1",
-                &[("ba", "A=a, _n_1=b")],
-            ),
-            (
-                &[("A", "a")],
-                "(?<_n_01>b)%{A}",
-                false,
-                "A _n_01",
-                &[("ba", "A=a, _n_01=b")],
-            ),
-            (
-                &[("A", "a")],
-                "é%{A}",
-                false,
-                "A",
-                &[("éa", "A=a"), ("a", "no match")],
-            ),
-            // A percent sign that stands for itself.
-            (
-                &[],
-                "(?<p>(%){2})",
-                false,
-                "p",
-                &[("100%%", "p=%%"), ("100%", "no match")],
-            ),
-            (
-                &[],
-                "(?<p>(?:%){2})",
-                false,
-                "p",
-                &[("100%%", "p=%%"), ("100%", "no match")],
-            ),
-            (
-                &[],
-                r"(?<p>\x25{2})",
-                false,
-                "p",
-                &[("100%%", "p=%%"), ("100%", "no match")],
-            ),
-            (&[], "100%", false, "", &[("100%", ""), ("100", "no match")]),
-            (
-                &[],
-                "%{MAC}",
-                false,
-                "CISCOMAC COMMONMAC MAC WINDOWSMAC",
-                &[
-                    (
-                        "5E:FF:56:A2:AF:15",
-                        "COMMONMAC=5E:FF:56:A2:AF:15, MAC=5E:FF:56:A2:AF:15",
-                    ),
-                    (
-                        "5EFF.56A2.AF15",
-                        "CISCOMAC=5EFF.56A2.AF15, MAC=5EFF.56A2.AF15",
-                    ),
-                    (
-                        "5E-FF-56-A2-AF-15",
-                        "MAC=5E-FF-56-A2-AF-15, WINDOWSMAC=5E-FF-56-A2-AF-15",
-                    ),
-                    ("5E:FF", "no match"),
-                ],
-            ),
-            (
-                &[],
-                "%{USERNAME}",
-                false,
-                "USERNAME",
-                &[("john doe", "USERNAME=john"), ("###", "no match")],
-            ),
-        ],
-    )
+    check_rows(&rt, &ANSWERS)
 }
 
-/// The crate's own tests, each by its name.
-#[test]
-fn tests_of_the_crate(rt: HostRuntime) -> Result<(), Fail> {
-    check_rows(
-        &rt,
+/// What the crate's own tests ask, each by its name.
+const ANSWERS_OF_THE_CRATE: [Row; 13] = [
+    // test_simple_anonymous_pattern, test_from_iter, test_from
+    (
+        &[],
+        "%{USERNAME}",
+        false,
+        "USERNAME",
+        &[("root", "USERNAME=root"), ("john doe", "USERNAME=john")],
+    ),
+    // test_simple_named_pattern
+    (
+        &[],
+        "%{USERNAME:usr}",
+        false,
+        "usr",
+        &[("root", "usr=root"), ("john doe", "usr=john")],
+    ),
+    // test_alias_anonymous_pattern
+    (
+        &[],
+        "%{USER}",
+        false,
+        "USER USERNAME",
         &[
-            // test_simple_anonymous_pattern, test_from_iter, test_from
+            ("root", "USER=root, USERNAME=root"),
+            ("john doe", "USER=john, USERNAME=john"),
+        ],
+    ),
+    // test_alias_named_pattern
+    (
+        &[],
+        "%{USER:usr}",
+        false,
+        "USERNAME usr",
+        &[
+            ("root", "USERNAME=root, usr=root"),
+            ("john doe", "USERNAME=john, usr=john"),
+        ],
+    ),
+    // test_composite_or_pattern
+    (
+        &[],
+        "%{MAC}",
+        false,
+        "CISCOMAC COMMONMAC MAC WINDOWSMAC",
+        &[
             (
-                &[],
-                "%{USERNAME}",
-                false,
-                "USERNAME",
-                &[("root", "USERNAME=root"), ("john doe", "USERNAME=john")],
-            ),
-            // test_simple_named_pattern
-            (
-                &[],
-                "%{USERNAME:usr}",
-                false,
-                "usr",
-                &[("root", "usr=root"), ("john doe", "usr=john")],
-            ),
-            // test_alias_anonymous_pattern
-            (
-                &[],
-                "%{USER}",
-                false,
-                "USER USERNAME",
-                &[
-                    ("root", "USER=root, USERNAME=root"),
-                    ("john doe", "USER=john, USERNAME=john"),
-                ],
-            ),
-            // test_alias_named_pattern
-            (
-                &[],
-                "%{USER:usr}",
-                false,
-                "USERNAME usr",
-                &[
-                    ("root", "USERNAME=root, usr=root"),
-                    ("john doe", "USERNAME=john, usr=john"),
-                ],
-            ),
-            // test_composite_or_pattern
-            (
-                &[],
-                "%{MAC}",
-                false,
-                "CISCOMAC COMMONMAC MAC WINDOWSMAC",
-                &[
-                    (
-                        "5E:FF:56:A2:AF:15",
-                        "COMMONMAC=5E:FF:56:A2:AF:15, MAC=5E:FF:56:A2:AF:15",
-                    ),
-                    (
-                        "hello! 5E:FF:56:A2:AF:15 what?",
-                        "COMMONMAC=5E:FF:56:A2:AF:15, MAC=5E:FF:56:A2:AF:15",
-                    ),
-                    ("5E:FF", "no match"),
-                ],
-            ),
-            // test_with_alias_only
-            (
-                &[],
-                "%{MAC:macaddr}",
-                true,
-                "macaddr",
-                &[
-                    ("5E:FF:56:A2:AF:15", "macaddr=5E:FF:56:A2:AF:15"),
-                    (
-                        "hello! 5E:FF:56:A2:AF:15 what?",
-                        "macaddr=5E:FF:56:A2:AF:15",
-                    ),
-                    ("5E:FF", "no match"),
-                ],
-            ),
-            // test_multiple_patterns
-            (
-                &[],
-                "%{DAY} %{MONTH} %{YEAR}",
-                false,
-                "DAY MONTH YEAR",
-                &[
-                    ("Monday March 2012", "DAY=Monday, MONTH=March, YEAR=2012"),
-                    ("Monday", "no match"),
-                ],
-            ),
-            // test_match_iterator, test_matches_into_iter
-            (
-                &[],
-                "%{DAY:day} %{MONTH:month} %{YEAR:year}%{SPACE}%{USERNAME:user}?",
-                true,
-                "day month user year",
-                &[
-                    (
-                        "Monday March 2012 user",
-                        "day=Monday, month=March, user=user, year=2012",
-                    ),
-                    (
-                        "Monday March 2012 username",
-                        "day=Monday, month=March, user=username, year=2012",
-                    ),
-                ],
-            ),
-            // test_adhoc_pattern, test_adhoc_pattern_in_iter
-            (
-                &[],
-                r"\[(?<threadname>[^\]]+)\]",
-                false,
-                "threadname",
-                &[("[thread1]", "threadname=thread1")],
-            ),
-            // test_pattern_with_definition
-            (
-                &[],
-                r"%{NEW_PATTERN:first=\w+} %{NEW_PATTERN:second}",
-                false,
-                "first second",
-                &[("word1 word2", "first=word1, second=word2")],
-            ),
-            // test_capture_names
-            (
-                &[],
-                "%{YEAR}%{SPACE}%{USERNAME:user}?",
-                false,
-                "SPACE YEAR user",
-                &[],
-            ),
-            // test_capture_names_with_type
-            (
-                &[("USER", "%{USERNAME::text}")],
-                "%{USER:usr:text}",
-                true,
-                "usr",
-                &[("root", "usr=root")],
+                "5E:FF:56:A2:AF:15",
+                "COMMONMAC=5E:FF:56:A2:AF:15, MAC=5E:FF:56:A2:AF:15",
             ),
             (
-                &[("USER", "%{USERNAME::text}")],
-                "%{USER:usr:text}",
-                false,
-                "USERNAME usr",
-                &[],
+                "hello! 5E:FF:56:A2:AF:15 what?",
+                "COMMONMAC=5E:FF:56:A2:AF:15, MAC=5E:FF:56:A2:AF:15",
+            ),
+            ("5E:FF", "no match"),
+        ],
+    ),
+    // test_with_alias_only
+    (
+        &[],
+        "%{MAC:macaddr}",
+        true,
+        "macaddr",
+        &[
+            ("5E:FF:56:A2:AF:15", "macaddr=5E:FF:56:A2:AF:15"),
+            (
+                "hello! 5E:FF:56:A2:AF:15 what?",
+                "macaddr=5E:FF:56:A2:AF:15",
+            ),
+            ("5E:FF", "no match"),
+        ],
+    ),
+    // test_multiple_patterns
+    (
+        &[],
+        "%{DAY} %{MONTH} %{YEAR}",
+        false,
+        "DAY MONTH YEAR",
+        &[
+            ("Monday March 2012", "DAY=Monday, MONTH=March, YEAR=2012"),
+            ("Monday", "no match"),
+        ],
+    ),
+    // test_match_iterator, test_matches_into_iter
+    (
+        &[],
+        "%{DAY:day} %{MONTH:month} %{YEAR:year}%{SPACE}%{USERNAME:user}?",
+        true,
+        "day month user year",
+        &[
+            (
+                "Monday March 2012 user",
+                "day=Monday, month=March, user=user, year=2012",
+            ),
+            (
+                "Monday March 2012 username",
+                "day=Monday, month=March, user=username, year=2012",
             ),
         ],
-    )
+    ),
+    // test_adhoc_pattern, test_adhoc_pattern_in_iter
+    (
+        &[],
+        r"\[(?<threadname>[^\]]+)\]",
+        false,
+        "threadname",
+        &[("[thread1]", "threadname=thread1")],
+    ),
+    // test_pattern_with_definition
+    (
+        &[],
+        r"%{NEW_PATTERN:first=\w+} %{NEW_PATTERN:second}",
+        false,
+        "first second",
+        &[("word1 word2", "first=word1, second=word2")],
+    ),
+    // test_capture_names
+    (
+        &[],
+        "%{YEAR}%{SPACE}%{USERNAME:user}?",
+        false,
+        "SPACE YEAR user",
+        &[],
+    ),
+    // test_capture_names_with_type
+    (
+        &[("USER", "%{USERNAME::text}")],
+        "%{USER:usr:text}",
+        true,
+        "usr",
+        &[("root", "usr=root")],
+    ),
+    (
+        &[("USER", "%{USERNAME::text}")],
+        "%{USER:usr:text}",
+        false,
+        "USERNAME usr",
+        &[],
+    ),
+];
+
+#[test]
+fn tests_of_the_crate(rt: HostRuntime) -> Result<(), Fail> {
+    check_rows(&rt, &ANSWERS_OF_THE_CRATE)
 }
 
 /// The values of a match of `%{B}`, by key.
@@ -596,28 +595,31 @@ fn check_extract(
     Ok(())
 }
 
+/// A pattern, whether only aliases count, a key, and its extract.
+const EXTRACTS: [(&str, bool, &str, Option<&str>); 14] = [
+    ("%{USER:usr:text}", true, "usr", Some("text")),
+    ("%{USER:usr:text}", true, "USERNAME", None),
+    ("%{USER:usr:text}", true, "USER", None),
+    ("%{USER:usr:text}", true, "doesn't exist", None),
+    ("%{USER:usr:text}", false, "usr", Some("text")),
+    ("%{USER:usr:text}", false, "USERNAME", Some("text")),
+    ("%{USER:usr:text}", false, "USER", None),
+    ("[%{A::t}]", false, "A", Some("t")),
+    ("%{P:x=a}%{P:x:int=b}", false, "x", None),
+    ("%{P:x=a}%{P:x:int=b}", false, "x[1]", Some("int")),
+    ("%{P:x:[-.]=a}", false, "x", Some("[-.]")),
+    ("%{P::int=a}", true, "P", None),
+    ("%{P::int=a}", false, "P", Some("int")),
+    // A group written by hand has no extract.
+    ("%{A:x:int}(?<y>b)", false, "y", None),
+];
+
 /// Extracts by key, whether or not the key has a group.
 #[test]
 fn kept_extracts(rt: HostRuntime) -> Result<(), Fail> {
     let definitions = &[("A", "a"), ("USER", "%{USERNAME::text}")];
     let grok = library(rt.alloc(), definitions)?;
-    for (text, with_alias_only, key, expected) in [
-        ("%{USER:usr:text}", true, "usr", Some("text")),
-        ("%{USER:usr:text}", true, "USERNAME", None),
-        ("%{USER:usr:text}", true, "USER", None),
-        ("%{USER:usr:text}", true, "doesn't exist", None),
-        ("%{USER:usr:text}", false, "usr", Some("text")),
-        ("%{USER:usr:text}", false, "USERNAME", Some("text")),
-        ("%{USER:usr:text}", false, "USER", None),
-        ("[%{A::t}]", false, "A", Some("t")),
-        ("%{P:x=a}%{P:x:int=b}", false, "x", None),
-        ("%{P:x=a}%{P:x:int=b}", false, "x[1]", Some("int")),
-        ("%{P:x:[-.]=a}", false, "x", Some("[-.]")),
-        ("%{P::int=a}", true, "P", None),
-        ("%{P::int=a}", false, "P", Some("int")),
-        // A group written by hand has no extract.
-        ("%{A:x:int}(?<y>b)", false, "y", None),
-    ] {
+    for (text, with_alias_only, key, expected) in EXTRACTS {
         check_extract(&rt, &grok, text, with_alias_only, key, expected)?;
     }
     Ok(())

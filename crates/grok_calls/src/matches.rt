@@ -1,7 +1,7 @@
 //! Matches of the pattern `%{MAC}` over the ten definitions, and the calls on them.
 use crate::LABELS;
 use anyhow::{Result, bail};
-use grok::{Grok, LineMatcher, Matches, Pattern, PatternOf};
+use grok::{Engine, Grok, LineMatcher, Matches, Pattern, PatternOf};
 use grok_engines::Bare;
 use std::alloc::AllocError;
 
@@ -45,15 +45,10 @@ fn call_on_matches(rt: &HostRuntime, name: &str, matches: &Matches) -> Result<()
 
 fn match_bare(rt: &HostRuntime, grok: &Grok) -> Result<()> {
     let pattern = grok.compile_with::<Bare>("%{MAC}", false)?;
-    match_bare_line(rt, &pattern)
+    match_against(rt, &pattern, "q")
 }
 
-fn match_bare_line(rt: &HostRuntime, pattern: &PatternOf<Bare>) -> Result<()> {
-    twice!(rt, pattern.match_against("q"));
-    Ok(())
-}
-
-fn match_against(rt: &HostRuntime, pattern: &Pattern, line: &str) -> Result<()> {
+fn match_against<E: Engine>(rt: &HostRuntime, pattern: &PatternOf<E>, line: &str) -> Result<()> {
     twice!(rt, pattern.match_against(line));
     Ok(())
 }

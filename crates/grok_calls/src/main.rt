@@ -1,5 +1,7 @@
-//! Makes one call of the library, the one that the words name, and makes it again. `tests/refusals/run` refuses it each
-//! request for memory in turn. The first call stands between the lines `[call` and `[done` on standard error, so that no
+//! Makes one call of the library, the one that the words name.
+//!
+//! `timed` calls are what `bench/` times. Each other call is made twice, for `tests/refusals/run`, which refuses the first
+//! one each request for memory in turn. It stands between the lines `[call` and `[done` on standard error, so that no
 //! request of the preparations is counted; standard output has the answers.
 #![tactic(auto)]
 
@@ -23,6 +25,7 @@ mod errors;
 mod matches;
 mod measures;
 mod pieces;
+mod timed;
 
 use anyhow::{Result, bail};
 use std::{env, fmt};
@@ -43,7 +46,7 @@ fn read_words(rt: &HostRuntime) -> Result<Vec<String>> {
     Ok(words)
 }
 
-/// Makes the call of this name, of those of a group.
+/// Makes the call of this name, of those of a group, and makes it again.
 fn make_call(rt: &HostRuntime, group: &str, name: &str) -> Result<()> {
     match group {
         "pieces" => pieces::call(rt, name),
@@ -61,8 +64,10 @@ fn main(rt: HostRuntime) -> Result<()> {
     let words = read_words(&rt)?;
     let group = words.first().map(|word| word.as_str());
     let name = words.get(1).map(|word| word.as_str());
+    let pattern = words.get(2).map(|word| word.as_str());
     match (group, name) {
+        (Some("timed"), Some(name)) => timed::call(&rt, name, pattern),
         (Some(group), Some(name)) => make_call(&rt, group, name),
-        _ => bail!("usage: grok_refusals CALLS CALL"),
+        _ => bail!("usage: grok_calls CALLS CALL | grok_calls timed CALL [PATTERN] < TEXT"),
     }
 }

@@ -1,0 +1,94 @@
+//! Calls on texts that are too long for a program's words, timed. Standard output has the answer, the same in each run,
+//! and standard error the microseconds.
+mod split;
+
+use anyhow::{Result, bail};
+use grok::{Grok, Pattern};
+use std::alloc::Global;
+use std::io;
+use std::time::Instant;
+
+/// Times a call. Standard input has the pattern to split, or the definitions that the pattern is measured and compiled
+/// over.
+pub(crate) fn call(rt: &HostRuntime, name: &str, pattern: Option<&str>) -> Result<()> {
+    match (name, pattern) {
+        ("split", None) => time_split(rt),
+        ("measure", Some(pattern)) => {
+            let grok = time_library(rt)?;
+            time_measure(rt, &grok, pattern)
+        }
+        ("compile", Some(pattern)) => {
+            let grok = time_library(rt)?;
+            time_measure(rt, &grok, pattern)?;
+            time_compile(rt, &grok, pattern)
+        }
+        _ => bail!("no timed call has this name and so many words"),
+    }
+}
+
+/// Tells how long a step took that began then.
+fn tell(rt: &HostRuntime, step: &str, start: &Instant) -> Result<()> {
+    let time = start.elapsed(rt)?.as_micros();
+    eprintln!(rt; "{step} {time} us")?;
+    Ok(())
+}
+
+/// Counts the pieces of the pattern that stands on standard input.
+fn time_split(rt: &HostRuntime) -> Result<()> {
+    let text = io::read_to_string(rt.alloc(), rt.stdin())?;
+    let start = Instant::now(rt)?;
+    let pieces = split::count(text.as_str());
+    tell(rt, "split", &start)?;
+    println!(rt; "{pieces}")?;
+    Ok(())
+}
+
+/// The library of these lines, `NAME=DEF` each. A later one of a name replaces an earlier one.
+fn library(alloc: Global, lines: &str) -> Result<Grok> {
+    let mut grok = Grok::empty(alloc);
+    for line in lines.lines() {
+        let Some((name, definition)) = line.split_once("=") else {
+            bail!("a line without `=`");
+        };
+        grok.add_pattern(name, definition)?;
+    }
+    Ok(grok)
+}
+
+/// Reads a library from standard input and adds its definitions.
+fn time_library(rt: &HostRuntime) -> Result<Grok> {
+    let lines = io::read_to_string(rt.alloc(), rt.stdin())?;
+    let start = Instant::now(rt)?;
+    let grok = library(rt.alloc(), lines.as_str())?;
+    tell(rt, "add", &start)?;
+    Ok(grok)
+}
+
+/// Measures a pattern, and counts the looks that it took.
+fn time_measure(rt: &HostRuntime, grok: &Grok, pattern: &str) -> Result<()> {
+    let start = Instant::now(rt)?;
+    let (measure, looks) = grok.measure_counted(pattern, false)?;
+    tell(rt, "measure", &start)?;
+    println!(rt; "{measure:?} {looks:?}")?;
+    Ok(())
+}
+
+/// Tells how long a pattern's text is, and how many keys it has.
+fn show_pattern(rt: &HostRuntime, pattern: &Pattern) -> Result<()> {
+    let length = pattern.text().len();
+    let keys = pattern.capture_names().count();
+    println!(rt; "text {length} keys {keys}")?;
+    Ok(())
+}
+
+/// Compiles a pattern.
+fn time_compile(rt: &HostRuntime, grok: &Grok, pattern: &str) -> Result<()> {
+    let start = Instant::now(rt)?;
+    let answer = grok.compile(pattern, false);
+    tell(rt, "compile", &start)?;
+    match answer {
+        Ok(pattern) => show_pattern(rt, &pattern)?,
+        Err(error) => println!(rt; "{error}")?,
+    }
+    Ok(())
+}
