@@ -21,7 +21,7 @@ pub struct Case {
 
 impl Case {
     /// The reads of a run that is right, where a run had so many: at least one, or none.
-    pub fn wanted_reads(&self, reads: usize) -> usize {
+    pub(crate) fn wanted_reads(&self, reads: usize) -> usize {
         if self.reads { reads.max(1) } else { 0 }
     }
 }
@@ -61,7 +61,7 @@ pub const CASES: [Case; 5] = [
 ];
 
 /// Runs a case on these devices: it succeeds, writes its output, flushes once, and reads all of its input or none.
-pub fn check_run<'a>(
+pub(crate) fn check_run<'a>(
     rt: &(impl Abort + AllocGlobal),
     case: &Case,
     reader: FakeReader<'a>,

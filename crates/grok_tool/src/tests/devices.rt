@@ -28,7 +28,7 @@ pub struct FakeReader<'a> {
 
 impl<'a> FakeReader<'a> {
     /// A reader that gives as much as is asked for, and works.
-    pub fn new(left: &'a [u8]) -> FakeReader<'a> {
+    pub(crate) fn new(left: &'a [u8]) -> FakeReader<'a> {
         FakeReader {
             left,
             most: usize::MAX,
@@ -65,7 +65,7 @@ pub struct FakeWriter {
 
 impl FakeWriter {
     /// A writer that takes whatever comes, and works.
-    pub fn new(alloc: Global) -> FakeWriter {
+    pub(crate) fn new(alloc: Global) -> FakeWriter {
         FakeWriter {
             taken: Vec::new(alloc),
             most: usize::MAX,

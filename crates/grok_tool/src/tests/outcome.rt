@@ -27,7 +27,11 @@ pub struct Outcome<'a> {
 }
 
 /// The outcome of a run that ended so and left the devices so.
-pub fn outcome_at<'a>(ending: Ending, reader: &FakeReader<'a>, writer: &FakeWriter) -> Outcome<'a> {
+pub(crate) fn outcome_at<'a>(
+    ending: Ending,
+    reader: &FakeReader<'a>,
+    writer: &FakeWriter,
+) -> Outcome<'a> {
     Outcome {
         ending,
         left: reader.left,
@@ -50,7 +54,7 @@ fn ending_at(fault: &ToolFault) -> Ending {
 }
 
 /// Runs the words on these devices.
-pub fn ending_of(
+pub(crate) fn ending_of(
     alloc: Global,
     words: &[&str],
     reader: &mut FakeReader<'_>,
@@ -63,7 +67,7 @@ pub fn ending_of(
 }
 
 /// Runs the words on these devices, and gives the outcome. What the writer took is a beginning of `whole`.
-pub fn outcome_of<'a>(
+pub(crate) fn outcome_of<'a>(
     rt: &(impl Abort + AllocGlobal),
     words: &[&str],
     mut reader: FakeReader<'a>,
@@ -102,7 +106,7 @@ fn words_of_pattern(
 }
 
 /// Runs words whose pattern is at fault: the fault says what is wanted, and comes before a device is called.
-pub fn check_pattern_fault(
+pub(crate) fn check_pattern_fault(
     rt: &(impl Abort + AllocGlobal),
     words: &[&str],
     input: &[u8],
@@ -118,7 +122,7 @@ pub fn check_pattern_fault(
 }
 
 /// The outcome of a run of these words is as wanted.
-pub fn check_outcome(
+pub(crate) fn check_outcome(
     rt: &(impl Abort + AllocGlobal),
     words: &[&str],
     outcome: Outcome<'_>,
@@ -128,7 +132,7 @@ pub fn check_outcome(
 }
 
 /// The run of the words ended so before a device was called.
-pub fn check_untouched(
+pub(crate) fn check_untouched(
     rt: &(impl Abort + AllocGlobal),
     words: &[&str],
     outcome: Outcome<'_>,
