@@ -1,38 +1,42 @@
 -- What the public measure answers.
-use Rattle.std.proofs.Common.{◌≡◌, ℕ, ◌≤◌, Bool, false, List, [], length, Option, Result, Some, None, Ok, Err, Bor, refl, sym, ◌∙◌, ap, arith}
+use Rattle.std.proofs.Common.{◌≡◌, ℕ, ◌≤◌, Bool, false, List, [], length, Result, Some, None, Ok, Err, Bor, refl, sym, ◌∙◌, ap, arith}
 use Rattle.std.specs.Ordering.{nat_cmp}
 use Rattle.std.specs.Cmp.Lexicographic.{slice_cmp}
 use Rattle.std.specs.BTreeMap.{BTreeMap, is_at}
 use Rattle.std.specs.Map.{lookup}
+use Rattle.std.specs.Option.{option_map}
 use Rattle.std.specs.FinMap as finite
-use Rattle.grok.specs.declared.structural.Fault.{Fault as CodeFault}
+use Rattle.grok.specs.declared.measure.Failure.{Failure}
+use Rattle.grok.specs.declared.measure.Frame.{Frame}
 use Rattle.grok.specs.declared.measure.Sum.{Sum}
 use Rattle.grok.specs.declared.measure.Met.{Met}
-use Rattle.grok_match.specs.Maps.{Texts}
+use Rattle.grok.specs.declared.measure.Mark.{Mark}
+use Rattle.grok.specs.Maps.{Texts}
 use Rattle.grok.specs.Tree.{Fault, Item, items_of, Event, deepest, tree, first_structural, reached}
-use Rattle.grok.specs.Keys.{has_bracket}
+use Rattle.grok.specs.Keys.{has_numbered_alias}
 use Rattle.grok.specs.Expanded.{expanded, groups, nesting}
 use Rattle.grok.specs.Sizes.{Size}
-use Rattle.grok.specs.Remembered.{Answer, look_within, nothing_met, measure_within}
+use Rattle.grok.specs.Remembered.{Reading, look_within, nothing_met, measure_within}
 use Rattle.grok.specs.Measured.{Measured, size_within, fault_or, measured_tree, reached_pieces, reached_texts, counted}
-use Rattle.grok.specs.Met.{shown_result, result_view, measured_size, Shows, Gives}
+use Rattle.grok.specs.Met.{reading_of, shown_result, result_view, mark_view, measured_size, Shows, Stops}
 use Rattle.grok.proofs.Sound.{length-items_of, sound_texts}
 use Rattle.grok.proofs.Defined.{table_of}
+use Rattle.grok.proofs.Going.{HasTallies, stopped_tallies}
 use Rattle.grok.proofs.Whole.{IsMeasureOf, measures, table_weight}
 
-pub shows_nothing : (marks : BTreeMap (Bor (List ℕ)) (Option Sum)) → marks.entries ≡ [] → Shows (record { marks = marks; looks = record { pieces = 0; ends = 0 }; has_bracket = false }) nothing_met
+pub shows_nothing : (marks : BTreeMap (Bor (List ℕ)) Mark) → marks.entries ≡ [] → Shows (record { marks = marks; looks = record { pieces = 0; ends = 0 }; has_numbered_alias = false }) nothing_met
 shows_nothing marks empty = record {
-  marks = λ name. ap (lookup (is_at (λ (key : Bor (List ℕ)). slice_cmp nat_cmp name key.now))) empty;
+  marks = λ name. ap (λ entries. option_map mark_view (lookup (is_at (λ (key : Bor (List ℕ)). slice_cmp nat_cmp name key.now)) entries)) empty;
   pieces = refl;
   ends = refl;
-  bracket = refl;
+  numbered_alias = refl;
 }
 
 module _ (texts : Texts) (alias_only : Bool) (pattern : List ℕ) where
   abbrev resolve : List ℕ → List Item
   resolve = items_of (finite.get texts)
 
-  abbrev answer : Answer
+  abbrev answer : Reading
   answer = measure_within deepest alias_only resolve pattern
 
   abbrev whole : List Event
@@ -56,25 +60,35 @@ module _ (texts : Texts) (alias_only : Bool) (pattern : List ℕ) where
   weight_same : table_weight (λ text. length (resolve text)) (finite.entries texts) pattern whole ≡ reached_pieces texts pattern
   weight_same = ap (λ (weight : List ℕ → ℕ). table_weight weight (finite.entries texts) pattern whole) (λ i text. length-items_of (finite.get texts) text i)
 
-  module _ (r : Result Sum CodeFault) (met : Met) (gives : Gives r met (look_within alias_only resolve deepest (resolve pattern) nothing_met)) where
-    given : Gives r met answer
+  module _ (r : Result Sum Failure) (frames : List Frame) (met : Met) (stops : Stops deepest r frames met (look_within alias_only resolve deepest (resolve pattern) nothing_met)) where
+    given : Stops deepest r frames met answer
     unfolding measure_within
-    given = gives
+    given = stops
+
+    -- what was counted is what was counted in the end
+    tallies : HasTallies answer.1 given.now
+    tallies = stopped_tallies deepest r frames met answer given
 
     pub answer_is : (m : Measured) → ((s : Result Size Fault) → result_view r ≡ shown_result s → m ≡ measured_size s) → m ≡ measured_tree alias_only whole
     answer_is m h = h answer.0 given.same ∙ measured_from answer.0 refl
 
     pub pieces_most : met.looks.pieces ≤ counted (reached_pieces texts pattern)
-    pieces_most = omega (arith, given.leaves.pieces, theorem.looks, weight_same)
+    pieces_most = omega (arith, given.shows.pieces, tallies.looks, theorem.looks, weight_same)
 
     pub ends_most : met.looks.ends ≤ counted (reached_texts texts pattern)
-    ends_most = omega (arith, given.leaves.ends, theorem.ends)
+    ends_most = omega (arith, given.shows.ends, tallies.ends, theorem.ends)
 
     pub pieces_all : first_structural whole ≡ None → met.looks.pieces ≡ counted (reached_pieces texts pattern)
-    pieces_all clean = let (z, is) = clean_ok answer.0 refl clean in given.leaves.pieces ∙ ap counted (theorem.looks_exact z is ∙ weight_same)
+    pieces_all clean = let (z, is) = clean_ok answer.0 refl clean in (given.shows.pieces ∙ ap counted (sym tallies.looks)) ∙ ap counted (theorem.looks_exact z is ∙ weight_same)
 
     pub ends_all : first_structural whole ≡ None → met.looks.ends ≡ counted (reached_texts texts pattern)
-    ends_all clean = let (z, is) = clean_ok answer.0 refl clean in given.leaves.ends ∙ ap counted (theorem.ends_exact z is)
+    ends_all clean = let (z, is) = clean_ok answer.0 refl clean in (given.shows.ends ∙ ap counted (sym tallies.ends)) ∙ ap counted (theorem.ends_exact z is)
 
-    pub bracket_is : met.has_bracket ≡ has_bracket (reached whole)
-    bracket_is = given.leaves.bracket ∙ theorem.bracket
+    pub pieces_read : met.looks.pieces ≡ counted (reading_of texts alias_only pattern).looks
+    pieces_read = given.shows.pieces ∙ ap counted (sym tallies.looks)
+
+    pub ends_read : met.looks.ends ≡ counted (reading_of texts alias_only pattern).ends
+    ends_read = given.shows.ends ∙ ap counted (sym tallies.ends)
+
+    pub bracket_is : met.has_numbered_alias ≡ has_numbered_alias (reached whole)
+    bracket_is = given.shows.numbered_alias ∙ sym tallies.numbered_alias ∙ theorem.numbered_alias

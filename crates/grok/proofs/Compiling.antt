@@ -6,19 +6,21 @@ use Rattle.std.specs.String.{string_bytes}
 use Rattle.std.specs.BTreeMap.{get_by_text}
 use borrow.Author.Tests.{ltb-true}
 use Rattle.std.proofs.lemmas.Bool.{true≢false, ne_eqb}
-use Rattle.grok.specs.Tree.{Definitions, Label, Fault, Event, Text, Open, Close, Fails, tree, first_structural, reached}
-use Rattle.grok.specs.Keys.{is_recorded, key_after, is_among, first_fault_after, Finding, Structural, Clash, has_bracket, keys, recorded, extract_of}
+use Rattle.grok.specs.Tree.{Definitions, Label, Fault, Event, Text, Open, Close, FaultEvent, tree, first_structural, reached}
+use Rattle.grok.specs.Keys.{is_recorded, key_after, is_among, first_fault_after, Finding, Structural, Clash, has_numbered_alias, keys, recorded, extract_of}
 use Rattle.grok.specs.Expanded.{expanded, groups, nesting}
-use Rattle.grok.specs.Measured.{Faulty, Sized, PastLimit, fault_or, size_within, measured_tree}
-use Rattle.grok_match.specs.Answers.{PatternValue}
-use Rattle.grok_match.specs.KeyTable.{IsKeyTable}
-use Rattle.grok.specs.declared.expand.given.Given.{Given}
+use Rattle.grok.specs.Measured.{Faulty, Sized, TooLong, fault_or, size_within, measured_tree}
+use Rattle.grok.specs.Answers.{PatternValue}
+use Rattle.grok.specs.KeyTable.{IsKeyTable}
+use Rattle.grok.specs.declared.engine.Refusal.{Refusal}
+use Rattle.grok.specs.declared.engine.Refusal.TheVariants as refusal
+use Rattle.grok.specs.declared.expand.key_assigner.KeyAssigner.{KeyAssigner}
 use Rattle.grok.specs.Walks.{HasKeys}
-use Rattle.grok.specs.declared.errors.Error.{Error}
-use Rattle.grok.specs.declared.errors.Error.TheVariants as rust
+use Rattle.grok.specs.declared.errors.error.Error.{Error}
+use Rattle.grok.specs.declared.errors.error.Error.TheVariants as rust
 use Rattle.grok.specs.Errors.{ErrorValue, Memory, error_value}
-use Rattle.grok.specs.Compiled.{IsFaultError, IsFirstError, IsBuilt, IsRefusal, Compiles, IsCompileError, First, Unbuilt, NoMemory}
-use Rattle.grok.proofs.KeyLaws.{clash_needs_bracket}
+use Rattle.grok.specs.Compiled.{IsFaultError, IsFirstError, error_of_refusal, IsBuilt, IsRefusal, Refused, Expansion, Fits, Compiles, IsCompileError, First, Unbuilt, NoMemory}
+use Rattle.grok.proofs.KeyLaws.{clash_needs_number}
 
 -- ---- what was measured
 
@@ -27,11 +29,11 @@ pub record IsSized (alias_only : Bool) (es : List Event) (n : ℕ) : Type 0 wher
   pub long : n ≡ length (expanded alias_only es)
   pub fits : n < 2 ^ 64
 
-sized_by : (b : Bool) (n g h length groups nesting : ℕ) → Sized length groups nesting ≡ cond b (Sized n g h) PastLimit → (length ≡ n) × (b ≡ true)
+sized_by : (b : Bool) (n g h length groups nesting : ℕ) → Sized length groups nesting ≡ cond b (Sized n g h) TooLong → (length ≡ n) × (b ≡ true)
 sized_by true n g h length groups nesting e = let same : length ≡ n = cc in (same, refl)
 sized_by false n g h length groups nesting e = cc
 
-faulty_never : (b : Bool) (n g h : ℕ) (fault : Fault) → Faulty fault ≡ cond b (Sized n g h) PastLimit → ⊥
+faulty_never : (b : Bool) (n g h : ℕ) (fault : Fault) → Faulty fault ≡ cond b (Sized n g h) TooLong → ⊥
 faulty_never true n g h fault e = cc
 faulty_never false n g h fault e = cc
 
@@ -53,12 +55,12 @@ faulty_is alias_only es fault e = faulty_or (first_structural es) (length (expan
 
 -- ---- faults
 
--- without a bracket the structural fault is the first
-pub quiet_fault : (alias_only : Bool) (stored : Definitions) (pattern : List ℕ) (fault : Fault) (error : ErrorValue) → has_bracket (reached (tree stored pattern)) ≡ false
+-- without a numbered alias the structural fault is the first
+pub quiet_fault : (alias_only : Bool) (stored : Definitions) (pattern : List ℕ) (fault : Fault) (error : ErrorValue) → has_numbered_alias (reached (tree stored pattern)) ≡ false
     → first_structural (tree stored pattern) ≡ Some fault → IsFaultError fault error → IsFirstError alias_only (tree stored pattern) error
 quiet_fault alias_only stored pattern fault error quiet is says = record {
   finding = Structural fault;
-  first = clash_needs_bracket alias_only stored pattern quiet ∙ ap (option_map Structural) is;
+  first = clash_needs_number alias_only stored pattern quiet ∙ ap (option_map Structural) is;
   is = says;
 }
 
@@ -72,7 +74,7 @@ pub none_structural : (alias_only : Bool) (before : List Label) (taken : List (L
 none_structural alias_only before taken [] e = refl
 none_structural alias_only before taken (Text text ∷ es) e = none_structural alias_only before taken es e
 none_structural alias_only before taken (Close ∷ es) e = none_structural alias_only before taken es e
-none_structural alias_only before taken (Fails fault ∷ es) e = cc
+none_structural alias_only before taken (FaultEvent fault ∷ es) e = cc
 none_structural alias_only before taken (Open label meaning ∷ es) e =
     let key = key_after before label in
     none_by (is_recorded alias_only label) (is_among key taken) key (first_fault_after alias_only (label ∷ before) (key ∷ taken) es) (first_fault_after alias_only before taken es) (first_structural es)
@@ -80,7 +82,7 @@ none_structural alias_only before taken (Open label meaning ∷ es) e =
 
 -- ---- patterns
 
-pub built_as : {E : Type 0} (source_of : E → List ℕ) (group_names : E → List (Option (List ℕ))) (alias_only : Bool) (es : List Event) (given : Given) (text : List ℕ) (pattern : PatternValue E)
+pub built_as : {E : Type 0} (source_of : E → List ℕ) (group_names : E → List (Option (List ℕ))) (alias_only : Bool) (es : List Event) (given : KeyAssigner) (text : List ℕ) (pattern : PatternValue E)
     → HasKeys alias_only es given → text ≡ expanded alias_only es
     → IsBuilt source_of group_names text (map string_bytes given.keys.items) (λ key. option_map string_bytes (get_by_text given.extracts key)) pattern
     → IsBuilt source_of group_names (expanded alias_only es) (keys (recorded alias_only es)) (extract_of alias_only es) pattern
@@ -96,19 +98,25 @@ some_bytes (x ∷ xs) h e = cc
 
 -- ---- answers
 
-module _ {E : Type 0} (source_of : E → List ℕ) (group_names : E → List (Option (List ℕ))) (may_refuse : List ℕ → Type 0) (alias_only : Bool) (pattern : List ℕ) (tree : List Event) (some : pattern ≢ []) where
-  pub no_memory : (r : Result (PatternValue E) Error) → IsErrAnd r (λ error. error ≡ rust.Memory) → Compiles source_of group_names may_refuse alias_only pattern tree r
-  no_memory (Ok p) h = elim h [ ]
-  no_memory (Err error) h = subst (λ e. IsCompileError may_refuse alias_only pattern tree (error_value e)) (sym h) (NoMemory some)
+-- an engine that doesn't build a text wants memory, or may refuse the text
+pub unbuilt : (may_refuse : List ℕ → Type 0) (text : List ℕ) (why : Refusal) (error : ErrorValue) → (why ≡ refusal.Refused → may_refuse text) → error ≡ error_of_refusal why text
+    → (error ≡ Memory) ⊎ IsRefusal may_refuse text error
+unbuilt may_refuse text refusal.Memory error may is = inl is
+unbuilt may_refuse text refusal.Refused error may is = inr (subst (λ e. IsRefusal may_refuse text e) (sym is) (Refused (may refl)))
 
-  pub first_answer : (error : ErrorValue) → IsFirstError alias_only tree error → (first_structural tree ≡ None → length (expanded alias_only tree) < 2 ^ 64) → IsCompileError may_refuse alias_only pattern tree error
+module _ {E : Type 0} (source_of : E → List ℕ) (group_names : E → List (Option (List ℕ))) (may_refuse : List ℕ → Type 0) (e : Expansion) (some : e.pattern ≢ []) where
+  pub no_memory : (r : Result (PatternValue E) Error) → IsErrAnd r (λ error. error ≡ rust.Memory) → Compiles source_of group_names may_refuse e r
+  no_memory (Ok p) h = elim h [ ]
+  no_memory (Err error) h = subst (λ is. IsCompileError may_refuse e (error_value is)) (sym h) (NoMemory some)
+
+  pub first_answer : (error : ErrorValue) → IsFirstError e.alias_only e.tree error → (first_structural e.tree ≡ None → Fits e) → IsCompileError may_refuse e error
   first_answer error first fits = First error some first fits
 
-  pub built_answer : (given : Given) (text : List ℕ) (r : Result (PatternValue E) Error) → HasKeys alias_only tree given → text ≡ expanded alias_only tree → length (expanded alias_only tree) < 2 ^ 64
+  pub built_answer : (given : KeyAssigner) (text : List ℕ) (r : Result (PatternValue E) Error) → HasKeys e.alias_only e.tree given → text ≡ expanded e.alias_only e.tree → Fits e
       → MatchResult r (IsBuilt source_of group_names text (map string_bytes given.keys.items) (λ key. option_map string_bytes (get_by_text given.extracts key))) (λ error. (error_value error ≡ Memory) ⊎ IsRefusal may_refuse text (error_value error))
-      → Compiles source_of group_names may_refuse alias_only pattern tree r
-  built_answer given text (Ok p) has is fits built = record { some = some; can = record { clean = has.none; fits = fits }; built = built_as source_of group_names alias_only tree given text p has is built }
-  built_answer given text (Err error) has is fits (inl none) = subst (λ e. IsCompileError may_refuse alias_only pattern tree e) (sym none) (NoMemory some)
+      → Compiles source_of group_names may_refuse e r
+  built_answer given text (Ok p) has is fits built = record { some = some; can = record { clean = has.none; fits = fits }; built = built_as source_of group_names e.alias_only e.tree given text p has is built }
+  built_answer given text (Err error) has is fits (inl none) = subst (λ is. IsCompileError may_refuse e is) (sym none) (NoMemory some)
   built_answer given text (Err error) has is fits (inr refused) = Unbuilt (error_value error) some (record { clean = has.none; fits = fits }) (subst (λ t. IsRefusal may_refuse t (error_value error)) is refused)
 
 pub no_bytes : (xs : List ℕ) → (length xs == 0) ≡ true → xs ≡ []

@@ -3,12 +3,12 @@ use Rattle.std.proofs.Common.{◌≡◌, ℕ, ◌+◌, Bool, true, false, cond, 
 use Rattle.std.specs.Prelude.{not}
 use Rattle.std.specs.Str.{bytes_eq}
 use Rattle.std.proofs.lemmas.Bool.{true≢false, cases_Bool}
-use Rattle.grok.specs.Tree.{Label, is_absent, Event, Text, Open, Close, Fails}
+use Rattle.grok.specs.Tree.{Label, is_absent, Event, Text, Open, Close, FaultEvent}
 use Rattle.grok.specs.Keys.{is_recorded, recorded, wanted, numbered, how_often, key_after, keys_after, keys, is_among, Finding, Structural, Clash, extract_after}
-use Rattle.grok.specs.Given.{onto, taken_of, in_order, extract_before, faults, after}
+use Rattle.grok.specs.OpensSoFar.{onto, taken_of, in_order, extract_before, faults, after}
 use Rattle.grok.specs.FirstFault.{IsFaultBehind, Breaks, Meets, HasNoFault, HasFirstFault, FirstFaultIsFirst, HasNoExtract, HasLastExtract, ExtractIsLast}
 use Rattle.grok.proofs.KeyLaws.{how_often_more}
-use Rattle.grok_match.proofs.SameText.{same_text, text_same}
+use Rattle.grok.proofs.SameText.{same_text, text_same}
 
 -- ---- one list of events after the other
 
@@ -33,7 +33,7 @@ module _ (alias_only : Bool) where
   recorded-append [] ys = refl
   recorded-append (Text text ∷ xs) ys = recorded-append xs ys
   recorded-append (Close ∷ xs) ys = recorded-append xs ys
-  recorded-append (Fails fault ∷ xs) ys = recorded-append xs ys
+  recorded-append (FaultEvent fault ∷ xs) ys = recorded-append xs ys
   recorded-append (Open label meaning ∷ xs) ys =
       let more = recorded-append xs ys in
       elim (is_recorded alias_only label) as (λ b. cond b (label ∷ recorded alias_only (xs ++ ys)) (recorded alias_only (xs ++ ys)) ≡ cond b (label ∷ recorded alias_only xs) (recorded alias_only xs) ++ recorded alias_only ys) [
@@ -48,7 +48,7 @@ module _ (alias_only : Bool) where
   faults-append before [] ys = refl
   faults-append before (Text text ∷ xs) ys = faults-append before xs ys
   faults-append before (Close ∷ xs) ys = faults-append before xs ys
-  faults-append before (Fails fault ∷ xs) ys = refl
+  faults-append before (FaultEvent fault ∷ xs) ys = refl
   faults-append before (Open label meaning ∷ xs) ys =
       let key = key_after before label in
       let one = faults-append (label ∷ before) xs ys in
@@ -108,7 +108,7 @@ module _ (alias_only : Bool) where
 
   fault_of : (before : List Event) (event : Event) (finding : Finding) → IsFaultBehind alias_only before event finding → one before event ≡ Some finding
   unfolding one
-  fault_of before (Fails fault) (Structural fault') (Breaks f) = refl
+  fault_of before (FaultEvent fault) (Structural fault') (Breaks f) = refl
   fault_of before event finding (Meets label meaning is clash) =
       let opens = recorded alias_only before in
       let key = key_onto opens label in
@@ -119,7 +119,7 @@ module _ (alias_only : Bool) where
   unfolding one
   behind_fault before (Text text) finding e = cc
   behind_fault before Close finding e = cc
-  behind_fault before (Fails fault) finding e = let same : Structural fault ≡ finding = cc in subst (IsFaultBehind alias_only before (Fails fault)) same (Breaks fault)
+  behind_fault before (FaultEvent fault) finding e = let same : Structural fault ≡ finding = cc in subst (IsFaultBehind alias_only before (FaultEvent fault)) same (Breaks fault)
   behind_fault before (Open label meaning) finding e =
       let opens = recorded alias_only before in
       let key = key_after (onto [] opens) label in

@@ -8,7 +8,7 @@ use Rattle.std.specs.declared.cmp.Ordering.TheVariants.{Less, Equal, Greater}
 use Rattle.std.proofs.lemmas.Cmp.{nat_list_cmp_total, tied_itself}
 use Rattle.std.proofs.lemmas.Slice.Eq.{bytes_eq-Decides}
 use Rattle.std.specs.FinMap as finite
-use Rattle.grok_match.specs.Maps.{Texts}
+use Rattle.grok.specs.Maps.{Texts}
 use Rattle.grok.proofs.NamedTexts.{bytes_cmp, same_bytes, is_equal}
 use Rattle.grok.proofs.Counting.{found, AreApart, IsTable}
 use Rattle.grok.proofs.Flagging.{alike}

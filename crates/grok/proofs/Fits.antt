@@ -3,7 +3,7 @@ use Rattle.std.proofs.Common.{◌≡◌, ℕ, ◌^◌, ◌<◌, ◌≤◌, Bool,
 use Rattle.std.proofs.lemmas.Bool.{ltb-true, ltb-false, lt-ltb, le-ltb}
 use Rattle.std.specs.Prelude.{nat_lt}
 use Rattle.grok.specs.Sizes.{Size, length_of}
-use Rattle.grok.specs.Measured.{Sized, PastLimit, size_within}
+use Rattle.grok.specs.Measured.{Sized, TooLong, size_within}
 use Rattle.grok.specs.Met.{fit, shown}
 use Rattle.grok.specs.declared.measure.Sum.{Sum}
 use Rattle.grok.proofs.Places.{places_least}
@@ -38,9 +38,9 @@ sized sum z length groups e long some =
     let (l, low) = fit_some (length_of z) length long in
     let (g, low') = fit_some z.groups groups (sym some ∙ ap (λ s. s.groups) e) in
     let h : sum.height ≡ z.height = ap (λ s. s.height) e in
-    rw (l, g, h) (ap (λ b. cond b (Sized (length_of z) z.groups z.height) PastLimit) (sym (lt-ltb (length_of z) (2 ^ 64) low)))
+    rw (l, g, h) (ap (λ b. cond b (Sized (length_of z) z.groups z.height) TooLong) (sym (lt-ltb (length_of z) (2 ^ 64) low)))
 
-pub unsized : (z : Size) → None ≡ fit (length_of z) → PastLimit ≡ size_within (length_of z) z.groups z.height
-unsized z none = ap (λ b. cond b (Sized (length_of z) z.groups z.height) PastLimit) (sym (le-ltb (length_of z) (2 ^ 64) (fit_none (length_of z) none)))
+pub unsized : (z : Size) → None ≡ fit (length_of z) → TooLong ≡ size_within (length_of z) z.groups z.height
+unsized z none = ap (λ b. cond b (Sized (length_of z) z.groups z.height) TooLong) (sym (le-ltb (length_of z) (2 ^ 64) (fit_none (length_of z) none)))
 
 pub ruleset fits = (long_groups, sized, unsized)

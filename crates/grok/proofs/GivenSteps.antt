@@ -6,9 +6,9 @@ use Rattle.std.specs.Str.{bytes_eq}
 use Rattle.std.proofs.lemmas.Bool.{cases_Bool, ne_eqb}
 use Rattle.grok.specs.Tree.{is_absent}
 use Rattle.grok.specs.Keys.{numbered}
-use Rattle.grok_match.specs.Numeral.{numeral}
-use Rattle.grok_match.proofs.Numerals.{numeral_is_decimal}
-use Rattle.grok_match.proofs.SameText.{same_text}
+use Rattle.grok.specs.Numeral.{numeral}
+use Rattle.grok.proofs.Numerals.{numeral_is_decimal}
+use Rattle.grok.proofs.SameText.{same_text}
 
 -- what is printed after a key that was wanted before
 pub numbered_is : (key : List ℕ) (count : ℕ) → 0 < count → count < 2 ^ 64 → numbered key count ≡ key ++ (91 ∷ (decimal count ++ (93 ∷ [])))

@@ -1,34 +1,59 @@
--- The loop over the items of a text: what was read and what is left make the answer. And the visit of a name.
-use Rattle.std.proofs.Common.{◌≡◌, ℕ, suc, ◌+◌, Bool, true, false, cond, List, [], ◌∷◌, Option, Result, Some, None, Ok, Err, Bor, refl, sym, ◌∙◌, ap, subst, arith}
+-- The loop over frames: what was read, what is left and the frames around it make the answer.
+use Rattle.std.proofs.Common.{◌≡◌, ℕ, zero, suc, ◌+◌, ◌-◌, ◌<◌, max, Bool, true, false, cond, List, [], ◌∷◌, ◌++◌, length, length-append, Option, Result, Some, Ok, Err, IfErr, Bor, refl, sym, ◌∙◌, ap, subst, arith}
 use Rattle.std.specs.Option.{option_map}
 use Rattle.std.specs.BTreeMap.{BTreeMap}
 use Rattle.std.specs.Str.{bytes_eq}
-use Rattle.grok.specs.declared.structural.Fault.{Fault as CodeFault}
 use Rattle.grok.specs.declared.measure.Sum.{Sum}
 use Rattle.grok.specs.declared.measure.Met.{Met}
-use Rattle.grok.specs.Tree.{Fault, Item}
-use Rattle.grok.specs.Items.{fault_view}
-use Rattle.grok.specs.Sizes.{Size, no_size, plus, both}
-use Rattle.grok.specs.Remembered.{State, Answer, looked, ended, with_mark, then_rest, finish, by_mark, visit, item_within, look_within}
+use Rattle.grok.specs.declared.measure.Mark.{Mark}
+use Rattle.grok.specs.declared.measure.Mark.TheVariants as mark
+use Rattle.grok.specs.declared.measure.Failure.{Failure}
+use Rattle.grok.specs.declared.measure.Frame.{Frame}
+use Rattle.grok.specs.declared.measure.Entry.{Entry}
+use Rattle.grok.specs.declared.measure.Entry.TheVariants.{Measured, Text}
+use Rattle.grok.specs.declared.defs.items.Label.{Label as CodeLabel}
+use Rattle.grok.specs.Tree.{Fault, MalformedPiece, Missing, TooDeep, Label, Inline, Stored, Item, PlaceholderItem}
+use Rattle.grok.specs.Items.{fault_view, label_view}
+use Rattle.grok.specs.Sizes.{Size, no_size, plus, both, bracketed, wrapped}
+use Rattle.grok.specs.Remembered as kept
+use Rattle.grok.specs.Remembered.{Begun, Done, Failed, Deep, answered, reach_within, failed_mark, State, Reading, looked, ended, labelled, with_mark, with_reach, deeper, inlined, then_rest, finish, by_answer, by_mark, visit, item_within, opened_within, look_within}
 use Rattle.grok.specs.Measured.{counted}
-use Rattle.grok.specs.Met.{shown, shown_result, result_view, mark_of, Shows, Gives, Knows}
+use Rattle.grok.specs.Met.{shown, shown_mark, shown_result, result_view, mark_view, mark_of, is_kept, Shows, HasReach, Wraps, Gives, Knows, IsMarked, IsMet, IsOpened, MatchEntry, unwound, Stops}
 use Rattle.grok.proofs.SizeLaws.{both_none, both_assoc, same_size}
 
 -- ---- marks
 
-pushed : (b : Bool) (mark : Option Size) (old : Option (Option Size)) → cond b (Some (option_map shown mark)) (option_map (option_map shown) old) ≡ option_map (option_map shown) (cond b (Some mark) old)
-pushed true mark old = refl
-pushed false mark old = refl
+pushed : (b : Bool) (mark : Mark) (known : kept.Mark Size) (now : Option Mark) (old : Option (kept.Mark Size)) → mark_view mark ≡ shown_mark known → option_map mark_view now ≡ option_map shown_mark old
+    → option_map mark_view (cond b (Some mark) now) ≡ option_map shown_mark (cond b (Some known) old)
+pushed true mark known now old is same = ap Some is
+pushed false mark known now old is same = same
 
-pub marked_shows : (met : Met) (marks : BTreeMap (Bor (List ℕ)) (Option Sum)) (name : List ℕ) (mark : Option Sum)
-    → ((other : List ℕ) → mark_of marks other ≡ cond (bytes_eq name other) (Some mark) (mark_of met.marks other))
-    → (st : State) (size : Option Size) → mark ≡ option_map shown size → Shows met st → Shows (record met { marks = marks }) (with_mark st name size)
-marked_shows met marks name mark updates st size is s = record {
-  marks = λ other. updates other ∙ rw (is, s.marks other) (pushed (bytes_eq name other) size (st.marks other));
+pub marked_shows : (met : Met) (marks : BTreeMap (Bor (List ℕ)) Mark) (name : List ℕ) (mark : Mark)
+    → IsMarked name mark met (record met { marks = marks })
+    → (st : State) (known : kept.Mark Size) → mark_view mark ≡ shown_mark known → Shows met st → Shows (record met { marks = marks }) (with_mark st name known)
+marked_shows met marks name mark updates st known is s = record {
+  marks = λ other. ap (option_map mark_view) (updates other) ∙ pushed (bytes_eq name other) mark known (mark_of met.marks other) (st.marks other) is (s.marks other);
   pieces = s.pieces;
   ends = s.ends;
-  bracket = s.bracket;
+  numbered_alias = s.numbered_alias;
 }
+
+pub with_reach_shows : (met : Met) (st : State) (reach : ℕ) → Shows met st → Shows met (with_reach st reach)
+with_reach_shows met st reach s = record { marks = s.marks; pieces = s.pieces; ends = s.ends; numbered_alias = s.numbered_alias }
+
+-- ---- looks
+
+abbrev pub piece_counted : Met → Met
+piece_counted met = record met { looks = record { pieces = counted (met.looks.pieces + 1); ends = met.looks.ends } }
+
+abbrev pub end_counted : Met → Met
+end_counted met = record met { looks = record { pieces = met.looks.pieces; ends = counted (met.looks.ends + 1) } }
+
+shows_piece : (met : Met) (st : State) → Shows met st → Shows (piece_counted met) (looked st)
+shows_piece met st s = record { marks = s.marks; pieces = omega (arith, s.pieces); ends = s.ends; numbered_alias = s.numbered_alias }
+
+shows_end : (met : Met) (st : State) → Shows met st → Shows (end_counted met) (ended st)
+shows_end met st s = record { marks = s.marks; pieces = s.pieces; ends = omega (arith, s.ends); numbered_alias = s.numbered_alias }
 
 -- ---- answers
 
@@ -40,110 +65,339 @@ pub shown_err : (r : Result Size Fault) (f : Fault) → Err f ≡ shown_result r
 shown_err (Ok z) f e = cc
 shown_err (Err g) f e = let same : f ≡ g = cc in ap Err (sym same)
 
+-- ---- faults
+
+-- the counts, and whether an alias was met that ends in a number in brackets
+pub record HasTallies (st st' : State) : Type 0 where
+  pub looks : st.looks ≡ st'.looks
+  pub ends : st.ends ≡ st'.ends
+  pub numbered_alias : st.numbered_alias ≡ st'.numbered_alias
+
+-- the frames that a fault ends are not counted
+unwound_tallies : (levels : ℕ) (frames : List Frame) (fault : Fault) (st : State) → HasTallies (unwound levels frames fault st) st
+unwound_tallies levels [] fault st = record { looks = refl; ends = refl; numbered_alias = refl }
+unwound_tallies levels (frame ∷ frames) fault st =
+    let h = unwound_tallies (levels - 1) frames fault st in
+    record { looks = h.looks; ends = h.ends; numbered_alias = h.numbered_alias }
+
+pub stopped_tallies : (levels : ℕ) (r : Result Sum Failure) (frames : List Frame) (met : Met) (answer : Reading) → (stops : Stops levels r frames met answer) → HasTallies answer.1 stops.now
+stopped_tallies levels (Ok sum) frames met answer stops =
+    record { looks = ap (λ (st : State). st.looks) stops.leaves; ends = ap (λ (st : State). st.ends) stops.leaves; numbered_alias = ap (λ (st : State). st.numbered_alias) stops.leaves }
+stopped_tallies levels (Err failure) frames met answer stops =
+    let h = unwound_tallies levels frames (fault_view failure.fault) stops.now in
+    record {
+      looks = ap (λ (st : State). st.looks) stops.leaves ∙ h.looks;
+      ends = ap (λ (st : State). st.ends) stops.leaves ∙ h.ends;
+      numbered_alias = ap (λ (st : State). st.numbered_alias) stops.leaves ∙ h.numbered_alias;
+    }
+
+-- the innermost frame is unwound first
+pub unwound_push : (levels : ℕ) (frames : List Frame) (frame : Frame) (fault : Fault) (st : State)
+    → unwound levels (frames ++ frame ∷ []) fault st ≡ unwound levels frames fault (unwound (levels - length frames) (frame ∷ []) fault st)
+unwound_push levels [] frame fault st =
+    let all : levels ≡ levels - 0 = omega arith in
+    ap (λ n. unwound n (frame ∷ []) fault st) all
+unwound_push levels (f ∷ frames) frame fault st =
+    let fewer : levels - 1 - length frames ≡ levels - suc (length frames) = omega arith in
+    let outer : State → State = λ inner. with_reach (with_mark inner f.label.name.now (failed_mark fault levels inner.reach)) (max f.sum.height (suc inner.reach)) in
+    ap outer (unwound_push (levels - 1) frames frame fault st ∙ ap (λ n. unwound (levels - 1) frames fault (unwound n (frame ∷ []) fault st)) fewer)
+
+pub shown_failed : (fault : Fault) (levels reach : ℕ) → failed_mark fault levels reach ≡ shown_mark (failed_mark fault levels reach)
+shown_failed (MalformedPiece f) levels reach = refl
+shown_failed (Missing name) levels reach = refl
+shown_failed TooDeep levels reach = refl
+
+-- a part of the frames is unwound
+pub record Unwinds (levels : ℕ) (all left : List Frame) (fault : Fault) (st : State) (met : Met) (height : ℕ) : Type 0 where
+  pub now : State
+  pub shows : Shows met now
+  pub reach : now.reach ≡ height
+  pub same : unwound levels all fault st ≡ unwound levels left fault now
+
+pub unwinds_more : (levels n : ℕ) (all left : List Frame) (frame : Frame) (fault : Fault) (st : State) (met after : Met) (mark : Mark) (height next : ℕ)
+    → Unwinds levels all (left ++ frame ∷ []) fault st met height → n ≡ levels - length left → mark_view mark ≡ failed_mark fault n height → next ≡ max frame.sum.height (suc height)
+    → ((st : State) (known : kept.Mark Size) → mark_view mark ≡ shown_mark known → Shows met st → Shows after (with_mark st frame.label.name.now known))
+    → Unwinds levels all left fault st after next
+unwinds_more levels n all left frame fault st met after mark height next u room is high marks =
+    let name = frame.label.name.now in
+    let now = u.now in
+    let marked : mark_view mark ≡ shown_mark (failed_mark fault (levels - length left) now.reach) =
+    is ∙ ap (λ k. failed_mark fault k height) room ∙ ap (failed_mark fault (levels - length left)) (sym u.reach) ∙ shown_failed fault (levels - length left) now.reach in
+    let last = with_mark now name (failed_mark fault (levels - length left) now.reach) in
+    record {
+      now = unwound (levels - length left) (frame ∷ []) fault now;
+      shows = with_reach_shows after last (max frame.sum.height (suc now.reach)) (marks now (failed_mark fault (levels - length left) now.reach) marked u.shows);
+      reach = omega (arith, u.reach, high);
+      same = u.same ∙ unwound_push levels left frame fault now;
+    }
+
 -- ---- the loop
 
-abbrev pub combined : Size → Answer → Answer
-combined sum answer = (both (Ok sum) answer.0, answer.1)
+abbrev pub combined : Size → Reading → Reading
+combined sum answer = (both (Ok sum) answer.0, with_reach answer.1 (max sum.height answer.1.reach))
 
-combined_none : (answer : Answer) → combined no_size answer ≡ answer
-combined_none answer = λ i. (both_none answer.0 i, answer.1)
+reached : (st : State) (m n : ℕ) → m ≡ n → with_reach st m ≡ with_reach st n
+reached st m n e = ap (with_reach st) e
 
-combined_twice : (a b : Size) (answer : Answer) → combined a (combined b answer) ≡ combined (plus a b) answer
-combined_twice a b answer = λ i. (sym (both_assoc (Ok a) (Ok b) answer.0) i, answer.1)
+combined_none : (answer : Reading) → combined no_size answer ≡ answer
+combined_none answer =
+    let same : max 0 answer.1.reach ≡ answer.1.reach = omega arith in
+    λ i. (both_none answer.0 i, reached answer.1 (max 0 answer.1.reach) answer.1.reach same i)
+
+combined_twice : (a b : Size) (answer : Reading) → combined a (combined b answer) ≡ combined (plus a b) answer
+combined_twice a b answer =
+    let same : max a.height (max b.height answer.1.reach) ≡ max (max a.height b.height) answer.1.reach = omega arith in
+    λ i. (sym (both_assoc (Ok a) (Ok b) answer.0) i, reached answer.1 (max a.height (max b.height answer.1.reach)) (max (max a.height b.height) answer.1.reach) same i)
 
 plus_none_right : (a : Size) → plus a no_size ≡ a
 plus_none_right a = same_size _ _ (omega arith) (omega arith) (omega arith)
 
-module _ (alias_only : Bool) (resolve : List ℕ → List Item) (levels : ℕ) where
-  abbrev reads : List Item → State → Answer
-  reads items st = look_within alias_only resolve levels items st
+module _ (alias_only : Bool) (resolve : List ℕ → List Item) where
+  abbrev reads : ℕ → List Item → State → Reading
+  reads levels items st = look_within alias_only resolve levels items st
 
-  -- from here the answer for all items is the sum so far with that for the items that are left
-  pub record GoesOn (all : List Item) (st : State) (left : List Item) (so_far : Sum) (met : Met) : Type 0 where
+  -- ---- frames
+
+  -- what a text comes to that has this sum so far, opens one that comes to `inner`, and goes on with these items
+  abbrev pub around : ℕ → Label → List Item → Size → Reading → Reading
+  around levels label items total inner =
+      combined total (then_rest (wrapped alias_only label (finish label.name levels inner).0) (deeper (finish label.name levels inner).1) (reads levels items))
+
+  -- within these frames, of which the outermost is first, what the innermost text comes to makes the whole
+  abbrev pub AreAround : ℕ → List Frame → Reading → Reading → Type 0
+  AreAround levels [] inner whole = whole ≡ inner
+  AreAround levels (frame ∷ frames) inner whole =
+      (total : Size) × (mid : Reading) × (frame.sum ≡ shown total) × (whole ≡ around levels (label_view frame.label) frame.items total mid) × AreAround (levels - 1) frames inner mid
+
+  around_push : (levels : ℕ) (frames : List Frame) (frame : Frame) (total : Size) (inner whole : Reading) → frame.sum ≡ shown total
+      → AreAround levels frames (around (levels - length frames) (label_view frame.label) frame.items total inner) whole → AreAround levels (frames ++ frame ∷ []) inner whole
+  around_push levels [] frame total inner whole sum h =
+      let all : levels - 0 ≡ levels = omega arith in
+      (total, inner, sum, h ∙ ap (λ n. around n (label_view frame.label) frame.items total inner) all, refl)
+  around_push levels (f ∷ frames) frame total inner whole sum (t, mid, s, is, h) =
+      let fewer : levels - suc (length frames) ≡ levels - 1 - length frames = omega arith in
+      (t, mid, s, is, around_push (levels - 1) frames frame total inner mid sum (subst (λ n. AreAround (levels - 1) frames (around n (label_view frame.label) frame.items total inner) mid) fewer h))
+
+  pub record Popped (levels : ℕ) (frames : List Frame) (frame : Frame) (inner whole : Reading) : Type 0 where
+    pub total : Size
+    pub is_sum : frame.sum ≡ shown total
+    pub rest : AreAround levels frames (around (levels - length frames) (label_view frame.label) frame.items total inner) whole
+
+  around_pop : (levels : ℕ) (frames : List Frame) (frame : Frame) (inner whole : Reading) → AreAround levels (frames ++ frame ∷ []) inner whole → Popped levels frames frame inner whole
+  around_pop levels [] frame inner whole (total, mid, sum, is, same) =
+      let all : levels - 0 ≡ levels = omega arith in
+      record {
+        total = total;
+        is_sum = sum;
+        rest = is ∙ ap (around levels (label_view frame.label) frame.items total) same ∙ ap (λ n. around n (label_view frame.label) frame.items total inner) (sym all);
+      }
+  around_pop levels (f ∷ frames) frame inner whole (t, mid, s, is, h) =
+      let p = around_pop (levels - 1) frames frame inner mid h in
+      let fewer : levels - 1 - length frames ≡ levels - suc (length frames) = omega arith in
+      record {
+        total = p.total;
+        is_sum = p.is_sum;
+        rest = (t, mid, s, is, subst (λ n. AreAround (levels - 1) frames (around n (label_view frame.label) frame.items p.total inner) mid) fewer p.rest);
+      }
+
+  -- a fault ends all of them
+  around_fault : (levels : ℕ) (frames : List Frame) (fault : Fault) (st : State) (whole : Reading) → AreAround levels frames (Err fault, st) whole → whole ≡ (Err fault, unwound levels frames fault st)
+  around_fault levels [] fault st whole is = is
+  around_fault levels (f ∷ frames) fault st whole (t, mid, s, is, h) =
+      let inner = unwound (levels - 1) frames fault st in
+      let high : t.height ≡ f.sum.height = sym (ap (λ (z : Sum). z.height) s) in
+      is ∙ ap (around levels (label_view f.label) f.items t) (around_fault (levels - 1) frames fault st mid h)
+      ∙ ap (λ n. (Err fault, with_reach (with_mark inner f.label.name.now (failed_mark fault levels inner.reach)) (max n (suc inner.reach)))) high
+
+  -- ---- opening a text
+
+  pub known_gives : (levels : ℕ) (label : Label) (text : List ℕ) (st : State) (met : Met) → 0 < levels → Shows met st → (r w : Result Sum Failure)
+      → ((fresh : Reading) → Knows r st (by_mark (st.marks label.name) levels st fresh))
+      → ((st' : State) (inner : Result Size Fault) → result_view r ≡ shown_result inner → HasReach r st' → Wraps w (wrapped alias_only label inner) (deeper st'))
+      → Gives w met (opened_within alias_only resolve levels label text st)
+  known_gives zero label text st met some shows r w h wraps = absurd (omega arith)
+  known_gives (suc levels) label text st met some shows r w h wraps =
+      let fresh = finish label.name (suc levels) (reads levels (resolve text) (with_mark st label.name Begun)) in
+      let k = h fresh in
+      let answer = by_mark (st.marks label.name) (suc levels) st fresh in
+      let wrap = wraps answer.1 answer.0 k.same k.reach in
+      record {
+        same = wrap.same;
+        reach = wrap.reach;
+        leaves = subst (λ s. Shows met (deeper s)) (sym k.stays) (with_reach_shows met st (suc answer.1.reach) shows);
+      }
+
+  -- no level is left
+  pub none_gives : (levels : ℕ) (label : Label) (text : List ℕ) (st : State) (met : Met) → levels ≡ 0 → Shows met st → (r w : Result Sum Failure)
+      → result_view r ≡ Err TooDeep → HasReach r (with_reach st 0)
+      → ((st' : State) (inner : Result Size Fault) → result_view r ≡ shown_result inner → HasReach r st' → Wraps w (wrapped alias_only label inner) (deeper st'))
+      → Gives w met (opened_within alias_only resolve levels label text st)
+  none_gives (suc levels) label text st met none shows r w is reach wraps = cc
+  none_gives zero label text st met none shows r w is reach wraps =
+      let wrap = wraps (with_reach st 0) (Err TooDeep) is reach in
+      record { same = wrap.same; reach = wrap.reach; leaves = with_reach_shows met st 1 shows }
+
+  -- a definition that is written in the text
+  pub inline_gives : (levels : ℕ) (item : Item) (label : Label) (text : List ℕ) (st : State) (after : Met) → item ≡ PlaceholderItem label (Inline text) → Shows after (labelled label st)
+      → (r w : Result Sum Failure) → result_view r ≡ shown_result (inlined levels text) → IfErr r (λ failure. failure.height ≡ 0)
+      → ((st' : State) (inner : Result Size Fault) → result_view r ≡ shown_result inner → HasReach r st' → Wraps w (wrapped alias_only label inner) (deeper st'))
+      → Gives w after (item_within alias_only resolve levels item st)
+  inline_gives levels item label text st after is shows r w same height wraps =
+      let now = with_reach (labelled label st) 0 in
+      let wrap = wraps now (inlined levels text) same (reach r height) in
+      subst (λ i. Gives w after (item_within alias_only resolve levels i st)) (sym is)
+      (record { same = wrap.same; reach = wrap.reach; leaves = with_reach_shows after (labelled label st) 1 shows })
+    where
+      reach : (r : Result Sum Failure) → IfErr r (λ failure. failure.height ≡ 0) → HasReach r (with_reach (labelled label st) 0)
+      reach (Ok sum) h = tt
+      reach (Err failure) h = sym h
+
+  abbrev StoredEntry : ℕ → CodeLabel → List ℕ → Met → Met → Entry → Type 0
+  StoredEntry levels label text before after entry = MatchEntry entry
+      (λ r. (st : State) → Shows before st → Gives r after (opened_within alias_only resolve levels (label_view label) text st))
+      (λ opened items. (opened ≡ label) × (items ≡ resolve text) × (0 < levels) × IsMet label.name.now levels before after)
+
+  abbrev ItemEntry : ℕ → Item → Met → Met → Entry → Type 0
+  ItemEntry levels item before after entry = MatchEntry entry
+      (λ r. (st : State) → Shows before st → Gives r after (item_within alias_only resolve levels item st))
+      (λ label items. IsOpened resolve levels item label items before after)
+
+  -- a text that is opened under a label
+  pub labelled_entry : (levels : ℕ) (item : Item) (label : CodeLabel) (text : List ℕ) (before mid after : Met) (entry : Entry) → item ≡ PlaceholderItem (label_view label) (Stored text)
+      → ((st : State) → Shows before st → Shows mid (labelled (label_view label) st)) → mid.marks ≡ before.marks
+      → StoredEntry levels label text mid after entry → ItemEntry levels item before after entry
+  labelled_entry levels item label text before mid after (Measured r) is shows same h = λ st s.
+      subst (λ i. Gives r after (item_within alias_only resolve levels i st)) (sym is) (h (labelled (label_view label) st) (shows st s))
+  labelled_entry levels item label text before mid after (Text opened items) is shows same (it, starts, room, met) =
+      subst (λ l. IsOpened resolve levels item l items before after) (sym it)
+      (record {
+        text = text;
+        is = is;
+        starts = starts;
+        room = room;
+        unkept = sym (ap (λ m. is_kept (mark_of m label.name.now)) same) ∙ met.unkept;
+        unknown = λ st s. met.unknown (labelled (label_view label) st) (shows st s);
+        marked = λ other. met.marked other ∙ ap (λ m. cond (bytes_eq label.name.now other) (Some mark.Begun) (mark_of m other)) same;
+        shows = λ st s. met.shows (labelled (label_view label) st) (shows st s);
+      })
+
+  -- ---- the loop
+
+  -- within these frames, with this sum so far and these items left, the whole comes out
+  pub record GoesOn (levels : ℕ) (whole : Reading) (frames : List Frame) (left : List Item) (so_far : Sum) (met : Met) : Type 0 where
     pub now : State
     pub total : Size
     pub is_sum : so_far ≡ shown total
     pub shows : Shows met now
-    pub rest : reads all st ≡ combined total (reads left now)
+    pub rest : AreAround levels frames (combined total (reads (levels - length frames) left now)) whole
 
-  pub goes_on_start : (all : List Item) (st : State) (so_far : Sum) (met : Met) → so_far ≡ shown no_size → Shows met st → GoesOn all st all so_far met
-  goes_on_start all st so_far met e shows = record { now = st; total = no_size; is_sum = e; shows = shows; rest = sym (combined_none (reads all st)) }
+  pub goes_on_start : (levels : ℕ) (all : List Item) (st : State) (so_far : Sum) (met : Met) → so_far ≡ shown no_size → Shows met st → GoesOn levels (reads levels all st) [] all so_far met
+  goes_on_start levels all st so_far met e shows =
+      let same : levels - 0 ≡ levels = omega arith in
+      record { now = st; total = no_size; is_sum = e; shows = shows; rest = sym (combined_none (reads levels all st)) ∙ ap (λ n. combined no_size (reads n all st)) (sym same) }
 
-  abbrev pub piece_counted : Met → Met
-  piece_counted met = record met { looks = record { pieces = counted (met.looks.pieces + 1); ends = met.looks.ends } }
+  pub end_stops : (levels : ℕ) (whole : Reading) (so_far : Sum) (met : Met) → GoesOn levels whole [] [] so_far met → Stops levels (Ok so_far) [] (end_counted met) whole
+  end_stops levels whole so_far met g =
+      let same : Ok so_far ≡ shown_result whole.0 = ap Ok (g.is_sum ∙ ap shown (sym (plus_none_right g.total))) ∙ sym (ap (λ (a : Reading). shown_result a.0) g.rest) in
+      record {
+        now = with_reach (ended g.now) (max g.total.height g.now.reach);
+        same = same;
+        shows = with_reach_shows (end_counted met) (ended g.now) (max g.total.height g.now.reach) (shows_end met g.now g.shows);
+        reach = tt;
+        leaves = ap (λ (a : Reading). a.1) g.rest;
+      }
 
-  abbrev pub end_counted : Met → Met
-  end_counted met = record met { looks = record { pieces = met.looks.pieces; ends = counted (met.looks.ends + 1) } }
+  -- a text has ended, and the one around it goes on
+  pub end_goes_on : (levels : ℕ) (whole : Reading) (frames : List Frame) (frame : Frame) (so_far sum : Sum) (met after : Met) → GoesOn levels whole (frames ++ frame ∷ []) [] so_far met
+      → ((now : State) (size : Size) → so_far ≡ shown size → Shows (end_counted met) now → Shows after (with_mark now frame.label.name.now (Done size)))
+      → ((x y : Size) → frame.sum ≡ shown x → so_far ≡ shown y → sum ≡ shown (plus x (bracketed alias_only (label_view frame.label) y)))
+      → GoesOn levels whole frames frame.items sum after
+  end_goes_on levels whole frames frame so_far sum met after g marks adds =
+      let read = with_reach (ended g.now) (max g.total.height g.now.reach) in
+      let inner : Reading = (Ok (plus g.total no_size), read) in
+      let p = around_pop levels frames frame inner whole g.rest in
+      let left = reads (levels - length frames) frame.items in
+      let size = bracketed alias_only (label_view frame.label) g.total in
+      let last = deeper (with_mark read frame.label.name.now (Done g.total)) in
+      let same : around (levels - length frames) (label_view frame.label) frame.items p.total inner ≡ combined (plus p.total size) (left last) =
+      ap (λ (z : Size). around (levels - length frames) (label_view frame.label) frame.items p.total (Ok z, read)) (plus_none_right g.total)
+      ∙ combined_twice p.total size (left last) in
+      record {
+        now = last;
+        total = plus p.total size;
+        is_sum = adds p.total g.total p.is_sum g.is_sum;
+        shows = with_reach_shows after (with_mark read frame.label.name.now (Done g.total)) (suc read.reach) (marks read g.total g.is_sum (with_reach_shows (end_counted met) (ended g.now) read.reach (shows_end met g.now g.shows)));
+        rest = subst (λ a. AreAround levels frames a whole) same p.rest;
+      }
 
-  shows_piece : (met : Met) (st : State) → Shows met st → Shows (piece_counted met) (looked st)
-  shows_piece met st s = record { marks = s.marks; pieces = omega (arith, s.pieces); ends = s.ends; bracket = s.bracket }
+  module _ (levels : ℕ) (whole : Reading) (frames : List Frame) (item : Item) (left : List Item) (so_far : Sum) (met after : Met) (g : GoesOn levels whole frames (item ∷ left) so_far met) where
+    abbrev room : ℕ
+    room = levels - length frames
 
-  shows_end : (met : Met) (st : State) → Shows met st → Shows (end_counted met) (ended st)
-  shows_end met st s = record { marks = s.marks; pieces = s.pieces; ends = omega (arith, s.ends); bracket = s.bracket }
+    module _ (r : Result Sum Failure) (h : (now : State) → Shows (piece_counted met) now → Gives r after (item_within alias_only resolve room item now)) where
+      abbrev here : Reading
+      here = item_within alias_only resolve room item (looked g.now)
 
-  pub end_gives : (all : List Item) (st : State) (so_far : Sum) (met : Met) → GoesOn all st [] so_far met → Gives (Ok so_far) (end_counted met) (reads all st)
-  end_gives all st so_far met g =
-      subst (Gives (Ok so_far) (end_counted met)) (sym g.rest)
-      (record { same = ap Ok (g.is_sum ∙ ap shown (sym (plus_none_right g.total))); leaves = shows_end met g.now g.shows })
+      gives : Gives r after here
+      gives = h (looked g.now) (shows_piece met g.now g.shows)
 
-  module _ (all : List Item) (st : State) (item : Item) (left : List Item) (so_far : Sum) (met after : Met) (g : GoesOn all st (item ∷ left) so_far met)
-      (r : Result Sum CodeFault) (h : (now : State) → Shows (piece_counted met) now → Gives r after (item_within alias_only resolve levels item now)) where
-    abbrev here : Answer
-    here = item_within alias_only resolve levels item (looked g.now)
+      pub fault_stops : (failure last : Failure) → r ≡ Err failure → last.fault ≡ failure.fault → last.height ≡ max so_far.height failure.height → Stops levels (Err last) frames after whole
+      unfolding gives
+      fault_stops failure last is fault height =
+          let p = shown_err here.0 (fault_view failure.fault) (sym (ap result_view is) ∙ gives.same) in
+          let now = with_reach here.1 (max g.total.height here.1.reach) in
+          let over : combined g.total (reads room (item ∷ left) g.now) ≡ (Err (fault_view failure.fault), now) = ap (λ (a : Result Size Fault). combined g.total (then_rest a here.1 (reads room left))) p in
+          let end : whole ≡ (Err (fault_view failure.fault), unwound levels frames (fault_view failure.fault) now) = around_fault levels frames (fault_view failure.fault) now whole (subst (λ a. AreAround levels frames a whole) over g.rest) in
+          let same : fault_view last.fault ≡ fault_view failure.fault = ap fault_view fault in
+          let reached : here.1.reach ≡ failure.height = subst (λ a. HasReach a here.1) is gives.reach in
+          let sum : so_far.height ≡ g.total.height = ap (λ (z : Sum). z.height) g.is_sum in
+          record {
+            now = now;
+            same = ap Err same ∙ sym (ap (λ (a : Reading). shown_result a.0) end);
+            shows = with_reach_shows after here.1 now.reach gives.leaves;
+            reach = omega (arith, reached, sum, height);
+            leaves = ap (λ (a : Reading). a.1) end ∙ ap (λ f. unwound levels frames f now) (sym same);
+          }
 
-    gives : Gives r after here
-    gives = h (looked g.now) (shows_piece met g.now g.shows)
+      pub sum_goes_on : (one sum : Sum) → r ≡ Ok one → ((x y : Size) → so_far ≡ shown x → one ≡ shown y → sum ≡ shown (plus x y)) → GoesOn levels whole frames left sum after
+      unfolding gives
+      sum_goes_on one sum is adds =
+          let (z, p, q) = shown_ok here.0 one (sym (ap result_view is) ∙ gives.same) in
+          let over : combined g.total (reads room (item ∷ left) g.now) ≡ combined (plus g.total z) (reads room left here.1) =
+          ap (λ (a : Result Size Fault). combined g.total (then_rest a here.1 (reads room left))) p ∙ combined_twice g.total z (reads room left here.1) in
+          record {
+            now = here.1;
+            total = plus g.total z;
+            is_sum = adds g.total z g.is_sum q;
+            shows = gives.leaves;
+            rest = subst (λ a. AreAround levels frames a whole) over g.rest;
+          }
 
-    pub fault_gives : (fault : CodeFault) → r ≡ Err fault → Gives (Err fault) after (reads all st)
-    unfolding gives
-    fault_gives fault is =
-        let p = shown_err here.0 (fault_view fault) (sym (ap result_view is) ∙ gives.same) in
-        let over : reads all st ≡ (Err (fault_view fault), here.1) = g.rest ∙ ap (λ (a : Result Size Fault). combined g.total (then_rest a here.1 (reads left))) p in
-        subst (Gives (Err fault) after) (sym over) (record { same = refl; leaves = gives.leaves })
-
-    pub sum_goes_on : (one sum : Sum) → r ≡ Ok one → ((x y : Size) → so_far ≡ shown x → one ≡ shown y → sum ≡ shown (plus x y)) → GoesOn all st left sum after
-    unfolding gives
-    sum_goes_on one sum is adds =
-        let (z, p, q) = shown_ok here.0 one (sym (ap result_view is) ∙ gives.same) in
+    -- a text is opened, and the one around it waits
+    pub text_goes_on : (label : CodeLabel) (items : List Item) (start : Sum) → IsOpened resolve room item label items (piece_counted met) after → start ≡ shown no_size
+        → GoesOn levels whole (frames ++ record { label = label; items = left; sum = so_far } ∷ []) items start after
+    text_goes_on label items start o none_yet =
+        let frame : Frame = record { label = label; items = left; sum = so_far } in
+        let l = label_view label in
+        let before = labelled l (looked g.now) in
+        let now = with_mark before label.name.now Begun in
+        let fewer : room ≡ suc (room - 1) = omega (arith, o.room) in
+        let less : room - 1 ≡ levels - length (frames ++ frame ∷ []) = omega (arith, length-append frames (frame ∷ [])) in
+        let inner = reads (room - 1) (resolve o.text) now in
+        let visited : visit alias_only resolve room label.name.now o.text before ≡ finish label.name.now room inner =
+        ap (λ n. visit alias_only resolve n label.name.now o.text before) fewer
+        ∙ ap (λ n. by_mark (before.marks label.name.now) n before (finish label.name.now n inner)) (sym fewer)
+        ∙ o.unknown (looked g.now) (shows_piece met g.now g.shows) (finish label.name.now room inner) in
+        let over : combined g.total (reads room (item ∷ left) g.now) ≡ around room l left g.total inner =
+        ap (λ i. combined g.total (reads room (i ∷ left) g.now)) o.is
+        ∙ ap (λ (a : Reading). combined g.total (then_rest (wrapped alias_only l a.0) (deeper a.1) (reads room left))) visited in
+        let same : inner ≡ combined no_size (reads (levels - length (frames ++ frame ∷ [])) items now) =
+        sym (combined_none inner) ∙ ap (λ n. combined no_size (reads n (resolve o.text) now)) less ∙ ap (λ is. combined no_size (reads (levels - length (frames ++ frame ∷ [])) is now)) (sym o.starts) in
         record {
-          now = here.1;
-          total = plus g.total z;
-          is_sum = adds g.total z g.is_sum q;
-          shows = gives.leaves;
-          rest = g.rest ∙ ap (λ (a : Result Size Fault). combined g.total (then_rest a here.1 (reads left))) p ∙ combined_twice g.total z (reads left here.1);
+          now = now;
+          total = no_size;
+          is_sum = none_yet;
+          shows = o.shows (looked g.now) (shows_piece met g.now g.shows);
+          rest = subst (λ a. AreAround levels (frames ++ frame ∷ []) a whole) same
+              (around_push levels frames frame g.total inner whole g.is_sum (subst (λ a. AreAround levels frames a whole) over g.rest));
         }
-
-  -- ---- the visit of a name
-
-  unmarked : (o : Option (Option Size)) → None ≡ option_map (option_map shown) o → o ≡ None
-  unmarked None e = refl
-  unmarked (Some o) e = cc
-
-  module _ (name text : List ℕ) (met : Met) (st : State) (shows : Shows met st) where
-    abbrev fresh : Answer
-    fresh = finish name (look_within alias_only resolve levels (resolve text) (with_mark st name None))
-
-    pub known_gives : (r : Result Sum CodeFault) → ((answer : Answer) → Knows r st (by_mark (st.marks name) (suc levels) st answer)) → Gives r met (visit alias_only resolve (suc levels) name text st)
-    known_gives r h = let k = h fresh in record { same = k.same; leaves = subst (Shows met) (sym k.stays) shows }
-
-    visit_fresh : mark_of met.marks name ≡ None → visit alias_only resolve (suc levels) name text st ≡ fresh
-    visit_fresh none = ap (λ o. by_mark o (suc levels) st fresh) (unmarked (st.marks name) (sym none ∙ shows.marks name))
-
-    module _ (none : mark_of met.marks name ≡ None) (after : Met) (r : Result Sum CodeFault) (gives : Gives r after (look_within alias_only resolve levels (resolve text) (with_mark st name None))) where
-      abbrev inner : Answer
-      inner = look_within alias_only resolve levels (resolve text) (with_mark st name None)
-
-      pub failed_gives : (n : ℕ) → n ≡ suc levels → (fault : CodeFault) → r ≡ Err fault → Gives (Err fault) after (visit alias_only resolve n name text st)
-      failed_gives n e fault is =
-          let p = shown_err inner.0 (fault_view fault) (sym (ap result_view is) ∙ gives.same) in
-          let over : visit alias_only resolve n name text st ≡ (Err (fault_view fault), inner.1) =
-          ap (λ k. visit alias_only resolve k name text st) e ∙ visit_fresh none ∙ ap (λ (a : Result Size Fault). finish name (a, inner.1)) p in
-          subst (Gives (Err fault) after) (sym over) (record { same = refl; leaves = gives.leaves })
-
-      pub finished_gives : (n : ℕ) → n ≡ suc levels → (sum : Sum) → r ≡ Ok sum → (last : Met) → ((now : State) (size : Option Size) → Some sum ≡ option_map shown size → Shows after now → Shows last (with_mark now name size))
-          → Gives (Ok sum) last (visit alias_only resolve n name text st)
-      finished_gives n e sum is last marks =
-          let (z, p, q) = shown_ok inner.0 sum (sym (ap result_view is) ∙ gives.same) in
-          let over : visit alias_only resolve n name text st ≡ (Ok z, with_mark inner.1 name (Some z)) =
-          ap (λ k. visit alias_only resolve k name text st) e ∙ visit_fresh none ∙ ap (λ (a : Result Size Fault). finish name (a, inner.1)) p in
-          subst (Gives (Ok sum) last) (sym over) (record { same = ap Ok q; leaves = marks inner.1 (Some z) (ap Some q) gives.leaves })

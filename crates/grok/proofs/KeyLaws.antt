@@ -1,22 +1,23 @@
--- Keys of labels whose alias doesn't end in a bracket never meet, and keys without a clash are distinct.
-use Rattle.std.proofs.Common.{◌≡◌, ℕ, zero, suc, ◌+◌, ◌-◌, take, ◌<◌, ◌≤◌, Bool, true, false, cond, List, [], ◌∷◌, ◌++◌, map, length, Option, Some, None, refl, sym, ◌∙◌, ap, subst, inl, inr, arith, append_assoc}
-use Rattle.std.specs.Prelude.{codes, ◌==◌}
+-- Keys of labels whose alias doesn't end in a number in brackets never meet, and keys without a clash are distinct.
+use Rattle.std.proofs.Common.{◌≡◌, ℕ, zero, suc, ◌+◌, ◌<◌, ◌≤◌, Bool, true, false, cond, List, [], ◌∷◌, ◌++◌, map, Option, Some, None, refl, sym, ◌∙◌, ap, subst, inl, inr, arith, append_assoc}
+use Rattle.std.specs.Prelude.{◌==◌}
 use Rattle.std.specs.Option.{option_map}
 use Rattle.std.specs.List.{AllByRecursion}
 use Rattle.std.specs.Int.Digits.{digits_of}
 use Rattle.std.specs.Str.{bytes_eq}
-use Rattle.std.proofs.lemmas.Bool.{true≢false, false_from_ne_true, cases_eq, cases_Bool, ne_eqb, eqb-true}
+use Rattle.std.proofs.lemmas.Bool.{true≢false, cases_eq, cases_Bool, ne_eqb}
 use Rattle.std.proofs.lemmas.List.{append_cancel_right}
 use Rattle.std.proofs.lemmas.List.Sums.{sum_by-cons}
 use Rattle.std.proofs.lemmas.Int.Digits.{all_below_base_digits_of, same_from_digits_of}
-use Rattle.grok_parser.specs.Pieces.{is_name_byte, Parts, Piece, Regular, Placeholder, Malformed, pieces}
-use Rattle.grok_parser.specs.Grammar.{AllPass, ArePieces}
-use Rattle.grok.specs.Tree.{Definitions, no_definitions, with_written, opened, label_of, items_after, Item, Bytes, Broken, Opening, items_of, events, inside, deepest, tree, text_of, Label, Event, Text, Open, Close, Fails, is_absent, first_structural, reached}
-use Rattle.grok.specs.Keys.{is_recorded, wanted, numbered, key_after, keys_after, keys, recorded, how_often, is_among, first_fault_after, Structural, Clash, ends_in_bracket, has_bracket, AreDistinct, ClashNeedsBracket, KeysAreDistinct}
-use Rattle.grok_match.specs.Numeral.{numeral}
-use Rattle.grok.specs.Given.{taken_of}
-use Rattle.grok_match.proofs.SameText.{same_text, text_same}
-use Rattle.grok_parser.proofs.Adequate.{pieces_are}
+use Rattle.grok.specs.Pieces.{is_name_byte, Parts, Piece, Regular, Placeholder, Malformed, pieces}
+use Rattle.grok.specs.Grammar.{AllPass, ArePieces}
+use Rattle.grok.specs.Tree.{Definitions, no_definitions, with_written, resolved, label_of, items_after, Item, TextItem, FaultItem, PlaceholderItem, items_of, events, inside, deepest, tree, meaning_text, Label, Event, Text, Open, Close, FaultEvent, is_absent, first_structural, reached}
+use Rattle.grok.specs.Keys.{is_recorded, wanted, numbered, key_after, keys_after, keys, recorded, how_often, is_among, first_fault_after, Structural, Clash, ends_in_number, has_numbered_alias, AreDistinct, ClashNeedsNumber, KeysAreDistinct}
+use Rattle.grok.specs.Numeral.{numeral}
+use Rattle.grok.specs.OpensSoFar.{taken_of}
+use Rattle.grok.proofs.NumberedKeys.{numbered_ends}
+use Rattle.grok.proofs.SameText.{same_text, text_same}
+use Rattle.grok.proofs.Adequate.{pieces_are}
 
 -- ---- the last bracket
 opens_bracket : List ℕ → Bool
@@ -63,44 +64,26 @@ same_digits (x ∷ xs) (y ∷ ys) e =
 same_numeral : (a b : ℕ) → numeral (suc a) ≡ numeral (suc b) → suc a ≡ suc b
 same_numeral a b e = same_from_digits_of 10 (suc a) (suc b) (omega arith) (same_digits (digits_of 10 (suc a)) (digits_of 10 (suc b)) e)
 
-ends_after : (xs : List ℕ) → ends_in_bracket (xs ++ 93 ∷ []) ≡ true
-ends_after [] = refl
-ends_after (x ∷ []) = refl
-ends_after (x ∷ y ∷ xs) = ends_after (y ∷ xs)
-
-numbered_ends : (key : List ℕ) (count : ℕ) → ends_in_bracket (numbered key (suc count)) ≡ true
-numbered_ends key count = ends_after (key ++ codes "[" ++ numeral (suc count))
-
 -- a numbered key says which key was wanted, and how often before
-pub numbered_same : (k l : List ℕ) (c d : ℕ) → ends_in_bracket k ≡ false → ends_in_bracket l ≡ false → numbered k c ≡ numbered l d → (k ≡ l) × (c ≡ d)
+pub numbered_same : (k l : List ℕ) (c d : ℕ) → ends_in_number k ≡ false → ends_in_number l ≡ false → numbered k c ≡ numbered l d → (k ≡ l) × (c ≡ d)
 numbered_same k l zero zero p q e = (e, refl)
-numbered_same k l zero (suc d) p q e = absurd (true≢false (sym (numbered_ends l d) ∙ ap ends_in_bracket (sym e) ∙ p))
-numbered_same k l (suc c) zero p q e = absurd (true≢false (sym (numbered_ends k c) ∙ ap ends_in_bracket e ∙ q))
+numbered_same k l zero (suc d) p q e = absurd (true≢false (sym (numbered_ends l d) ∙ ap ends_in_number (sym e) ∙ p))
+numbered_same k l (suc c) zero p q e = absurd (true≢false (sym (numbered_ends k c) ∙ ap ends_in_number e ∙ q))
 numbered_same k l (suc c) (suc d) p q e =
     let regroup : (key : List ℕ) (n : ℕ) → numbered key (suc n) ≡ key ++ (91 ∷ (numeral (suc n) ++ 93 ∷ [])) = λ key n. simp append_assoc in
     let both = last_bracket k l (numeral (suc c) ++ 93 ∷ []) (numeral (suc d) ++ 93 ∷ []) (numeral_plain c) (numeral_plain d) (sym (regroup k c) ∙ e ∙ regroup l d) in
     (both.0, same_numeral c d (append_cancel_right (numeral (suc c)) (numeral (suc d)) (93 ∷ []) both.1))
 
-before_end : (bs : List ℕ) → ends_in_bracket bs ≡ true → (front : List ℕ) × (bs ≡ front ++ 93 ∷ [])
-before_end [] h = cc
-before_end (c ∷ []) h = ([], ap (λ d. d ∷ []) (eqb-true c 93 h))
-before_end (c ∷ d ∷ cs) h = let (front, is) = before_end (d ∷ cs) h in (c ∷ front, ap (λ xs. c ∷ xs) is)
-
--- what `ends_with` says
-pub ends_is : (bs : List ℕ) (r : Bool) → (r ≡ true → bs ≡ take (length bs - 1) bs ++ 93 ∷ []) × ((front : List ℕ) → bs ≡ front ++ 93 ∷ [] → r ≡ true) → r ≡ ends_in_bracket bs
-ends_is bs true h = sym (ap ends_in_bracket (h.0 refl) ∙ ends_after (take (length bs - 1) bs))
-ends_is bs false h = sym (false_from_ne_true (ends_in_bracket bs) (λ e. let (front, is) = before_end bs e in true≢false (sym (h.1 front is))))
-
--- ---- no clash without a bracket
+-- ---- no clash without a number in brackets
 pub how_often_more : (label : Label) (before : List Label) (key : List ℕ) → how_often (label ∷ before) key ≡ cond (bytes_eq (wanted label) key) 1 0 + how_often before key
 how_often_more label before key = sum_by-cons (λ earlier. cond (bytes_eq (wanted earlier) key) 1 0) label before
 
--- labels that don't want a key with a last bracket
+-- labels that don't want a key that ends in a number
 abbrev pub ArePlain : List Label → Type 0
 ArePlain [] = Unit {0}
-ArePlain (label ∷ labels) = (ends_in_bracket (wanted label) ≡ false) × ArePlain labels
+ArePlain (label ∷ labels) = (ends_in_number (wanted label) ≡ false) × ArePlain labels
 
-pub not_taken : (before : List Label) (key : List ℕ) (n : ℕ) → ArePlain before → ends_in_bracket key ≡ false → how_often before key ≤ n → is_among (numbered key n) (taken_of before) ≡ false
+pub not_taken : (before : List Label) (key : List ℕ) (n : ℕ) → ArePlain before → ends_in_number key ≡ false → how_often before key ≤ n → is_among (numbered key n) (taken_of before) ≡ false
 not_taken [] key n plain p few = refl
 not_taken (label ∷ before) key n plain p few = elim (cases_Bool (bytes_eq (key_after before label) (numbered key n))) [
   | inl same ↦
@@ -116,17 +99,16 @@ not_taken (label ∷ before) key n plain p few = elim (cases_Bool (bytes_eq (key
       rw other (not_taken before key n plain.1 p (omega arith))
 ]
 
-name_ends : (name : List ℕ) → AllPass is_name_byte name → ends_in_bracket name ≡ false
+name_ends : (name : List ℕ) → AllPass is_name_byte name → ends_in_number name ≡ false
 name_ends [] h = refl
-name_ends (c ∷ []) h = elim (cases_eq c 93) [
+name_ends (c ∷ cs) h = elim (cases_eq c 91) [
   | inl e ↦
-      let bad : is_name_byte 93 ≡ true = subst (λ d. is_name_byte d ≡ true) e h.0 in
+      let bad : is_name_byte 91 ≡ true = subst (λ d. is_name_byte d ≡ true) e h.0 in
       cc
-  | inr ne ↦ ne_eqb c 93 ne
+  | inr ne ↦ rw (ne_eqb c 91 ne) (name_ends cs h.1)
 ]
-name_ends (c ∷ d ∷ cs) h = name_ends (d ∷ cs) h.1
 
-wants_plainly : (alias name : List ℕ) → AllPass is_name_byte name → ends_in_bracket alias ≡ false → ends_in_bracket (cond (is_absent alias) name alias) ≡ false
+wants_plainly : (alias name : List ℕ) → AllPass is_name_byte name → ends_in_number alias ≡ false → ends_in_number (cond (is_absent alias) name alias) ≡ false
 wants_plainly [] name named plain = name_ends name named
 wants_plainly (c ∷ cs) name named plain = plain
 
@@ -135,25 +117,25 @@ abbrev AreNamed : List Event → Type 0
 AreNamed [] = Unit {0}
 AreNamed (Text text ∷ events) = AreNamed events
 AreNamed (Close ∷ events) = AreNamed events
-AreNamed (Fails fault ∷ events) = AreNamed events
+AreNamed (FaultEvent fault ∷ events) = AreNamed events
 AreNamed (Open label meaning ∷ events) = AllPass is_name_byte label.name × AreNamed events
 
 abbrev HaveNames : List Item → Type 0
 HaveNames [] = Unit {0}
-HaveNames (Bytes text ∷ items) = HaveNames items
-HaveNames (Broken fault ∷ items) = HaveNames items
-HaveNames (Opening label meaning ∷ items) = AllPass is_name_byte label.name × HaveNames items
+HaveNames (TextItem text ∷ items) = HaveNames items
+HaveNames (FaultItem fault ∷ items) = HaveNames items
+HaveNames (PlaceholderItem label meaning ∷ items) = AllPass is_name_byte label.name × HaveNames items
 
-no_clash : (alias_only : Bool) (before : List Label) (tree : List Event) → ArePlain before → AreNamed tree → has_bracket (reached tree) ≡ false
+no_clash : (alias_only : Bool) (before : List Label) (tree : List Event) → ArePlain before → AreNamed tree → has_numbered_alias (reached tree) ≡ false
     → first_fault_after alias_only before (taken_of before) tree ≡ option_map Structural (first_structural tree)
 no_clash alias_only before [] plain named quiet = refl
 no_clash alias_only before (Text text ∷ es) plain named quiet = no_clash alias_only before es plain named quiet
 no_clash alias_only before (Close ∷ es) plain named quiet = no_clash alias_only before es plain named quiet
-no_clash alias_only before (Fails fault ∷ es) plain named quiet = refl
+no_clash alias_only before (FaultEvent fault ∷ es) plain named quiet = refl
 no_clash alias_only before (Open label meaning ∷ es) plain named quiet =
-    let split : (b : Bool) → cond b true (has_bracket (reached es)) ≡ false → (b ≡ false) × (has_bracket (reached es) ≡ false) = λ b. elim b as (λ v. cond v true (has_bracket (reached es)) ≡ false → (v ≡ false) × (has_bracket (reached es) ≡ false)) [ true ↦ λ h. cc | false ↦ λ h. (refl, h) ] in
-    let parts = split (ends_in_bracket label.alias) quiet in
-    let wants : ends_in_bracket (wanted label) ≡ false = wants_plainly label.alias label.name named.0 parts.0 in
+    let split : (b : Bool) → cond b true (has_numbered_alias (reached es)) ≡ false → (b ≡ false) × (has_numbered_alias (reached es) ≡ false) = λ b. elim b as (λ v. cond v true (has_numbered_alias (reached es)) ≡ false → (v ≡ false) × (has_numbered_alias (reached es) ≡ false)) [ true ↦ λ h. cc | false ↦ λ h. (refl, h) ] in
+    let parts = split (ends_in_number label.alias) quiet in
+    let wants : ends_in_number (wanted label) ≡ false = wants_plainly label.alias label.name named.0 parts.0 in
     let free : is_among (key_after before label) (taken_of before) ≡ false =
     not_taken before (wanted label) (how_often before (wanted label)) plain wants (omega arith) in
     let one = no_clash alias_only (label ∷ before) es (wants, plain) named.1 parts.1 in
@@ -167,16 +149,16 @@ named-append : (xs ys : List Event) → AreNamed xs → AreNamed ys → AreNamed
 named-append [] ys p q = q
 named-append (Text text ∷ xs) ys p q = named-append xs ys p q
 named-append (Close ∷ xs) ys p q = named-append xs ys p q
-named-append (Fails fault ∷ xs) ys p q = named-append xs ys p q
+named-append (FaultEvent fault ∷ xs) ys p q = named-append xs ys p q
 named-append (Open label meaning ∷ xs) ys p q = (p.0, named-append xs ys p.1 q)
 
 named_events : (inner : List ℕ → List Event) → ((text : List ℕ) → AreNamed (inner text)) → (items : List Item) → HaveNames items → AreNamed (events inner items)
 named_events inner h [] p = tt
-named_events inner h (Bytes text ∷ items) p = named_events inner h items p
-named_events inner h (Broken fault ∷ items) p = named_events inner h items p
-named_events inner h (Opening label meaning ∷ items) p = (p.0, named-append (inner (text_of meaning)) (events inner items) (h (text_of meaning)) (named_events inner h items p.1))
+named_events inner h (TextItem text ∷ items) p = named_events inner h items p
+named_events inner h (FaultItem fault ∷ items) p = named_events inner h items p
+named_events inner h (PlaceholderItem label meaning ∷ items) p = (p.0, named-append (inner (meaning_text meaning)) (events inner items) (h (meaning_text meaning)) (named_events inner h items p.1))
 
-named_opened : (parts : Parts) (written stored : Option (List ℕ)) (items : List Item) → AllPass is_name_byte parts.name → HaveNames items → HaveNames (opened (label_of parts) written stored ∷ items)
+named_opened : (parts : Parts) (written stored : Option (List ℕ)) (items : List Item) → AllPass is_name_byte parts.name → HaveNames items → HaveNames (resolved (label_of parts) written stored ∷ items)
 named_opened parts (Some text) stored items named rest = (named, rest)
 named_opened parts None (Some text) items named rest = (named, rest)
 named_opened parts None None items named rest = rest
@@ -202,8 +184,8 @@ named_tree : (stored : Definitions) (pattern : List ℕ) → AreNamed (tree stor
 unfolding tree
 named_tree stored pattern = named_events (inside (items_of stored) deepest) (named_inside stored deepest) (items_of stored pattern) (named_text stored pattern)
 
-pub clash_needs_bracket : ClashNeedsBracket
-clash_needs_bracket alias_only stored pattern quiet = no_clash alias_only [] (tree stored pattern) tt (named_tree stored pattern) quiet
+pub clash_needs_number : ClashNeedsNumber
+clash_needs_number alias_only stored pattern quiet = no_clash alias_only [] (tree stored pattern) tt (named_tree stored pattern) quiet
 
 -- ---- keys are distinct
 -- none of the keys stands among the taken ones or earlier
@@ -229,7 +211,7 @@ arrive : (alias_only : Bool) (before : List Label) (taken : List (List ℕ)) (tr
 arrive alias_only before taken [] e = tt
 arrive alias_only before taken (Text text ∷ es) e = arrive alias_only before taken es e
 arrive alias_only before taken (Close ∷ es) e = arrive alias_only before taken es e
-arrive alias_only before taken (Fails fault ∷ es) e = cc
+arrive alias_only before taken (FaultEvent fault ∷ es) e = cc
 arrive alias_only before taken (Open label meaning ∷ es) e =
     let key = key_after before label in
     elim (is_recorded alias_only label) as (λ b. cond b (cond (is_among key taken) (Some (Clash key)) (first_fault_after alias_only (label ∷ before) (key ∷ taken) es)) (first_fault_after alias_only before taken es) ≡ None

@@ -4,7 +4,7 @@ use Rattle.std.proofs.lemmas.Bool.{ltb-true, ltb-false}
 use Rattle.std.specs.Prelude.{nat_lt}
 use Rattle.grok.specs.Tree.{Fault, Event, first_structural}
 use Rattle.grok.specs.Expanded.{expanded, groups, nesting}
-use Rattle.grok.specs.Measured.{Measured, Faulty, Sized, PastLimit, size_within, fault_or, measured_tree}
+use Rattle.grok.specs.Measured.{Measured, Faulty, Sized, TooLong, size_within, fault_or, measured_tree}
 
 -- a tree without a fault, and its size
 pub record HasSize (alias_only : Bool) (tree : List Event) (bytes count height : ℕ) : Type 0 where
@@ -29,7 +29,7 @@ module _ (alias_only : Bool) (tree : List Event) where
   pub fault_case : (fault : Fault) → Faulty fault ≡ measured_tree alias_only tree → first_structural tree ≡ Some fault
   fault_case fault e = go (first_structural tree) (nat_lt bytes (2 ^ 64)) e
     where
-      go : (o : Option Fault) (b : Bool) → Faulty fault ≡ fault_or o (cond b (Sized bytes (groups alias_only tree) (nesting tree)) PastLimit) → o ≡ Some fault
+      go : (o : Option Fault) (b : Bool) → Faulty fault ≡ fault_or o (cond b (Sized bytes (groups alias_only tree) (nesting tree)) TooLong) → o ≡ Some fault
       go (Some f) b e = let same : fault ≡ f = cc in ap Some (sym same)
       go None true e = cc
       go None false e = cc
@@ -38,18 +38,18 @@ module _ (alias_only : Bool) (tree : List Event) where
   size_case n count height e = go (first_structural tree) (nat_lt bytes (2 ^ 64)) refl refl e
     where
       go : (o : Option Fault) (b : Bool) → first_structural tree ≡ o → nat_lt bytes (2 ^ 64) ≡ b
-          → Sized n count height ≡ fault_or o (cond b (Sized bytes (groups alias_only tree) (nesting tree)) PastLimit) → HasSize alias_only tree n count height
+          → Sized n count height ≡ fault_or o (cond b (Sized bytes (groups alias_only tree) (nesting tree)) TooLong) → HasSize alias_only tree n count height
       go (Some f) b is low e = cc
       go None false is low e = cc
       go None true is low e =
           let same : n ≡ bytes = cc in
           record { clean = is; bytes_are = same; groups_are = cc; nesting_is = cc; fits = rw same (ltb-true bytes (2 ^ 64) low) }
 
-  pub long_case : PastLimit ≡ measured_tree alias_only tree → IsTooLong alias_only tree
+  pub long_case : TooLong ≡ measured_tree alias_only tree → IsTooLong alias_only tree
   long_case e = go (first_structural tree) (nat_lt bytes (2 ^ 64)) refl refl e
     where
       go : (o : Option Fault) (b : Bool) → first_structural tree ≡ o → nat_lt bytes (2 ^ 64) ≡ b
-          → PastLimit ≡ fault_or o (cond b (Sized bytes (groups alias_only tree) (nesting tree)) PastLimit) → IsTooLong alias_only tree
+          → TooLong ≡ fault_or o (cond b (Sized bytes (groups alias_only tree) (nesting tree)) TooLong) → IsTooLong alias_only tree
       go (Some f) b is low e = cc
       go None true is low e = cc
       go None false is low e = record { clean = is; past = ltb-false bytes (2 ^ 64) low }

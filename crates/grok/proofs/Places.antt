@@ -2,9 +2,9 @@
 use Rattle.std.proofs.Common.{◌≡◌, ℕ, zero, suc, ◌+◌, ◌-◌, ◌*◌, ◌/◌, ◌%◌, ◌^◌, ◌<◌, ◌≤◌, cond, [], ◌∷◌, length, refl, sym, ◌∙◌, ap, subst, inl, inr, arith, length-append, lit≤}
 use Rattle.std.proofs.lemmas.Bool.{cases_lt, le-leb, lt-leb}
 use Rattle.std.specs.Prelude.{nat_le}
-use Rattle.grok_match.specs.Numeral.{numeral}
+use Rattle.grok.specs.Numeral.{numeral}
 use Rattle.grok.specs.Sizes.{places_from}
-use Rattle.grok_match.proofs.Numerals.{numeral_digit, numeral_step}
+use Rattle.grok.proofs.Numerals.{numeral_digit, numeral_step}
 
 -- the powers of ten
 abbrev pub tens : ℕ → ℕ

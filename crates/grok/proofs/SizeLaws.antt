@@ -1,17 +1,17 @@
 -- Laws of sizes: where fewer levels may be opened, the same size or too deep; and a text that leads to itself goes too deep.
 use Rattle.std.proofs.Common.{◌≡◌, ℕ, zero, suc, ◌+◌, ◌-◌, ◌<◌, ◌≤◌, Bool, List, [], ◌∷◌, ◌++◌, Result, Ok, Err, refl, sym, ◌∙◌, ap, subst, ◌⊎◌, inl, inr, arith, zero-add, suc-add, add-one}
 use Rattle.std.proofs.lemmas.Bool.{cases_lt}
-use Rattle.grok.specs.Tree.{Fault, TooDeep, Label, Meaning, text_of, Item, Bytes, Broken, Opening}
-use Rattle.grok.specs.Sizes.{Size, no_size, size_of_bytes, plus, both, bracketed, wrapped, size_of, sizes, measured}
+use Rattle.grok.specs.Tree.{Fault, TooDeep, Label, Meaning, meaning_text, Item, TextItem, FaultItem, PlaceholderItem}
+use Rattle.grok.specs.Sizes.{Size, no_size, size_of_bytes, plus, both, bracketed, wrapped, size_of, sizes, size_or_fault}
 
 -- What a remembered size says of a text: it is the size wherever that many levels may be opened, and elsewhere the text goes too deep.
 pub record IsSizeOf (alias_only : Bool) (resolve : List ℕ → List Item) (text : List ℕ) (size : Size) : Type 0 where
-  pub fits : (levels : ℕ) → size.height < levels → measured alias_only resolve levels text ≡ Ok size
-  pub deep : (levels : ℕ) → levels ≤ size.height → measured alias_only resolve levels text ≡ Err TooDeep
+  pub fits : (levels : ℕ) → size.height < levels → size_or_fault alias_only resolve levels text ≡ Ok size
+  pub deep : (levels : ℕ) → levels ≤ size.height → size_or_fault alias_only resolve levels text ≡ Err TooDeep
 
 -- Where one text goes too deep, the other one, which opens it that many levels further up, does.
 pub record Leads (alias_only : Bool) (resolve : List ℕ → List Item) (down : ℕ) (from to : List ℕ) : Type 0 where
-  pub leads : (levels : ℕ) → measured alias_only resolve levels to ≡ Err TooDeep → measured alias_only resolve (levels + down) from ≡ Err TooDeep
+  pub leads : (levels : ℕ) → size_or_fault alias_only resolve levels to ≡ Err TooDeep → size_or_fault alias_only resolve (levels + down) from ≡ Err TooDeep
 
 pub same_size : (a b : Size) → a.bytes ≡ b.bytes → a.groups ≡ b.groups → a.height ≡ b.height → a ≡ b
 same_size a b p q r = λ i. record { bytes = p i; groups = q i; height = r i }
@@ -73,9 +73,9 @@ cut_trans r s t (inr p) q = inr p
 module _ (alias_only : Bool) where
   pub cut_sizes : (f g : List ℕ → Result Size Fault) → ((t : List ℕ) → Cut (f t) (g t)) → (items : List Item) → Cut (sizes alias_only f items) (sizes alias_only g items)
   cut_sizes f g h [] = inl refl
-  cut_sizes f g h (Bytes text ∷ items) = cut_both (size_of alias_only f (Bytes text)) (size_of alias_only g (Bytes text)) (sizes alias_only f items) (sizes alias_only g items) (inl refl) (cut_sizes f g h items)
-  cut_sizes f g h (Broken fault ∷ items) = inl refl
-  cut_sizes f g h (Opening label meaning ∷ items) = cut_both (wrapped alias_only label (f (text_of meaning))) (wrapped alias_only label (g (text_of meaning))) (sizes alias_only f items) (sizes alias_only g items) (cut_wrapped alias_only label (f (text_of meaning)) (g (text_of meaning)) (h (text_of meaning))) (cut_sizes f g h items)
+  cut_sizes f g h (TextItem text ∷ items) = cut_both (size_of alias_only f (TextItem text)) (size_of alias_only g (TextItem text)) (sizes alias_only f items) (sizes alias_only g items) (inl refl) (cut_sizes f g h items)
+  cut_sizes f g h (FaultItem fault ∷ items) = inl refl
+  cut_sizes f g h (PlaceholderItem label meaning ∷ items) = cut_both (wrapped alias_only label (f (meaning_text meaning))) (wrapped alias_only label (g (meaning_text meaning))) (sizes alias_only f items) (sizes alias_only g items) (cut_wrapped alias_only label (f (meaning_text meaning)) (g (meaning_text meaning)) (h (meaning_text meaning))) (cut_sizes f g h items)
 
   pub sizes-append : (f : List ℕ → Result Size Fault) (xs ys : List Item) → sizes alias_only f (xs ++ ys) ≡ both (sizes alias_only f xs) (sizes alias_only f ys)
   sizes-append f [] ys = sym (both_none _)
@@ -85,62 +85,62 @@ module _ (alias_only : Bool) where
   pub sizes_enough : (f g : List ℕ → Result Size Fault) (high : ℕ) → ((t : List ℕ) (z : Size) → f t ≡ Ok z → z.height < high → g t ≡ Ok z)
       → (items : List Item) (z : Size) → sizes alias_only f items ≡ Ok z → z.height ≤ high → sizes alias_only g items ≡ Ok z
   sizes_enough f g high h [] z e low = e
-  sizes_enough f g high h (Bytes text ∷ items) z e low =
-      let (a, b, p, q, r) = both_ok (size_of alias_only f (Bytes text)) (sizes alias_only f items) z e in
+  sizes_enough f g high h (TextItem text ∷ items) z e low =
+      let (a, b, p, q, r) = both_ok (size_of alias_only f (TextItem text)) (sizes alias_only f items) z e in
       let part : b.height ≤ high = omega (arith, ap (λ s. s.height) r) in
-      both_from (size_of alias_only g (Bytes text)) (sizes alias_only g items) a b z p (sizes_enough f g high h items b q part) r
-  sizes_enough f g high h (Broken fault ∷ items) z e low = cc
-  sizes_enough f g high h (Opening label meaning ∷ items) z e low =
-      let (a, b, p, q, r) = both_ok (wrapped alias_only label (f (text_of meaning))) (sizes alias_only f items) z e in
-      let (inner, k, l) = wrapped_ok alias_only label (f (text_of meaning)) a p in
+      both_from (size_of alias_only g (TextItem text)) (sizes alias_only g items) a b z p (sizes_enough f g high h items b q part) r
+  sizes_enough f g high h (FaultItem fault ∷ items) z e low = cc
+  sizes_enough f g high h (PlaceholderItem label meaning ∷ items) z e low =
+      let (a, b, p, q, r) = both_ok (wrapped alias_only label (f (meaning_text meaning))) (sizes alias_only f items) z e in
+      let (inner, k, l) = wrapped_ok alias_only label (f (meaning_text meaning)) a p in
       let part : b.height ≤ high = omega (arith, ap (λ s. s.height) r) in
       let lower : inner.height < high = omega (arith, ap (λ s. s.height) r, ap (λ s. s.height) l) in
-      both_from (wrapped alias_only label (g (text_of meaning))) (sizes alias_only g items) a b z (wrapped_from alias_only label (g (text_of meaning)) inner a (h (text_of meaning) inner k lower) l) (sizes_enough f g high h items b q part) r
+      both_from (wrapped alias_only label (g (meaning_text meaning))) (sizes alias_only g items) a b z (wrapped_from alias_only label (g (meaning_text meaning)) inner a (h (meaning_text meaning) inner k lower) l) (sizes_enough f g high h items b q part) r
 
   -- no deeper than the opened texts
   pub sizes_height : (f : List ℕ → Result Size Fault) (high : ℕ) → ((t : List ℕ) (z : Size) → f t ≡ Ok z → z.height < high)
       → (items : List Item) (z : Size) → sizes alias_only f items ≡ Ok z → z.height ≤ high
   sizes_height f high h [] z e = let same : no_size ≡ z = cc in omega (arith, ap (λ s. s.height) same)
-  sizes_height f high h (Bytes text ∷ items) z e =
-      let (a, b, p, q, r) = both_ok (size_of alias_only f (Bytes text)) (sizes alias_only f items) z e in
+  sizes_height f high h (TextItem text ∷ items) z e =
+      let (a, b, p, q, r) = both_ok (size_of alias_only f (TextItem text)) (sizes alias_only f items) z e in
       let same : size_of_bytes text ≡ a = cc in
       omega (arith, ap (λ s. s.height) same, sizes_height f high h items b q, ap (λ s. s.height) r)
-  sizes_height f high h (Broken fault ∷ items) z e = cc
-  sizes_height f high h (Opening label meaning ∷ items) z e =
-      let (a, b, p, q, r) = both_ok (wrapped alias_only label (f (text_of meaning))) (sizes alias_only f items) z e in
-      let (inner, k, l) = wrapped_ok alias_only label (f (text_of meaning)) a p in
-      omega (arith, h (text_of meaning) inner k, sizes_height f high h items b q, ap (λ s. s.height) l, ap (λ s. s.height) r)
+  sizes_height f high h (FaultItem fault ∷ items) z e = cc
+  sizes_height f high h (PlaceholderItem label meaning ∷ items) z e =
+      let (a, b, p, q, r) = both_ok (wrapped alias_only label (f (meaning_text meaning))) (sizes alias_only f items) z e in
+      let (inner, k, l) = wrapped_ok alias_only label (f (meaning_text meaning)) a p in
+      omega (arith, h (meaning_text meaning) inner k, sizes_height f high h items b q, ap (λ s. s.height) l, ap (λ s. s.height) r)
 
   module _ (resolve : List ℕ → List Item) where
-    pub cut_more : (levels : ℕ) (t : List ℕ) → Cut (measured alias_only resolve levels t) (measured alias_only resolve (suc levels) t)
+    pub cut_more : (levels : ℕ) (t : List ℕ) → Cut (size_or_fault alias_only resolve levels t) (size_or_fault alias_only resolve (suc levels) t)
     cut_more zero t = inr refl
-    cut_more (suc levels) t = cut_sizes (measured alias_only resolve levels) (measured alias_only resolve (suc levels)) (cut_more levels) (resolve t)
+    cut_more (suc levels) t = cut_sizes (size_or_fault alias_only resolve levels) (size_or_fault alias_only resolve (suc levels)) (cut_more levels) (resolve t)
 
-    pub cut_by : (more levels : ℕ) (t : List ℕ) → Cut (measured alias_only resolve levels t) (measured alias_only resolve (more + levels) t)
+    pub cut_by : (more levels : ℕ) (t : List ℕ) → Cut (size_or_fault alias_only resolve levels t) (size_or_fault alias_only resolve (more + levels) t)
     cut_by zero levels t = rw zero-add (inl refl)
     cut_by (suc more) levels t = rw suc-add (cut_trans _ _ _ (cut_by more levels t) (cut_more (more + levels) t))
 
     -- with fewer levels, the same or too deep
-    pub cut_measured : (low high : ℕ) (t : List ℕ) → low ≤ high → Cut (measured alias_only resolve low t) (measured alias_only resolve high t)
+    pub cut_measured : (low high : ℕ) (t : List ℕ) → low ≤ high → Cut (size_or_fault alias_only resolve low t) (size_or_fault alias_only resolve high t)
     cut_measured low high t le =
         let at : (high - low) + low ≡ high = omega arith in
-        subst (λ n. Cut (measured alias_only resolve low t) (measured alias_only resolve n t)) at (cut_by (high - low) low t)
+        subst (λ n. Cut (size_or_fault alias_only resolve low t) (size_or_fault alias_only resolve n t)) at (cut_by (high - low) low t)
 
-    pub deep_below : (low high : ℕ) (t : List ℕ) → low ≤ high → measured alias_only resolve high t ≡ Err TooDeep → measured alias_only resolve low t ≡ Err TooDeep
+    pub deep_below : (low high : ℕ) (t : List ℕ) → low ≤ high → size_or_fault alias_only resolve high t ≡ Err TooDeep → size_or_fault alias_only resolve low t ≡ Err TooDeep
     deep_below low high t le deep = elim (cut_measured low high t le) [ inl same ↦ same ∙ deep | inr deep' ↦ deep' ]
 
-    pub height_measured : (levels : ℕ) (t : List ℕ) (z : Size) → measured alias_only resolve levels t ≡ Ok z → z.height < levels
+    pub height_measured : (levels : ℕ) (t : List ℕ) (z : Size) → size_or_fault alias_only resolve levels t ≡ Ok z → z.height < levels
     height_measured zero t z e = cc
-    height_measured (suc levels) t z e = omega (arith, sizes_height (measured alias_only resolve levels) levels (height_measured levels) (resolve t) z e)
+    height_measured (suc levels) t z e = omega (arith, sizes_height (size_or_fault alias_only resolve levels) levels (height_measured levels) (resolve t) z e)
 
-    pub enough : (levels other : ℕ) (t : List ℕ) (z : Size) → measured alias_only resolve levels t ≡ Ok z → z.height < other → measured alias_only resolve other t ≡ Ok z
+    pub enough : (levels other : ℕ) (t : List ℕ) (z : Size) → size_or_fault alias_only resolve levels t ≡ Ok z → z.height < other → size_or_fault alias_only resolve other t ≡ Ok z
     enough zero other t z e low = cc
     enough (suc levels) zero t z e low = absurd (omega arith)
     enough (suc levels) (suc other) t z e low =
-        sizes_enough (measured alias_only resolve levels) (measured alias_only resolve other) other (λ s y f below. enough levels other s y f below) (resolve t) z e (omega arith)
+        sizes_enough (size_or_fault alias_only resolve levels) (size_or_fault alias_only resolve other) other (λ s y f below. enough levels other s y f below) (resolve t) z e (omega arith)
 
     -- A text that was measured with no fault has this size wherever there is room for its height, and goes too deep elsewhere.
-    pub size_from : (levels : ℕ) (t : List ℕ) (z : Size) → measured alias_only resolve levels t ≡ Ok z → IsSizeOf alias_only resolve t z
+    pub size_from : (levels : ℕ) (t : List ℕ) (z : Size) → size_or_fault alias_only resolve levels t ≡ Ok z → IsSizeOf alias_only resolve t z
     size_from levels t z e = record {
       fits = λ other low. enough levels other t z e low;
       deep = λ other low.
@@ -154,16 +154,16 @@ module _ (alias_only : Bool) where
     -- CIRCLES
 
     -- what was read with no fault has, at any number of levels, no fault but depth
-    pub read_again : (levels other : ℕ) (items : List Item) (z : Size) → sizes alias_only (measured alias_only resolve levels) items ≡ Ok z
-        → (sizes alias_only (measured alias_only resolve other) items ≡ Ok z) ⊎ (sizes alias_only (measured alias_only resolve other) items ≡ Err TooDeep)
+    pub read_again : (levels other : ℕ) (items : List Item) (z : Size) → sizes alias_only (size_or_fault alias_only resolve levels) items ≡ Ok z
+        → (sizes alias_only (size_or_fault alias_only resolve other) items ≡ Ok z) ⊎ (sizes alias_only (size_or_fault alias_only resolve other) items ≡ Err TooDeep)
     read_again levels other items z read = elim (cases_lt levels other) [
       | inl lower ↦
-          elim (cut_sizes (measured alias_only resolve levels) (measured alias_only resolve other) (λ t. cut_measured levels other t (omega arith)) items) [
+          elim (cut_sizes (size_or_fault alias_only resolve levels) (size_or_fault alias_only resolve other) (λ t. cut_measured levels other t (omega arith)) items) [
             | inl same ↦ inl (sym same ∙ read)
             | inr deep ↦ cc
           ]
       | inr higher ↦
-          elim (cut_sizes (measured alias_only resolve other) (measured alias_only resolve levels) (λ t. cut_measured other levels t higher) items) [
+          elim (cut_sizes (size_or_fault alias_only resolve other) (size_or_fault alias_only resolve levels) (λ t. cut_measured other levels t higher) items) [
             | inl same ↦ inl (same ∙ read)
             | inr deep ↦ inr deep
           ]
@@ -174,13 +174,13 @@ module _ (alias_only : Bool) where
     stops r s t z (inr early) deep = rw early refl
 
     pub leads_from : (c t : List ℕ) (levels : ℕ) (before after : List Item) (label : Label) (meaning : Meaning) (z : Size)
-        → resolve c ≡ before ++ Opening label meaning ∷ after → sizes alias_only (measured alias_only resolve levels) before ≡ Ok z
-        → t ≡ text_of meaning → Leads alias_only resolve 1 c t
+        → resolve c ≡ before ++ PlaceholderItem label meaning ∷ after → sizes alias_only (size_or_fault alias_only resolve levels) before ≡ Ok z
+        → t ≡ meaning_text meaning → Leads alias_only resolve 1 c t
     leads_from c t levels before after label meaning z is read opens = record {
       leads = λ other deep.
-          let there : measured alias_only resolve other (text_of meaning) ≡ Err TooDeep = rw (← opens) deep in
-          rw (add-one, is, sizes-append (measured alias_only resolve other) before (Opening label meaning ∷ after))
-          (stops (sizes alias_only (measured alias_only resolve other) before) (wrapped alias_only label (measured alias_only resolve other (text_of meaning))) (sizes alias_only (measured alias_only resolve other) after) z
+          let there : size_or_fault alias_only resolve other (meaning_text meaning) ≡ Err TooDeep = rw (← opens) deep in
+          rw (add-one, is, sizes-append (size_or_fault alias_only resolve other) before (PlaceholderItem label meaning ∷ after))
+          (stops (sizes alias_only (size_or_fault alias_only resolve other) before) (wrapped alias_only label (size_or_fault alias_only resolve other (meaning_text meaning))) (sizes alias_only (size_or_fault alias_only resolve other) after) z
           (read_again levels other before z read) (ap (wrapped alias_only label) there));
     }
 
@@ -188,10 +188,10 @@ module _ (alias_only : Bool) where
     leads_on i j a b c p q = record {
       leads = λ levels deep.
           let there : levels + j + i ≡ levels + (i + j) = omega arith in
-          subst (λ n. measured alias_only resolve n a ≡ Err TooDeep) there (p.leads (levels + j) (q.leads levels deep));
+          subst (λ n. size_or_fault alias_only resolve n a ≡ Err TooDeep) there (p.leads (levels + j) (q.leads levels deep));
     }
 
     -- a text that leads to itself goes too deep, however many levels there are
-    pub circle : (down : ℕ) (t : List ℕ) → Leads alias_only resolve (suc down) t t → (levels : ℕ) → measured alias_only resolve levels t ≡ Err TooDeep
+    pub circle : (down : ℕ) (t : List ℕ) → Leads alias_only resolve (suc down) t t → (levels : ℕ) → size_or_fault alias_only resolve levels t ≡ Err TooDeep
     circle down t round zero = refl
     circle down t round (suc levels) = deep_below (suc levels) (levels + suc down) t (omega arith) (round.leads levels (circle down t round levels))

@@ -2,12 +2,12 @@
 use Rattle.std.proofs.Common.{◌≡◌, ℕ, suc, Bool, true, false, cond, ◌&&◌, List, [], ◌∷◌, length, Option, Some, None, refl, sym, ◌∙◌, ap, subst, arith, length-append}
 use Rattle.std.specs.Prelude.{not}
 use Rattle.std.specs.Str.{bytes_eq}
-use Rattle.grok_parser.specs.Pieces.{Parts, Piece, Regular, Placeholder, Malformed, pieces, is_brace}
-use Rattle.grok_parser.specs.Grammar.{NonePass, MayDefine, or_empty, ArePieces}
-use Rattle.grok_parser.specs.Joined.{joined, AreRegular}
-use Rattle.grok.specs.Tree.{Definitions, no_definitions, with_written, opened, label_of, is_absent, items_after, items_of, Item}
-use Rattle.grok_parser.proofs.Adequate.{pieces_are}
-use Rattle.grok_parser.proofs.PieceLaws.{regular_pieces}
+use Rattle.grok.specs.Pieces.{Parts, Piece, Regular, Placeholder, Malformed, pieces, is_brace}
+use Rattle.grok.specs.Grammar.{NonePass, MayDefine, or_empty, ArePieces}
+use Rattle.grok.specs.Joined.{joined, AreRegular}
+use Rattle.grok.specs.Tree.{Definitions, no_definitions, with_written, resolved, label_of, is_absent, items_after, items_of, Item}
+use Rattle.grok.proofs.Adequate.{pieces_are}
+use Rattle.grok.proofs.PieceLaws.{regular_pieces}
 use Rattle.grok.proofs.Flat.{AreBytes, bytes_in, IsFlat, AreSound, IsSound}
 
 -- there are as many items as pieces
@@ -57,7 +57,7 @@ plain_written written parts plain own name text e = go (bytes_eq parts.name name
     go false e = plain name text e
 
 sound_opened : (stored : Definitions) (parts : Parts) (rest : List Item) (own : Option (List ℕ)) → ((text : List ℕ) → own ≡ Some text → NonePass is_brace text) → AreSound (items_of stored) stored rest
-    → (kept : Option (List ℕ)) → stored parts.name ≡ kept → AreSound (items_of stored) stored (opened (label_of parts) own kept ∷ rest)
+    → (kept : Option (List ℕ)) → stored parts.name ≡ kept → AreSound (items_of stored) stored (resolved (label_of parts) own kept ∷ rest)
 sound_opened stored parts rest (Some text) plain sound kept is = (flat_text stored text (plain text refl), sound)
 sound_opened stored parts rest None plain sound (Some text) is = (is, sound)
 sound_opened stored parts rest None plain sound None is = sound

@@ -1,15 +1,15 @@
 -- What placeholders stand for, and what a tree's first fault depends on.
 use Rattle.std.proofs.Common.{◌≡◌, ℕ, zero, suc, ◌+◌, Bool, true, false, cond, ◌&&◌, List, [], ◌∷◌, ◌++◌, length, Option, Some, None, refl, sym, ◌∙◌, ap, subst, ◌⊎◌, inl, inr, arith, ◌^◌, length-append}
-use Rattle.std.specs.Prelude.{codes, not, nat_lt, slice_get}
+use Rattle.std.specs.Prelude.{not, nat_lt, slice_get}
 use Rattle.std.specs.Str.{bytes_eq}
 use Rattle.std.proofs.lemmas.Bool.{true≢false, false_from_ne_true}
 use Rattle.std.proofs.lemmas.Slice.Eq.{bytes_eq-Decides}
-use Rattle.grok_parser.specs.Pieces.{Parts, Piece, Regular, Placeholder, Malformed, pieces}
-use Rattle.grok.specs.Tree.{Definitions, no_definitions, with_written, is_absent, Fault, Missing, Label, label_of, Inline, Stored, opened, placeholder_item, items_after, items_of, Item, Event, Text, Open, Close, Fails, events, inside, deepest, tree, first_structural, reached}
-use Rattle.grok.specs.Measured.{Faulty, Sized, PastLimit, size_within, fault_or, reaches}
+use Rattle.grok.specs.Pieces.{Parts, Piece, Regular, Placeholder, Malformed, pieces}
+use Rattle.grok.specs.Tree.{Definitions, no_definitions, with_written, is_absent, Fault, Missing, Label, label_of, Inline, Stored, resolved, placeholder_item, items_after, items_of, Item, Event, Text, Open, Close, FaultEvent, events, inside, deepest, tree, first_structural, reached}
+use Rattle.grok.specs.Measured.{Faulty, Sized, TooLong, size_within, fault_or, reaches}
 use Rattle.grok.specs.Expanded.{text_after, expanded, groups, nesting}
 use Rattle.grok.specs.Keys.{is_recorded}
-use Rattle.grok_match.specs.Numeral.{numeral}
+use Rattle.grok.specs.GeneratedNames.{named_head, unnamed_head}
 use Rattle.grok.specs.TreeLaws.{NoneDefines, OwnDefinitionHolds, EarlierDefinitionHolds, StoredDefinitionHolds, IsUnused, UnusedDefinitionsDoNotMatter, ModesFaultAlike, Unnamed, Numbered, IsTextOf, HeadsAloneDiffer}
 use Rattle.grok.proofs.TreeSizes.{first_structural-append, or_else}
 use Rattle.grok.proofs.Meeting.{reaches_left, reaches_right, reaches_head, reaches_tail}
@@ -57,12 +57,12 @@ written_append written (Placeholder s e text parts ∷ ps) qs = written_append (
 pub own_definition_holds : OwnDefinitionHolds
 own_definition_holds stored text before after s e pattern parts is own =
     ap (λ ps. slice_get (items_after stored no_definitions ps) (length before)) is ∙ item_behind stored no_definitions before after s e pattern parts
-    ∙ ap (λ o. Some (opened (label_of parts) o (stored parts.name))) (with_own (written_after no_definitions before) parts own)
+    ∙ ap (λ o. Some (resolved (label_of parts) o (stored parts.name))) (with_own (written_after no_definitions before) parts own)
 
 pub stored_definition_holds : StoredDefinitionHolds
 stored_definition_holds stored text before after s e pattern parts is none absent =
     ap (λ ps. slice_get (items_after stored no_definitions ps) (length before)) is ∙ item_behind stored no_definitions before after s e pattern parts
-    ∙ ap (λ o. Some (opened (label_of parts) o (stored parts.name))) (without_own (written_after no_definitions before) parts parts.name (λ same. absent) ∙ written_still no_definitions before parts.name none)
+    ∙ ap (λ o. Some (resolved (label_of parts) o (stored parts.name))) (without_own (written_after no_definitions before) parts parts.name (λ same. absent) ∙ written_still no_definitions before parts.name none)
 
 pub earlier_definition_holds : EarlierDefinitionHolds
 earlier_definition_holds stored text before between after s e s' e' pattern pattern' earlier parts is own same none absent =
@@ -74,7 +74,7 @@ earlier_definition_holds stored text before between after s e s' e' pattern patt
     ∙ written_still (with_written written earlier) between parts.name none ∙ ap (with_written written earlier) (sym same) ∙ with_own written earlier own in
     ap (λ n. slice_get (items_of stored text) n) (sym place)
     ∙ ap (λ ps. slice_get (items_after stored no_definitions ps) (length front)) is ∙ item_behind stored no_definitions front after s' e' pattern' parts
-    ∙ ap (λ o. Some (opened (label_of parts) o (stored parts.name))) (without_own (written_after no_definitions front) parts parts.name (λ same. absent) ∙ known)
+    ∙ ap (λ o. Some (resolved (label_of parts) o (stored parts.name))) (without_own (written_after no_definitions front) parts parts.name (λ same. absent) ∙ known)
 
 -- ---- unused definitions
 
@@ -93,7 +93,7 @@ module _ (stored other : Definitions) where
   reached_front (Text text ∷ xs) ys clean = ap (λ es. Text text ∷ es) (reached_front xs ys clean)
   reached_front (Open label meaning ∷ xs) ys clean = ap (λ es. Open label meaning ∷ es) (reached_front xs ys clean)
   reached_front (Close ∷ xs) ys clean = ap (λ es. Close ∷ es) (reached_front xs ys clean)
-  reached_front (Fails fault ∷ xs) ys clean = cc
+  reached_front (FaultEvent fault ∷ xs) ys clean = cc
 
   -- one with a fault is all that is reached
   reached_stop : (xs ys : List Event) (fault : Fault) → first_structural xs ≡ Some fault → reached (xs ++ ys) ≡ reached xs
@@ -101,7 +101,7 @@ module _ (stored other : Definitions) where
   reached_stop (Text text ∷ xs) ys fault bad = ap (λ es. Text text ∷ es) (reached_stop xs ys fault bad)
   reached_stop (Open label meaning ∷ xs) ys fault bad = ap (λ es. Open label meaning ∷ es) (reached_stop xs ys fault bad)
   reached_stop (Close ∷ xs) ys fault bad = ap (λ es. Close ∷ es) (reached_stop xs ys fault bad)
-  reached_stop (Fails fault' ∷ xs) ys fault bad = refl
+  reached_stop (FaultEvent fault' ∷ xs) ys fault bad = refl
 
   same_append : (xs ys xs' ys' : List Event) → Agree (xs ++ ys) → (Agree xs → Same xs xs') → (Agree ys → Same ys ys') → Same (xs ++ ys) (xs' ++ ys')
   same_append xs ys xs' ys' agree f g = go (first_structural xs) refl
@@ -163,24 +163,24 @@ module _ (stored other : Definitions) where
     | inr unused ↦ absurd (true≢false (sym (reaches_head label.name label.name (reaches label.name (reached es)) refl) ∙ unused.0))
   ]
 
-  missed : (name : List ℕ) (es : List Event) → Agree (Fails (Missing name) ∷ es) → stored name ≡ other name
+  missed : (name : List ℕ) (es : List Event) → Agree (FaultEvent (Missing name) ∷ es) → stored name ≡ other name
   missed name es agree = elim (agree name) [ inl same ↦ same | inr unused ↦ absurd (unused.1 refl) ]
 
   module _ (inner inner' : List ℕ → List Event) (h : (text : List ℕ) → Agree (inner text) → Same (inner text) (inner' text)) where
     same_opened : (parts : Parts) (own : Option (List ℕ)) (rest rest' : List Item) (kept : Option (List ℕ)) → stored parts.name ≡ kept
         → (Agree (events inner rest) → Same (events inner rest) (events inner' rest'))
-        → Agree (events inner (opened (label_of parts) own kept ∷ rest)) → Same (events inner (opened (label_of parts) own kept ∷ rest)) (events inner' (opened (label_of parts) own (other parts.name) ∷ rest'))
+        → Agree (events inner (resolved (label_of parts) own kept ∷ rest)) → Same (events inner (resolved (label_of parts) own kept ∷ rest)) (events inner' (resolved (label_of parts) own (other parts.name) ∷ rest'))
     same_opened parts (Some text) rest rest' kept is ih agree =
         same_inline (label_of parts) text (inner text ++ events inner rest) (inner' text ++ events inner' rest')
         (λ a. same_append (inner text) (events inner rest) (inner' text) (events inner' rest') a (h text) ih) agree
     same_opened parts None rest rest' (Some text) is ih agree =
         let it : Some text ≡ other parts.name = sym is ∙ used (label_of parts) text (inner text ++ events inner rest) agree in
-        subst (λ o. Same (Open (label_of parts) (Stored text) ∷ inner text ++ events inner rest) (events inner' (opened (label_of parts) None o ∷ rest'))) it
+        subst (λ o. Same (Open (label_of parts) (Stored text) ∷ inner text ++ events inner rest) (events inner' (resolved (label_of parts) None o ∷ rest'))) it
         (same_stored (label_of parts) text (inner text ++ events inner rest) (inner' text ++ events inner' rest')
         (λ a. same_append (inner text) (events inner rest) (inner' text) (events inner' rest') a (h text) ih) agree)
     same_opened parts None rest rest' None is ih agree =
         let it : None ≡ other parts.name = sym is ∙ missed parts.name (events inner rest) agree in
-        subst (λ o. Same (Fails (Missing parts.name) ∷ events inner rest) (events inner' (opened (label_of parts) None o ∷ rest'))) it (record { first = refl; reach = refl })
+        subst (λ o. Same (FaultEvent (Missing parts.name) ∷ events inner rest) (events inner' (resolved (label_of parts) None o ∷ rest'))) it (record { first = refl; reach = refl })
 
     same_pieces : (written : Definitions) (ps : List Piece) → Agree (events inner (items_after stored written ps)) → Same (events inner (items_after stored written ps)) (events inner' (items_after other written ps))
     same_pieces written [] agree = record { first = refl; reach = refl }
@@ -208,7 +208,7 @@ unused_definitions_do_not_matter stored other pattern agree =
 not_fault : (length groups nesting : ℕ) (fault : Fault) → size_within length groups nesting ≡ Faulty fault → ⊥
 not_fault length groups nesting fault e = go (nat_lt length (2 ^ 64)) e
   where
-    go : (b : Bool) → cond b (Sized length groups nesting) PastLimit ≡ Faulty fault → ⊥
+    go : (b : Bool) → cond b (Sized length groups nesting) TooLong ≡ Faulty fault → ⊥
     go true e = cc
     go false e = cc
 
@@ -224,13 +224,13 @@ written_fits : (alias_only : Bool) (count : ℕ) (es : List Event) → IsTextOf 
 written_fits alias_only count [] = refl
 written_fits alias_only count (Text text ∷ es) = (text_after alias_only count es, refl, written_fits alias_only count es)
 written_fits alias_only count (Close ∷ es) = (text_after alias_only count es, refl, written_fits alias_only count es)
-written_fits alias_only count (Fails fault ∷ es) = written_fits alias_only count es
+written_fits alias_only count (FaultEvent fault ∷ es) = written_fits alias_only count es
 written_fits alias_only count (Open label meaning ∷ es) = go (is_recorded alias_only label) (written_fits alias_only (suc count) es) (written_fits alias_only count es)
   where
     go : (b : Bool) → IsTextOf es (text_after alias_only (suc count) es) → IsTextOf es (text_after alias_only count es)
-        → IsTextOf (Open label meaning ∷ es) (cond b (codes "(?<_n_" ++ numeral count ++ codes ">" ++ text_after alias_only (suc count) es) (codes "(?:" ++ text_after alias_only count es))
-    go true next same = (codes "(?<_n_" ++ numeral count ++ codes ">", text_after alias_only (suc count) es, Numbered count, refl, next)
-    go false next same = (codes "(?:", text_after alias_only count es, Unnamed, refl, same)
+        → IsTextOf (Open label meaning ∷ es) (cond b (named_head count ++ text_after alias_only (suc count) es) (unnamed_head ++ text_after alias_only count es))
+    go true next same = (named_head count, text_after alias_only (suc count) es, Numbered count, refl, next)
+    go false next same = (unnamed_head, text_after alias_only count es, Unnamed, refl, same)
 
 pub heads_alone_differ : HeadsAloneDiffer
 heads_alone_differ alias_only tree = written_fits alias_only 0 tree

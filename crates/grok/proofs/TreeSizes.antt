@@ -1,11 +1,12 @@
 -- What is read off the list of events is the size that is added up item by item.
 use Rattle.std.proofs.Common.{◌≡◌, ℕ, zero, suc, ◌+◌, ◌-◌, max, Bool, true, false, cond, List, [], ◌∷◌, ◌++◌, length, Option, Result, Some, None, Ok, Err, refl, sym, ap, subst, ◌⊎◌, inl, inr, arith, append_assoc, append-nil, length-append}
 use Rattle.std.specs.Prelude.{codes, if◌then◌else◌}
-use Rattle.grok.specs.Tree.{Fault, TooDeep, Label, Meaning, text_of, Item, Bytes, Broken, Opening, Event, Text, Open, Close, Fails, events, inside, tree_within, first_structural}
+use Rattle.grok.specs.Tree.{Fault, TooDeep, Label, Meaning, meaning_text, Item, TextItem, FaultItem, PlaceholderItem, Event, Text, Open, Close, FaultEvent, events, inside, tree_within, first_structural}
 use Rattle.grok.specs.Keys.{is_recorded, recorded}
-use Rattle.grok_match.specs.Numeral.{numeral}
+use Rattle.grok.specs.Numeral.{numeral}
+use Rattle.grok.specs.GeneratedNames.{named_head, unnamed_head, bracket_bytes}
 use Rattle.grok.specs.Expanded.{text_after, groups, nesting_after, nesting, expanded}
-use Rattle.grok.specs.Sizes.{Size, no_size, size_of_bytes, plus, both, bracketed, wrapped, size_of, sizes, measured, places_from, length_of}
+use Rattle.grok.specs.Sizes.{Size, no_size, size_of_bytes, plus, both, bracketed, wrapped, size_of, sizes, size_or_fault, places_from, length_of}
 use Rattle.grok.proofs.SizeLaws.{both_ok, wrapped_ok}
 
 abbrev pub or_else : Option Fault → Option Fault → Option Fault
@@ -17,14 +18,14 @@ first_structural-append [] ys = refl
 first_structural-append (Text text ∷ xs) ys = first_structural-append xs ys
 first_structural-append (Open label meaning ∷ xs) ys = first_structural-append xs ys
 first_structural-append (Close ∷ xs) ys = first_structural-append xs ys
-first_structural-append (Fails fault ∷ xs) ys = refl
+first_structural-append (FaultEvent fault ∷ xs) ys = refl
 
 module _ (alias_only : Bool) where
   pub recorded-append : (xs ys : List Event) → recorded alias_only (xs ++ ys) ≡ recorded alias_only xs ++ recorded alias_only ys
   recorded-append [] ys = refl
   recorded-append (Text text ∷ xs) ys = recorded-append xs ys
   recorded-append (Close ∷ xs) ys = recorded-append xs ys
-  recorded-append (Fails fault ∷ xs) ys = recorded-append xs ys
+  recorded-append (FaultEvent fault ∷ xs) ys = recorded-append xs ys
   recorded-append (Open label meaning ∷ xs) ys =
       let more = recorded-append xs ys in
       elim (is_recorded alias_only label) as (λ b. cond b (label ∷ recorded alias_only (xs ++ ys)) (recorded alias_only (xs ++ ys)) ≡ cond b (label ∷ recorded alias_only xs) (recorded alias_only xs) ++ recorded alias_only ys) [
@@ -37,14 +38,14 @@ module _ (alias_only : Bool) where
   plain [] = 0
   plain (Text text ∷ events) = length text + plain events
   plain (Close ∷ events) = 1 + plain events
-  plain (Fails fault ∷ events) = plain events
+  plain (FaultEvent fault ∷ events) = plain events
   plain (Open label meaning ∷ events) = (if is_recorded alias_only label then 7 else 3) + plain events
 
   pub plain-append : (xs ys : List Event) → plain (xs ++ ys) ≡ plain xs + plain ys
   plain-append [] ys = omega arith
   plain-append (Text text ∷ xs) ys = omega (arith, plain-append xs ys)
   plain-append (Close ∷ xs) ys = omega (arith, plain-append xs ys)
-  plain-append (Fails fault ∷ xs) ys = plain-append xs ys
+  plain-append (FaultEvent fault ∷ xs) ys = plain-append xs ys
   plain-append (Open label meaning ∷ xs) ys = omega (arith, plain-append xs ys)
 
   -- the length as a sum
@@ -52,12 +53,12 @@ module _ (alias_only : Bool) where
   length-text_after count [] = refl
   length-text_after count (Text text ∷ es) = omega (arith, length-append text (text_after alias_only count es), length-text_after count es)
   length-text_after count (Close ∷ es) = omega (arith, length-text_after count es)
-  length-text_after count (Fails fault ∷ es) = length-text_after count es
+  length-text_after count (FaultEvent fault ∷ es) = length-text_after count es
   length-text_after count (Open label meaning ∷ es) =
       let rest = text_after alias_only (suc count) es in
       let here = length-text_after (suc count) es in
       let other = length-text_after count es in
-      elim (is_recorded alias_only label) as (λ b. length (cond b (codes "(?<_n_" ++ numeral count ++ codes ">" ++ text_after alias_only (suc count) es) (codes "(?:" ++ text_after alias_only count es))
+      elim (is_recorded alias_only label) as (λ b. length (cond b (named_head count ++ text_after alias_only (suc count) es) (unnamed_head ++ text_after alias_only count es))
       ≡ cond b 7 3 + plain es + places_from count (length (cond b (label ∷ recorded alias_only es) (recorded alias_only es)))) [
         | true ↦ omega (arith, length-append (numeral count ++ codes ">") rest, length-append (numeral count) (codes ">"), here)
         | false ↦ omega (arith, other)
@@ -92,7 +93,7 @@ module _ (alias_only : Bool) where
         bytes =
             let longer = plain-append es (Close ∷ []) in
             let same = p.bytes in
-            elim (is_recorded alias_only label) as (λ b. cond b 7 3 + plain (es ++ Close ∷ []) ≡ cond b 8 4 + z.bytes) [ true ↦ omega arith | false ↦ omega arith ];
+            elim (is_recorded alias_only label) as (λ b. cond b 7 3 + plain (es ++ Close ∷ []) ≡ bracket_bytes b + z.bytes) [ true ↦ omega arith | false ↦ omega arith ];
         groups =
             elim (is_recorded alias_only label) as (λ b. length (cond b (label ∷ recorded alias_only (es ++ Close ∷ [])) (recorded alias_only (es ++ Close ∷ []))) ≡ cond b 1 0 + z.groups) [ true ↦ omega arith | false ↦ omega arith ];
         height = λ depth rest.
@@ -112,20 +113,20 @@ module _ (alias_only : Bool) where
   pub agrees_items : (f : List ℕ → Result Size Fault) (inner : List ℕ → List Event) → Fits f inner
       → (items : List Item) (z : Size) → sizes alias_only f items ≡ Ok z → Agrees (events inner items) z
   agrees_items f inner h [] z e = let same : no_size ≡ z = cc in subst (Agrees []) same agrees_none
-  agrees_items f inner h (Bytes text ∷ items) z e =
-      let (a, b, p, q, r) = both_ok (size_of alias_only f (Bytes text)) (sizes alias_only f items) z e in
+  agrees_items f inner h (TextItem text ∷ items) z e =
+      let (a, b, p, q, r) = both_ok (size_of alias_only f (TextItem text)) (sizes alias_only f items) z e in
       let same : size_of_bytes text ≡ a = cc in
       subst (Agrees (Text text ∷ events inner items)) (sym r)
       (agrees_plus (Text text ∷ []) (events inner items) a b (subst (Agrees (Text text ∷ [])) same (agrees_bytes text)) (agrees_items f inner h items b q))
-  agrees_items f inner h (Broken fault ∷ items) z e = cc
-  agrees_items f inner h (Opening label meaning ∷ items) z e =
-      let (a, b, p, q, r) = both_ok (wrapped alias_only label (f (text_of meaning))) (sizes alias_only f items) z e in
-      let (one, k, l) = wrapped_ok alias_only label (f (text_of meaning)) a p in
-      let (es, is, agrees) = h.on_ok (text_of meaning) one k in
+  agrees_items f inner h (FaultItem fault ∷ items) z e = cc
+  agrees_items f inner h (PlaceholderItem label meaning ∷ items) z e =
+      let (a, b, p, q, r) = both_ok (wrapped alias_only label (f (meaning_text meaning))) (sizes alias_only f items) z e in
+      let (one, k, l) = wrapped_ok alias_only label (f (meaning_text meaning)) a p in
+      let (es, is, agrees) = h.on_ok (meaning_text meaning) one k in
       let around : Agrees (Open label meaning ∷ es ++ Close ∷ []) a = subst (Agrees (Open label meaning ∷ es ++ Close ∷ [])) (sym l) (agrees_brackets label meaning es one agrees) in
-      let around' : Agrees (Open label meaning ∷ inner (text_of meaning)) a = subst (λ xs. Agrees (Open label meaning ∷ xs) a) (sym is) around in
-      subst (Agrees (Open label meaning ∷ inner (text_of meaning) ++ events inner items)) (sym r)
-      (agrees_plus (Open label meaning ∷ inner (text_of meaning)) (events inner items) a b around' (agrees_items f inner h items b q))
+      let around' : Agrees (Open label meaning ∷ inner (meaning_text meaning)) a = subst (λ xs. Agrees (Open label meaning ∷ xs) a) (sym is) around in
+      subst (Agrees (Open label meaning ∷ inner (meaning_text meaning) ++ events inner items)) (sym r)
+      (agrees_plus (Open label meaning ∷ inner (meaning_text meaning)) (events inner items) a b around' (agrees_items f inner h items b q))
 
   -- two in a row with a fault
   pub both_err : (r s : Result Size Fault) (fault : Fault) → both r s ≡ Err fault → (r ≡ Err fault) ⊎ ((a : Size) × (r ≡ Ok a) × (s ≡ Err fault))
@@ -140,24 +141,24 @@ module _ (alias_only : Bool) where
   pub fault_items : (f : List ℕ → Result Size Fault) (inner : List ℕ → List Event) → Fits f inner
       → (items : List Item) (fault : Fault) → sizes alias_only f items ≡ Err fault → first_structural (events inner items) ≡ Some fault
   fault_items f inner h [] fault e = cc
-  fault_items f inner h (Bytes text ∷ items) fault e = elim (both_err (size_of alias_only f (Bytes text)) (sizes alias_only f items) fault e) [
+  fault_items f inner h (TextItem text ∷ items) fault e = elim (both_err (size_of alias_only f (TextItem text)) (sizes alias_only f items) fault e) [
     | inl here ↦ cc
     | inr (a, p, q) ↦ fault_items f inner h items fault q
   ]
-  fault_items f inner h (Broken fault' ∷ items) fault e = cc
-  fault_items f inner h (Opening label meaning ∷ items) fault e = elim (both_err (wrapped alias_only label (f (text_of meaning))) (sizes alias_only f items) fault e) [
-    | inl here ↦ rw (first_structural-append (inner (text_of meaning)) (events inner items), h.on_err (text_of meaning) fault (wrapped_err label (f (text_of meaning)) fault here)) refl
+  fault_items f inner h (FaultItem fault' ∷ items) fault e = cc
+  fault_items f inner h (PlaceholderItem label meaning ∷ items) fault e = elim (both_err (wrapped alias_only label (f (meaning_text meaning))) (sizes alias_only f items) fault e) [
+    | inl here ↦ rw (first_structural-append (inner (meaning_text meaning)) (events inner items), h.on_err (meaning_text meaning) fault (wrapped_err label (f (meaning_text meaning)) fault here)) refl
     | inr (a, p, q) ↦
-        let (one, k, l) = wrapped_ok alias_only label (f (text_of meaning)) a p in
-        let (es, is, agrees) = h.on_ok (text_of meaning) one k in
-        rw (first_structural-append (inner (text_of meaning)) (events inner items), is, first_structural-append es (Close ∷ []), agrees.clean) (fault_items f inner h items fault q)
+        let (one, k, l) = wrapped_ok alias_only label (f (meaning_text meaning)) a p in
+        let (es, is, agrees) = h.on_ok (meaning_text meaning) one k in
+        rw (first_structural-append (inner (meaning_text meaning)) (events inner items), is, first_structural-append es (Close ∷ []), agrees.clean) (fault_items f inner h items fault q)
   ]
 
-  pub fits_inside : (resolve : List ℕ → List Item) (levels : ℕ) → Fits (measured alias_only resolve levels) (inside resolve levels)
+  pub fits_inside : (resolve : List ℕ → List Item) (levels : ℕ) → Fits (size_or_fault alias_only resolve levels) (inside resolve levels)
   fits_inside resolve zero = record { on_ok = λ t z e. cc; on_err = λ t fault e. let same : TooDeep ≡ fault = cc in ap Some same }
   fits_inside resolve (suc levels) = record {
-    on_ok = λ t z e. (events (inside resolve levels) (resolve t), refl, agrees_items (measured alias_only resolve levels) (inside resolve levels) (fits_inside resolve levels) (resolve t) z e);
-    on_err = λ t fault e. rw (first_structural-append (events (inside resolve levels) (resolve t)) (Close ∷ []), fault_items (measured alias_only resolve levels) (inside resolve levels) (fits_inside resolve levels) (resolve t) fault e) refl;
+    on_ok = λ t z e. (events (inside resolve levels) (resolve t), refl, agrees_items (size_or_fault alias_only resolve levels) (inside resolve levels) (fits_inside resolve levels) (resolve t) z e);
+    on_err = λ t fault e. rw (first_structural-append (events (inside resolve levels) (resolve t)) (Close ∷ []), fault_items (size_or_fault alias_only resolve levels) (inside resolve levels) (fits_inside resolve levels) (resolve t) fault e) refl;
   }
 
   -- THE TREE'S FIRST FAULT AND SIZE
@@ -168,10 +169,10 @@ module _ (alias_only : Bool) where
     pub groups : (z : Size) → r ≡ Ok z → groups alias_only es ≡ z.groups
     pub nesting : (z : Size) → r ≡ Ok z → nesting es ≡ z.height
 
-  pub tree_sizes : (resolve : List ℕ → List Item) (levels : ℕ) (pattern : List ℕ) → IsTreeOf (tree_within levels resolve pattern) (sizes alias_only (measured alias_only resolve levels) (resolve pattern))
+  pub tree_sizes : (resolve : List ℕ → List Item) (levels : ℕ) (pattern : List ℕ) → IsTreeOf (tree_within levels resolve pattern) (sizes alias_only (size_or_fault alias_only resolve levels) (resolve pattern))
   tree_sizes resolve levels pattern =
       let items = resolve pattern in
-      let f = measured alias_only resolve levels in
+      let f = size_or_fault alias_only resolve levels in
       let es = events (inside resolve levels) items in
       let all : (z : Size) → sizes alias_only f items ≡ Ok z → Agrees es z = agrees_items f (inside resolve levels) (fits_inside resolve levels) items in
       record {

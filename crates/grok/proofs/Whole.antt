@@ -1,10 +1,10 @@
 -- The remembered measure equals the tree.
 use Rattle.std.proofs.Common.{◌≡◌, ℕ, ◌≤◌, ◌+◌, Bool, true, List, length, Some, None, Ok, Err, sym, ◌∙◌, subst, inl, inr, arith}
 use Rattle.grok.specs.Tree.{Definitions, Fault, Item, Event, first_structural, tree_within, reached}
-use Rattle.grok.specs.Keys.{has_bracket}
+use Rattle.grok.specs.Keys.{has_numbered_alias}
 use Rattle.grok.specs.Expanded.{expanded, groups, nesting}
-use Rattle.grok.specs.Sizes.{Size, sizes, measured, length_of}
-use Rattle.grok.specs.Remembered.{Answer, measure_within}
+use Rattle.grok.specs.Sizes.{Size, sizes, size_or_fault, length_of}
+use Rattle.grok.specs.Remembered.{Reading, measure_within}
 use Rattle.grok.specs.Measured.{reaches, weighed}
 use Rattle.grok.proofs.Flat.{IsSound}
 use Rattle.grok.proofs.TreeSizes.{tree_sizes}
@@ -18,13 +18,13 @@ abbrev pub table_weight : (List ℕ → ℕ) → List (List ℕ × List ℕ) →
 table_weight weight entries pattern tree = weight pattern + weighed weight (λ name. reaches name (reached tree)) entries
 
 -- THE THEOREM: what the remembered measure answers is what is read off the tree, and it looks no more than that
-pub record IsMeasureOf (alias_only : Bool) (resolve : List ℕ → List Item) (entries : List (List ℕ × List ℕ)) (pattern : List ℕ) (tree : List Event) (answer : Answer) : Type 0 where
+pub record IsMeasureOf (alias_only : Bool) (resolve : List ℕ → List Item) (entries : List (List ℕ × List ℕ)) (pattern : List ℕ) (tree : List Event) (answer : Reading) : Type 0 where
   pub fault : (fault : Fault) → answer.0 ≡ Err fault → first_structural tree ≡ Some fault
   pub clean : (size : Size) → answer.0 ≡ Ok size → first_structural tree ≡ None
   pub length_is : (size : Size) → answer.0 ≡ Ok size → length (expanded alias_only tree) ≡ length_of size
   pub groups_are : (size : Size) → answer.0 ≡ Ok size → groups alias_only tree ≡ size.groups
   pub nesting_is : (size : Size) → answer.0 ≡ Ok size → nesting tree ≡ size.height
-  pub bracket : answer.1.bracket ≡ has_bracket (reached tree)
+  pub numbered_alias : answer.1.numbered_alias ≡ has_numbered_alias (reached tree)
   pub looks : answer.1.looks ≤ table_weight (λ text. length (resolve text)) entries pattern tree
   pub ends : answer.1.ends ≤ table_weight (λ text. 1) entries pattern tree
   pub looks_exact : (size : Size) → answer.0 ≡ Ok size → answer.1.looks ≡ table_weight (λ text. length (resolve text)) entries pattern tree
@@ -36,7 +36,7 @@ module _ (alias_only : Bool) (resolve : List ℕ → List Item) (definitions : D
       let answer = measure_within levels alias_only resolve pattern in
       let tree = tree_within levels resolve pattern in
       let t = tree_sizes alias_only resolve levels pattern in
-      let right : answer.0 ≡ sizes alias_only (measured alias_only resolve levels) (resolve pattern) = measure_right alias_only resolve definitions sound levels pattern in
+      let right : answer.0 ≡ sizes alias_only (size_or_fault alias_only resolve levels) (resolve pattern) = measure_right alias_only resolve definitions sound levels pattern in
       let meets = measure_meets alias_only resolve definitions sound levels pattern in
       let only : (name : List ℕ) → is_started answer.1 name ≡ true → reaches name (reached tree) ≡ true = λ name met. elim (meets.only name met) [ inl never ↦ cc | inr there ↦ there ] in
       let same : (size : Size) → answer.0 ≡ Ok size → (name : List ℕ) → is_started answer.1 name ≡ reaches name (reached tree) =
@@ -47,7 +47,7 @@ module _ (alias_only : Bool) (resolve : List ℕ → List Item) (definitions : D
         length_is = λ size e. t.length size (sym right ∙ e);
         groups_are = λ size e. t.groups size (sym right ∙ e);
         nesting_is = λ size e. t.nesting size (sym right ∙ e);
-        bracket = measure_flags alias_only resolve definitions sound levels pattern;
+        numbered_alias = measure_flags alias_only resolve definitions sound levels pattern;
         looks = omega (arith, looks_most alias_only resolve definitions entries table sound levels pattern, weighed_le (λ text. length (resolve text)) (is_started answer.1) (λ name. reaches name (reached tree)) entries only);
         ends = omega (arith, ends_most alias_only resolve definitions entries table sound levels pattern, weighed_le (λ text. 1) (is_started answer.1) (λ name. reaches name (reached tree)) entries only);
         looks_exact = λ size e. omega (arith, looks_exact alias_only resolve definitions entries table sound levels pattern size e, weighed_same (λ text. length (resolve text)) (is_started answer.1) (λ name. reaches name (reached tree)) entries (same size e));

@@ -1,7 +1,7 @@
 -- What an error says, and the text that it prints.
 use Rattle.std.specs.Prelude.{ℕ, List, ◌++◌, codes, string_bytes}
-use Rattle.grok.specs.declared.errors.Error.{Error}
-use Rattle.grok.specs.declared.errors.Error.TheVariants as rust
+use Rattle.grok.specs.declared.errors.error.Error.{Error}
+use Rattle.grok.specs.declared.errors.error.Error.TheVariants as rust
 
 -- an error as contracts see it: its kind, and the bytes of its text if it has one
 pub data ErrorValue : Type 0 where
@@ -23,8 +23,11 @@ error_value rust.Memory = Memory
 -- the text that an error prints
 abbrev pub error_text : ErrorValue → List ℕ
 error_text RecursionTooDeep = codes "Recursion while compiling reached the limit of 1024"
-error_text (CompiledPatternIsEmpty pattern) = codes "The given pattern \"" ++ (pattern ++ codes "\" ended up compiling into an empty regex")
-error_text (DefinitionNotFound name) = codes "The given pattern definition name \"" ++ (name ++ codes "\" could not be found in the definition map")
-error_text (RegexCompilationFailed words) = codes "The given regex \"" ++ (words ++ codes "\" failed compilation in the underlying engine")
+error_text (CompiledPatternIsEmpty pattern) = codes "The given pattern \""
+    ++ (pattern ++ codes "\" ended up compiling into an empty regex")
+error_text (DefinitionNotFound name) = codes "The given pattern definition name \""
+    ++ (name ++ codes "\" could not be found in the definition map")
+error_text (RegexCompilationFailed words) = codes "The given regex \""
+    ++ (words ++ codes "\" failed compilation in the underlying engine")
 error_text (GenericCompilationFailure words) = codes "Something unexpected happened during the compilation phase: \"" ++ (words ++ codes "\"")
 error_text Memory = codes "Out of memory"

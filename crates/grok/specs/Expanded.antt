@@ -1,19 +1,20 @@
 -- The text that a clean tree stands for, and its size.
 use Rattle.std.specs.Prelude.{ℕ, suc, ◌-◌, max, Bool, List, [], ◌∷◌, ◌++◌, length, if◌then◌else◌, codes}
-use Rattle.grok.specs.Tree.{Event, Text, Open, Close, Fails}
+use Rattle.grok.specs.Tree.{Event, Text, Open, Close, FaultEvent}
 use Rattle.grok.specs.Keys.{is_recorded, recorded}
-use Rattle.grok_match.specs.Numeral.{numeral}
+use Rattle.grok.specs.GeneratedNames.{named_head, unnamed_head}
 
--- the text of events that stand after so many recorded opens: the one of number k writes `(?<_n_k>`, and one that isn't recorded `(?:`
+-- the text of events that stand after so many recorded opens: each of these writes the head of a group that
+-- its number names, and the others that of a group without a name
 abbrev pub text_after : Bool → ℕ → List Event → List ℕ
 text_after alias_only count [] = []
 text_after alias_only count (Text text ∷ events) = text ++ text_after alias_only count events
 text_after alias_only count (Close ∷ events) = codes ")" ++ text_after alias_only count events
-text_after alias_only count (Fails fault ∷ events) = text_after alias_only count events
+text_after alias_only count (FaultEvent fault ∷ events) = text_after alias_only count events
 text_after alias_only count (Open label meaning ∷ events) =
     if is_recorded alias_only label
-    then codes "(?<_n_" ++ numeral count ++ codes ">" ++ text_after alias_only (suc count) events
-    else codes "(?:" ++ text_after alias_only count events
+    then named_head count ++ text_after alias_only (suc count) events
+    else unnamed_head ++ text_after alias_only count events
 
 -- the text of a clean tree
 abbrev pub expanded : Bool → List Event → List ℕ
@@ -28,7 +29,7 @@ abbrev pub nesting_after : ℕ → List Event → ℕ
 nesting_after depth [] = 0
 nesting_after depth (Text text ∷ events) = nesting_after depth events
 nesting_after depth (Close ∷ events) = nesting_after (depth - 1) events
-nesting_after depth (Fails fault ∷ events) = nesting_after depth events
+nesting_after depth (FaultEvent fault ∷ events) = nesting_after depth events
 nesting_after depth (Open label meaning ∷ events) = max (suc depth) (nesting_after (suc depth) events)
 
 abbrev pub nesting : List Event → ℕ

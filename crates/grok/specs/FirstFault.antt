@@ -1,14 +1,17 @@
--- The first fault and the extracts of a tree, said by where the list of its events, or of its recorded opens, is cut.
+-- The first fault and the extracts of a tree, said by where the list of its events, or of its recorded opens,
+-- is cut.
 use Rattle.std.specs.Prelude.{◌≡◌, ℕ, Bool, true, false, List, [], ◌∷◌, ◌++◌, Some, None}
-use Rattle.grok.specs.Tree.{is_absent, Label, Meaning, Fault, Event, Open, Fails}
+use Rattle.grok.specs.Tree.{is_absent, Label, Meaning, Fault, Event, Open, FaultEvent}
 use Rattle.grok.specs.Keys.{is_recorded, recorded, key_after, keys, Finding, Structural, Clash, is_among, first_fault, extract_of}
 
--- the event, which stands behind these others, is the fault: it is a fault event, or a recorded open whose key is that of an earlier one
+-- the event, which stands behind these others, is the fault: it is a fault event, or a recorded open whose
+-- key is that of an earlier one
 pub data IsFaultBehind (alias_only : Bool) (before : List Event) : Event → Finding → Type 0 where
-  Breaks : (fault : Fault) → IsFaultBehind alias_only before (Fails fault) (Structural fault)
+  Breaks : (fault : Fault) → IsFaultBehind alias_only before (FaultEvent fault) (Structural fault)
   Meets : (label : Label) (meaning : Meaning) → is_recorded alias_only label ≡ true
       → is_among (key_after (recorded alias_only before) label) (keys (recorded alias_only before)) ≡ true
-      → IsFaultBehind alias_only before (Open label meaning) (Clash (key_after (recorded alias_only before) label))
+      → IsFaultBehind alias_only before (Open label meaning)
+      (Clash (key_after (recorded alias_only before) label))
 
 -- wherever the events are cut, the event that comes next is no fault
 abbrev pub HasNoFault : Bool → List Event → Type 0
@@ -27,8 +30,10 @@ pub record HasFirstFault (alias_only : Bool) (events : List Event) (finding : Fi
 
 -- what `first_fault` gives
 pub record FindsFirstFault (alias_only : Bool) (tree : List Event) : Type 0 where
-  pub some : (finding : Finding) → first_fault alias_only tree ≡ Some finding → HasFirstFault alias_only tree finding
-  pub only : (finding : Finding) → HasFirstFault alias_only tree finding → first_fault alias_only tree ≡ Some finding
+  pub some : (finding : Finding) → first_fault alias_only tree ≡ Some finding
+      → HasFirstFault alias_only tree finding
+  pub only : (finding : Finding) → HasFirstFault alias_only tree finding
+      → first_fault alias_only tree ≡ Some finding
   pub none : first_fault alias_only tree ≡ None → HasNoFault alias_only tree
   pub clean : HasNoFault alias_only tree → first_fault alias_only tree ≡ None
 
@@ -41,7 +46,8 @@ FirstFaultIsFirst = (alias_only : Bool) (tree : List Event) → FindsFirstFault 
 abbrev pub HasNoExtract : List Label → List Label → List ℕ → Type 0
 HasNoExtract earlier labels key =
     (before : List Label) (label : Label) (after : List Label)
-    → labels ≡ before ++ label ∷ after → key_after (earlier ++ before) label ≡ key → is_absent label.extract ≡ true
+    → labels ≡ before ++ label ∷ after → key_after (earlier ++ before) label ≡ key
+    → is_absent label.extract ≡ true
 
 -- an open has the key and this extract, which isn't empty, and no later one of that key has an extract
 pub record HasLastExtract (labels : List Label) (key : List ℕ) (extract : List ℕ) : Type 0 where
@@ -56,8 +62,10 @@ pub record HasLastExtract (labels : List Label) (key : List ℕ) (extract : List
 
 -- what `extract_of` gives
 pub record FindsLastExtract (alias_only : Bool) (tree : List Event) (key : List ℕ) : Type 0 where
-  pub some : (extract : List ℕ) → extract_of alias_only tree key ≡ Some extract → HasLastExtract (recorded alias_only tree) key extract
-  pub only : (extract : List ℕ) → HasLastExtract (recorded alias_only tree) key extract → extract_of alias_only tree key ≡ Some extract
+  pub some : (extract : List ℕ) → extract_of alias_only tree key ≡ Some extract
+      → HasLastExtract (recorded alias_only tree) key extract
+  pub only : (extract : List ℕ) → HasLastExtract (recorded alias_only tree) key extract
+      → extract_of alias_only tree key ≡ Some extract
   pub none : extract_of alias_only tree key ≡ None → HasNoExtract [] (recorded alias_only tree) key
   pub nothing : HasNoExtract [] (recorded alias_only tree) key → extract_of alias_only tree key ≡ None
 

@@ -6,16 +6,16 @@ use Rattle.std.specs.Cmp.Lexicographic.{slice_cmp}
 use Rattle.std.specs.BTreeMap.{BTreeMap, get_by}
 use Rattle.std.specs.Borrow.{Bor}
 use Rattle.grok.specs.Tree as tree
-use Rattle.grok.specs.declared.structural.Fault.{Fault}
-use Rattle.grok.specs.declared.structural.Fault.TheVariants as fault
-use Rattle.grok.specs.declared.items.Label.{Label}
-use Rattle.grok.specs.declared.items.Meaning.{Meaning}
-use Rattle.grok.specs.declared.items.Meaning.TheVariants as meaning
-use Rattle.grok.specs.declared.items.Item.{Item}
-use Rattle.grok.specs.declared.items.Item.TheVariants as item
+use Rattle.grok.specs.declared.errors.fault.Fault.{Fault}
+use Rattle.grok.specs.declared.errors.fault.Fault.TheVariants as fault
+use Rattle.grok.specs.declared.defs.items.Label.{Label}
+use Rattle.grok.specs.declared.defs.items.Meaning.{Meaning}
+use Rattle.grok.specs.declared.defs.items.Meaning.TheVariants as meaning
+use Rattle.grok.specs.declared.defs.items.Item.{Item}
+use Rattle.grok.specs.declared.defs.items.Item.TheVariants as item
 
 abbrev pub fault_view : Fault → tree.Fault
-fault_view (fault.Malformed f) = tree.BadPiece f
+fault_view (fault.Malformed f) = tree.MalformedPiece f
 fault_view (fault.Missing name) = tree.Missing name.now
 fault_view fault.TooDeep = tree.TooDeep
 
@@ -27,10 +27,11 @@ meaning_view (meaning.Inline text) = tree.Inline text.now
 meaning_view (meaning.Stored stored) = tree.Stored stored.now
 
 abbrev pub item_view : Item → tree.Item
-item_view (item.Bytes text) = tree.Bytes text.now
-item_view (item.Broken f) = tree.Broken (fault_view f)
-item_view (item.Opening label m) = tree.Opening (label_view label) (meaning_view m)
+item_view (item.Text text) = tree.TextItem text.now
+item_view (item.Fault f) = tree.FaultItem (fault_view f)
+item_view (item.Placeholder label m) = tree.PlaceholderItem (label_view label) (meaning_view m)
 
 -- the definitions that a map from names to texts holds
 abbrev pub written_in : BTreeMap (Bor (List ℕ)) (Bor (List ℕ)) → tree.Definitions
-written_in written name = option_map (λ (text : Bor (List ℕ)). text.now) (get_by (λ (key : Bor (List ℕ)). slice_cmp nat_cmp name key.now) written)
+written_in written name = option_map (λ (text : Bor (List ℕ)). text.now)
+    (get_by (λ (key : Bor (List ℕ)). slice_cmp nat_cmp name key.now) written)

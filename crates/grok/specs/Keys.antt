@@ -1,9 +1,11 @@
 -- The recorded opens of a tree: their keys, where two keys clash, and their extracts.
-use Rattle.std.specs.Prelude.{◌≡◌, ℕ, zero, suc, ◌==◌, Bool, true, false, not, ◌&&◌, List, [], ◌∷◌, ◌++◌, if◌then◌else◌, Option, Some, None, count_by, codes}
+use Rattle.std.specs.Prelude.{◌≡◌, ◌↔◌, ℕ, zero, suc, ◌==◌, Bool, true, false, not, ◌&&◌, ◌||◌, List, [], ◌∷◌, ◌++◌, if◌then◌else◌, Option, Some, None, count_by, codes}
 use Rattle.std.specs.Option.{option_map}
 use Rattle.std.specs.Str.{bytes_eq}
-use Rattle.grok_match.specs.Numeral.{numeral}
-use Rattle.grok.specs.Tree.{Definitions, is_absent, Label, Event, Text, Open, Close, Fails, Fault, reached, first_structural, tree}
+use Rattle.std.specs.Char.{is_ascii_digit}
+use Rattle.grok.specs.Ascii.{close_bracket, digit_zero, open_bracket}
+use Rattle.grok.specs.Numeral.{numeral}
+use Rattle.grok.specs.Tree.{Definitions, is_absent, Label, Event, Text, Open, Close, FaultEvent, Fault, reached, first_structural, tree}
 
 -- ---- recorded opens
 
@@ -16,7 +18,7 @@ abbrev pub recorded : Bool → List Event → List Label
 recorded alias_only [] = []
 recorded alias_only (Text text ∷ events) = recorded alias_only events
 recorded alias_only (Close ∷ events) = recorded alias_only events
-recorded alias_only (Fails fault ∷ events) = recorded alias_only events
+recorded alias_only (FaultEvent fault ∷ events) = recorded alias_only events
 recorded alias_only (Open label meaning ∷ events) =
     if is_recorded alias_only label then label ∷ recorded alias_only events else recorded alias_only events
 
@@ -58,12 +60,13 @@ abbrev pub is_among : List ℕ → List (List ℕ) → Bool
 is_among key [] = false
 is_among key (other ∷ others) = if bytes_eq other key then true else is_among key others
 
--- The first fault of events that stand after recorded opens. `before` are these, the nearest first, and `taken` their keys.
+-- The first fault of events that stand after recorded opens. `before` are these, the nearest first, and
+-- `taken` their keys.
 abbrev pub first_fault_after : Bool → List Label → List (List ℕ) → List Event → Option Finding
 first_fault_after alias_only before taken [] = None
 first_fault_after alias_only before taken (Text text ∷ events) = first_fault_after alias_only before taken events
 first_fault_after alias_only before taken (Close ∷ events) = first_fault_after alias_only before taken events
-first_fault_after alias_only before taken (Fails fault ∷ events) = Some (Structural fault)
+first_fault_after alias_only before taken (FaultEvent fault ∷ events) = Some (Structural fault)
 first_fault_after alias_only before taken (Open label meaning ∷ events) =
     if is_recorded alias_only label
     then (if is_among (key_after before label) taken
@@ -71,46 +74,68 @@ first_fault_after alias_only before taken (Open label meaning ∷ events) =
     else first_fault_after alias_only (label ∷ before) (key_after before label ∷ taken) events)
     else first_fault_after alias_only before taken events
 
--- THE FIRST FAULT in the order of reading. At one placeholder a missing definition comes first, then a clash, then depth.
+-- THE FIRST FAULT in the order of reading. At one placeholder a missing definition comes first, then a clash,
+-- then depth.
 abbrev pub first_fault : Bool → List Event → Option Finding
 first_fault alias_only tree = first_fault_after alias_only [] [] tree
 
 -- ---- extracts
 
--- the extract of a key: that of the last of these recorded opens that has the key and a nonempty extract, or what was found before
+-- the extract of a key: that of the last of these recorded opens that has the key and a nonempty extract, or
+-- what was found before
 abbrev pub extract_after : List Label → List ℕ → List Label → Option (List ℕ) → Option (List ℕ)
 extract_after before key [] found = found
 extract_after before key (label ∷ labels) found =
     extract_after (label ∷ before) key labels
-    (if bytes_eq (key_after before label) key && not (is_absent label.extract) then Some label.extract else found)
+    (if bytes_eq (key_after before label) key && not (is_absent label.extract) then Some label.extract
+    else found)
 
 abbrev pub extract_of : Bool → List Event → List ℕ → Option (List ℕ)
 extract_of alias_only tree key = extract_after [] key (recorded alias_only tree) None
 
 -- ---- which opens can clash
 
-abbrev pub ends_in_bracket : List ℕ → Bool
-ends_in_bracket [] = false
-ends_in_bracket (c ∷ []) = c == 93
-ends_in_bracket (c ∷ d ∷ cs) = ends_in_bracket (d ∷ cs)
+-- digits, and then a last `]`
+abbrev pub ends_digits : List ℕ → Bool
+ends_digits [] = false
+ends_digits (c ∷ cs) = if c == close_bracket then is_absent cs else is_ascii_digit c && ends_digits cs
 
--- an open whose alias ends in `]` is among the events
-abbrev pub has_bracket : List Event → Bool
-has_bracket [] = false
-has_bracket (Text text ∷ events) = has_bracket events
-has_bracket (Close ∷ events) = has_bracket events
-has_bracket (Fails fault ∷ events) = has_bracket events
-has_bracket (Open label meaning ∷ events) = if ends_in_bracket label.alias then true else has_bracket events
+-- a number from 1 up in decimal, and then a last `]`
+abbrev pub ends_number : List ℕ → Bool
+ends_number [] = false
+ends_number (c ∷ cs) = not (c == digit_zero) && (is_ascii_digit c && ends_digits cs)
+
+-- the key ends as a numbered one does: in `[`, a number from 1 up in decimal, and `]`
+abbrev pub ends_in_number : List ℕ → Bool
+ends_in_number [] = false
+ends_in_number (c ∷ cs) = (c == open_bracket && ends_number cs) || ends_in_number cs
+
+-- an open whose alias ends so is among the events
+abbrev pub has_numbered_alias : List Event → Bool
+has_numbered_alias [] = false
+has_numbered_alias (Text text ∷ events) = has_numbered_alias events
+has_numbered_alias (Close ∷ events) = has_numbered_alias events
+has_numbered_alias (FaultEvent fault ∷ events) = has_numbered_alias events
+has_numbered_alias (Open label meaning ∷ events) = if ends_in_number label.alias then true
+    else has_numbered_alias events
 
 -- no key stands twice
 abbrev pub AreDistinct : List (List ℕ) → Type 0
 AreDistinct [] = Unit {0}
 AreDistinct (key ∷ keys) = (is_among key keys ≡ false) × AreDistinct keys
 
--- THE LAWS: without a reached alias that ends in `]` the first fault is the structural one, and without a fault no two recorded opens share a key
-abbrev pub ClashNeedsBracket : Type 0
-ClashNeedsBracket = (alias_only : Bool) (stored : Definitions) (pattern : List ℕ) → has_bracket (reached (tree stored pattern)) ≡ false
-    → first_fault alias_only (tree stored pattern) ≡ option_map Structural (first_structural (tree stored pattern))
+-- THE LAWS: a key ends so exactly where it is a numbered one. Without a reached alias that ends so the first
+-- fault is the structural one, and without a fault no two recorded opens share a key.
+abbrev pub EndsInNumberWhereNumbered : Type 0
+EndsInNumberWhereNumbered = (key : List ℕ) → (ends_in_number key ≡ true)
+    ↔ ((front : List ℕ) × (count : ℕ) × (key ≡ numbered front (suc count)))
+
+abbrev pub ClashNeedsNumber : Type 0
+ClashNeedsNumber = (alias_only : Bool) (stored : Definitions) (pattern : List ℕ)
+    → has_numbered_alias (reached (tree stored pattern)) ≡ false
+    → first_fault alias_only (tree stored pattern) ≡ option_map Structural
+    (first_structural (tree stored pattern))
 
 abbrev pub KeysAreDistinct : Type 0
-KeysAreDistinct = (alias_only : Bool) (tree : List Event) → first_fault alias_only tree ≡ None → AreDistinct (keys (recorded alias_only tree))
+KeysAreDistinct = (alias_only : Bool) (tree : List Event) → first_fault alias_only tree ≡ None
+    → AreDistinct (keys (recorded alias_only tree))

@@ -1,12 +1,37 @@
+pub mod Ascii
+pub mod Pieces
+pub mod Views
+pub mod Rest
+pub mod Grammar
+pub mod Texts
+pub mod Joined
+pub mod Tiles
+pub mod Numeral
+pub mod GeneratedNames
+pub mod Maps
+pub mod Debugs
+pub mod Captures
+pub mod Locations
+pub mod RegexFinds
+pub mod OwnSearches
+pub mod Engines
+pub mod KeyTable
+pub mod KeyPlaces
+pub mod Answers
+pub mod Groups
+pub mod Lent
+pub mod AnswerLaws
 pub mod Spans
 pub mod Sources
-pub mod Ten
+pub mod DefaultDefinitions
 pub mod Tree
 pub mod Keys
+pub mod Endings
 pub mod Expanded
 pub mod Items
+pub mod Events
 pub mod Errors
-pub mod Given
+pub mod OpensSoFar
 pub mod FirstFault
 pub mod Walks
 pub mod Writes
@@ -17,3 +42,32 @@ pub mod Remembered
 pub mod Measured
 pub mod Met
 pub mod TreeLaws
+-- THE WORDS FOR CALLERS: each word that a clause of a public call is said in.
+-- pieces
+pub use Rattle.grok.specs.Pieces.{Piece, Regular, Placeholder, Malformed, Parts, pieces}
+pub use Rattle.grok.specs.Grammar.{ArePieces}
+pub use Rattle.grok.specs.Views.{piece_view}
+pub use Rattle.grok.specs.Texts.{component_text}
+-- definitions, and the tree of a pattern
+pub use Rattle.grok.specs.Maps.{set_all, pair_texts}
+pub use Rattle.grok.specs.DefaultDefinitions.{default_definitions}
+pub use Rattle.grok.specs.Tree.{Definitions, Event, Fault, tree, first_structural, reached}
+pub use Rattle.grok.specs.Keys.{recorded, keys, extract_of, first_fault}
+pub use Rattle.grok.specs.Expanded.{expanded}
+-- sizes
+pub use Rattle.grok.specs.Measured.{measured_tree, reached_pieces, reached_texts, counted}
+pub use Rattle.grok.specs.Met.{measure_view}
+-- errors, and what compiling answers
+pub use Rattle.grok.specs.Items.{fault_view}
+pub use Rattle.grok.specs.Errors.{ErrorValue, error_value, error_text}
+pub use Rattle.grok.specs.Compiled.{Expansion, expansion_of, Compiles, IsPatternOf, IsCompileError, IsFaultError}
+-- engines
+pub use Rattle.grok.specs.Captures.{name_texts, text_of, capture_texts, IsSliceOf, AreSlicesOf}
+pub use Rattle.grok.specs.Engines.{engine_regex}
+pub use Rattle.grok.specs.RegexFinds.{IsReadByDefault, captures_in}
+pub use Rattle.grok.specs.Locations.{AreLocationsIn, located_texts}
+pub use Rattle.regex.specs.Strings
+-- patterns and matches
+pub use Rattle.grok.specs.KeyTable.{Entries, IsKeyTable}
+pub use Rattle.grok.specs.Answers.{PatternValue, MatchesValue, answer_of, walk}
+pub use Rattle.grok.specs.Lent.{lent_keys, lent_captures}

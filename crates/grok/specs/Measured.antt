@@ -2,28 +2,28 @@
 use Rattle.std.specs.Prelude.{◌≡◌, ℕ, ◌+◌, ◌-◌, ◌^◌, min, Bool, true, false, List, [], ◌∷◌, length, if◌then◌else◌, nat_lt, Option, Some, None}
 use Rattle.std.specs.Str.{bytes_eq}
 use Rattle.std.specs.FinMap as finite
-use Rattle.grok_parser.specs.Pieces.{pieces}
-use Rattle.grok_match.specs.Maps.{Texts}
-use Rattle.grok.specs.Tree.{Fault, Inline, Stored, Event, Text, Open, Close, Fails, tree, first_structural, reached}
+use Rattle.grok.specs.Pieces.{pieces}
+use Rattle.grok.specs.Maps.{Texts}
+use Rattle.grok.specs.Tree.{Fault, Inline, Stored, Event, Text, Open, Close, FaultEvent, tree, first_structural, reached}
 use Rattle.grok.specs.Expanded.{expanded, groups, nesting}
 
 -- the tree of a pattern over these definitions
 abbrev pub tree_of : Texts → List ℕ → List Event
 tree_of texts pattern = tree (finite.get texts) pattern
 
-abbrev pub HasNoFault : List Event → Type 0
-HasNoFault tree = first_structural tree ≡ None
+abbrev pub IsClean : List Event → Type 0
+IsClean tree = first_structural tree ≡ None
 
 -- ---- the answer
 
 pub data Measured : Type 0 where
   Faulty : (fault : Fault) → Measured
   Sized : (length groups nesting : ℕ) → Measured
-  PastLimit : Measured
+  TooLong : Measured
 
 -- the size of a clean tree, if its text is no longer than the greatest `usize`
 abbrev pub size_within : ℕ → ℕ → ℕ → Measured
-size_within length groups nesting = if nat_lt length (2 ^ 64) then Sized length groups nesting else PastLimit
+size_within length groups nesting = if nat_lt length (2 ^ 64) then Sized length groups nesting else TooLong
 
 -- the first structural fault, or else the size of the text that the tree stands for
 abbrev pub fault_or : Option Fault → Measured → Measured
@@ -31,7 +31,8 @@ fault_or (Some fault) size = Faulty fault
 fault_or None size = size
 
 abbrev pub measured_tree : Bool → List Event → Measured
-measured_tree alias_only tree = fault_or (first_structural tree) (size_within (length (expanded alias_only tree)) (groups alias_only tree) (nesting tree))
+measured_tree alias_only tree = fault_or (first_structural tree)
+    (size_within (length (expanded alias_only tree)) (groups alias_only tree) (nesting tree))
 
 -- ---- what is read
 
@@ -40,18 +41,21 @@ abbrev pub reaches : List ℕ → List Event → Bool
 reaches name [] = false
 reaches name (Text text ∷ events) = reaches name events
 reaches name (Close ∷ events) = reaches name events
-reaches name (Fails fault ∷ events) = reaches name events
+reaches name (FaultEvent fault ∷ events) = reaches name events
 reaches name (Open label (Inline text) ∷ events) = reaches name events
-reaches name (Open label (Stored text) ∷ events) = if bytes_eq label.name name then true else reaches name events
+reaches name (Open label (Stored text) ∷ events) = if bytes_eq label.name name then true
+    else reaches name events
 
 -- what the chosen ones of these named texts weigh together
 abbrev pub weighed : (List ℕ → ℕ) → (List ℕ → Bool) → List (List ℕ × List ℕ) → ℕ
 weighed weight is_chosen [] = 0
-weighed weight is_chosen (entry ∷ entries) = (if is_chosen entry.0 then weight entry.1 else 0) + weighed weight is_chosen entries
+weighed weight is_chosen (entry ∷ entries) = (if is_chosen entry.0 then weight entry.1
+    else 0) + weighed weight is_chosen entries
 
 -- what the pattern weighs, and each stored text whose name is reached, once
 abbrev pub reached_weight : (List ℕ → ℕ) → Texts → List ℕ → ℕ
-reached_weight weight texts pattern = weight pattern + weighed weight (λ name. reaches name (reached (tree_of texts pattern))) (finite.entries texts)
+reached_weight weight texts pattern = weight pattern + weighed weight
+    (λ name. reaches name (reached (tree_of texts pattern))) (finite.entries texts)
 
 -- THE PIECES of all these texts, and HOW MANY TEXTS they are
 abbrev pub reached_pieces : Texts → List ℕ → ℕ

@@ -1,8 +1,9 @@
 -- The size of what a text stands for, added up item by item.
 use Rattle.std.specs.Prelude.{ℕ, zero, suc, ◌+◌, max, Bool, List, [], ◌∷◌, length, if◌then◌else◌, Result, Ok, Err}
-use Rattle.grok.specs.Tree.{Fault, TooDeep, Label, text_of, Item, Bytes, Broken, Opening}
+use Rattle.grok.specs.Tree.{Fault, TooDeep, Label, meaning_text, Item, TextItem, FaultItem, PlaceholderItem}
 use Rattle.grok.specs.Keys.{is_recorded}
-use Rattle.grok_match.specs.Numeral.{numeral}
+use Rattle.grok.specs.Numeral.{numeral}
+use Rattle.grok.specs.GeneratedNames.{bracket_bytes}
 
 -- The bytes without the numbers of groups, the groups, and how deep the opens go, 0 if there is none.
 pub record Size : Type 0 where
@@ -25,10 +26,10 @@ both (Err fault) s = Err fault
 both (Ok a) (Err fault) = Err fault
 both (Ok a) (Ok b) = Ok (plus a b)
 
--- the brackets of an open around what is inside: `(?<_n_` `>` `)` without the number, or `(?:` `)`
+-- the brackets of an open around what is inside, without the number
 abbrev pub bracketed : Bool → Label → Size → Size
 bracketed alias_only label inner = record {
-  bytes = (if is_recorded alias_only label then 8 else 4) + inner.bytes;
+  bytes = bracket_bytes (is_recorded alias_only label) + inner.bytes;
   groups = (if is_recorded alias_only label then 1 else 0) + inner.groups;
   height = suc inner.height;
 }
@@ -39,18 +40,21 @@ wrapped alias_only label (Ok inner) = Ok (bracketed alias_only label inner)
 
 -- the size of an item, where `inner` is that of the text of an open
 abbrev pub size_of : Bool → (List ℕ → Result Size Fault) → Item → Result Size Fault
-size_of alias_only inner (Bytes text) = Ok (size_of_bytes text)
-size_of alias_only inner (Broken fault) = Err fault
-size_of alias_only inner (Opening label meaning) = wrapped alias_only label (inner (text_of meaning))
+size_of alias_only inner (TextItem text) = Ok (size_of_bytes text)
+size_of alias_only inner (FaultItem fault) = Err fault
+size_of alias_only inner (PlaceholderItem label meaning) = wrapped alias_only label
+    (inner (meaning_text meaning))
 
 abbrev pub sizes : Bool → (List ℕ → Result Size Fault) → List Item → Result Size Fault
 sizes alias_only inner [] = Ok no_size
 sizes alias_only inner (item ∷ items) = both (size_of alias_only inner item) (sizes alias_only inner items)
 
--- The size of an opened text, where so many levels may still be opened, itself among them. `resolve` gives the items of each text.
-abbrev pub measured : Bool → (List ℕ → List Item) → ℕ → List ℕ → Result Size Fault
-measured alias_only resolve zero text = Err TooDeep
-measured alias_only resolve (suc levels) text = sizes alias_only (measured alias_only resolve levels) (resolve text)
+-- The size of an opened text, where so many levels may still be opened, itself among them. `resolve` gives
+-- the items of each text.
+abbrev pub size_or_fault : Bool → (List ℕ → List Item) → ℕ → List ℕ → Result Size Fault
+size_or_fault alias_only resolve zero text = Err TooDeep
+size_or_fault alias_only resolve (suc levels) text = sizes alias_only
+    (size_or_fault alias_only resolve levels) (resolve text)
 
 -- the decimal places of so many numbers in a row, from the first on
 abbrev pub places_from : ℕ → ℕ → ℕ

@@ -1,8 +1,8 @@
 -- The expansion of a pattern: what each placeholder stands for, and the events of reading all of it in order.
 use Rattle.std.specs.Prelude.{ℕ, zero, suc, Bool, true, false, not, ◌&&◌, List, [], ◌∷◌, ◌++◌, if◌then◌else◌, Option, Some, None}
 use Rattle.std.specs.Str.{bytes_eq}
-use Rattle.grok_parser.specs.declared.GrokPatternError.{GrokPatternError}
-use Rattle.grok_parser.specs.Pieces.{Parts, Piece, Regular, Placeholder, Malformed, pieces}
+use Rattle.grok.specs.declared.parser.GrokPatternError.{GrokPatternError}
+use Rattle.grok.specs.Pieces.{Parts, Piece, Regular, Placeholder, Malformed, pieces}
 
 -- ---- what pieces stand for
 
@@ -13,7 +13,7 @@ is_absent (x ∷ xs) = false
 
 -- a structural fault: a malformed placeholder, a name without a definition, or more levels than are allowed
 pub data Fault : Type 0 where
-  BadPiece : (fault : GrokPatternError) → Fault
+  MalformedPiece : (fault : GrokPatternError) → Fault
   Missing : (name : List ℕ) → Fault
   TooDeep : Fault
 
@@ -28,15 +28,16 @@ pub data Meaning : Type 0 where
   Inline : (text : List ℕ) → Meaning
   Stored : (text : List ℕ) → Meaning
 
-abbrev pub text_of : Meaning → List ℕ
-text_of (Inline text) = text
-text_of (Stored text) = text
+abbrev pub meaning_text : Meaning → List ℕ
+meaning_text (Inline text) = text
+meaning_text (Stored text) = text
 
--- A piece with what it stands for. It depends on its text and on the definitions, and not on where the text is reached.
+-- A piece with what it stands for. It depends on its text and on the definitions, and not on where the text
+-- is reached.
 pub data Item : Type 0 where
-  Bytes : (text : List ℕ) → Item
-  Broken : (fault : Fault) → Item
-  Opening : (label : Label) (meaning : Meaning) → Item
+  TextItem : (text : List ℕ) → Item
+  FaultItem : (fault : Fault) → Item
+  PlaceholderItem : (label : Label) (meaning : Meaning) → Item
 
 -- the definition of each name that has one
 abbrev pub Definitions : Type 0
@@ -45,29 +46,34 @@ Definitions = List ℕ → Option (List ℕ)
 abbrev pub no_definitions : Definitions
 no_definitions name = None
 
--- what is written in a text so far, and a placeholder: one with a definition writes it for its name, in place of an earlier one
+-- what is written in a text so far, and a placeholder: one with a definition writes it for its name, in place
+-- of an earlier one
 abbrev pub with_written : Definitions → Parts → Definitions
-with_written written parts name = if bytes_eq parts.name name && not (is_absent parts.definition) then Some parts.definition else written name
+with_written written parts name = if bytes_eq parts.name name && not (is_absent parts.definition)
+    then Some parts.definition else written name
 
 -- the written definition, or else the stored one, or else there is none
-abbrev pub opened : Label → Option (List ℕ) → Option (List ℕ) → Item
-opened label (Some text) stored = Opening label (Inline text)
-opened label None (Some text) = Opening label (Stored text)
-opened label None None = Broken (Missing label.name)
+abbrev pub resolved : Label → Option (List ℕ) → Option (List ℕ) → Item
+resolved label (Some text) stored = PlaceholderItem label (Inline text)
+resolved label None (Some text) = PlaceholderItem label (Stored text)
+resolved label None None = FaultItem (Missing label.name)
 
 abbrev pub label_of : Parts → Label
 label_of parts = record { name = parts.name; alias = parts.alias; extract = parts.extract }
 
--- Resolution: the placeholder's own definition; else the last one that was written before for its name in this text; else the stored one.
+-- Resolution: the placeholder's own definition; else the last one that was written before for its name in
+-- this text; else the stored one.
 abbrev pub placeholder_item : Definitions → Definitions → Parts → Item
-placeholder_item stored written parts = opened (label_of parts) (with_written written parts parts.name) (stored parts.name)
+placeholder_item stored written parts = resolved (label_of parts) (with_written written parts parts.name)
+    (stored parts.name)
 
 -- the items of the pieces, which stand in their text after others that have written these definitions
 abbrev pub items_after : Definitions → Definitions → List Piece → List Item
 items_after stored written [] = []
-items_after stored written (Regular s e text ∷ ps) = Bytes text ∷ items_after stored written ps
+items_after stored written (Regular s e text ∷ ps) = TextItem text ∷ items_after stored written ps
 items_after stored written (Placeholder s e text parts ∷ ps) = placeholder_item stored written parts ∷ items_after stored (with_written written parts) ps
-items_after stored written (Malformed fault ∷ ps) = Broken (BadPiece fault) ∷ items_after stored written ps
+items_after stored written (Malformed fault ∷ ps) = FaultItem
+    (MalformedPiece fault) ∷ items_after stored written ps
 
 -- a text starts with nothing written
 abbrev pub items_of : Definitions → List ℕ → List Item
@@ -79,22 +85,24 @@ pub data Event : Type 0 where
   Text : (text : List ℕ) → Event
   Open : (label : Label) (meaning : Meaning) → Event
   Close : Event
-  Fails : (fault : Fault) → Event
+  FaultEvent : (fault : Fault) → Event
 
--- the events of items, where `inside` is what stands behind an open: the events of its text and the close, or a fault
+-- the events of items, where `inside` is what stands behind an open: the events of its text and the close, or
+-- a fault
 abbrev pub events : (List ℕ → List Event) → List Item → List Event
 events inside [] = []
-events inside (Bytes text ∷ items) = Text text ∷ events inside items
-events inside (Broken fault ∷ items) = Fails fault ∷ events inside items
-events inside (Opening label meaning ∷ items) = Open label meaning ∷ inside (text_of meaning) ++ events inside items
+events inside (TextItem text ∷ items) = Text text ∷ events inside items
+events inside (FaultItem fault ∷ items) = FaultEvent fault ∷ events inside items
+events inside (PlaceholderItem label meaning ∷ items) = Open label meaning ∷ inside (meaning_text meaning)
+    ++ events inside items
 
 -- what stands behind an open, where so many more levels are allowed
 abbrev pub inside : (List ℕ → List Item) → ℕ → List ℕ → List Event
-inside items zero text = Fails TooDeep ∷ []
-inside items (suc levels) text = events (inside items levels) (items text) ++ Close ∷ []
+inside items zero text = FaultEvent TooDeep ∷ []
+inside items (suc levels_left) text = events (inside items levels_left) (items text) ++ Close ∷ []
 
 abbrev pub tree_within : ℕ → (List ℕ → List Item) → List ℕ → List Event
-tree_within levels items pattern = events (inside items levels) (items pattern)
+tree_within levels_left items pattern = events (inside items levels_left) (items pattern)
 
 -- how many opens may stand in one another
 abbrev pub deepest : ℕ
@@ -110,7 +118,7 @@ first_structural [] = None
 first_structural (Text text ∷ events) = first_structural events
 first_structural (Open label meaning ∷ events) = first_structural events
 first_structural (Close ∷ events) = first_structural events
-first_structural (Fails fault ∷ events) = Some fault
+first_structural (FaultEvent fault ∷ events) = Some fault
 
 -- the events before the first fault event, or all of a clean tree
 abbrev pub reached : List Event → List Event
@@ -118,4 +126,4 @@ reached [] = []
 reached (Text text ∷ events) = Text text ∷ reached events
 reached (Open label meaning ∷ events) = Open label meaning ∷ reached events
 reached (Close ∷ events) = Close ∷ reached events
-reached (Fails fault ∷ events) = []
+reached (FaultEvent fault ∷ events) = []

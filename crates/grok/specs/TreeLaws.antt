@@ -1,8 +1,8 @@
 -- Laws of what placeholders stand for, and of the faults of a tree.
 use Rattle.std.specs.Prelude.{codes, ◌≡◌, ◌⊎◌, ℕ, suc, ◌+◌, Bool, true, false, List, [], ◌∷◌, ◌++◌, length, Some, None, slice_get}
-use Rattle.grok_parser.specs.Pieces.{Parts, Piece, Regular, Placeholder, Malformed, pieces}
-use Rattle.grok.specs.Tree.{Definitions, is_absent, Fault, Missing, label_of, Inline, opened, Opening, items_of, Event, Text, Open, Close, Fails, tree, first_structural, reached}
-use Rattle.grok_match.specs.Numeral.{numeral}
+use Rattle.grok.specs.Pieces.{Parts, Piece, Regular, Placeholder, Malformed, pieces}
+use Rattle.grok.specs.Tree.{Definitions, is_absent, Fault, Missing, label_of, Inline, resolved, PlaceholderItem, items_of, Event, Text, Open, Close, FaultEvent, tree, first_structural, reached}
+use Rattle.grok.specs.GeneratedNames.{named_head, unnamed_head}
 use Rattle.grok.specs.Expanded.{expanded}
 use Rattle.grok.specs.Measured.{Faulty, measured_tree, reaches}
 
@@ -13,26 +13,38 @@ abbrev pub NoneDefines : List ℕ → List Piece → Type 0
 NoneDefines name [] = Unit {0}
 NoneDefines name (Regular s e text ∷ ps) = NoneDefines name ps
 NoneDefines name (Malformed fault ∷ ps) = NoneDefines name ps
-NoneDefines name (Placeholder s e text parts ∷ ps) = (parts.name ≡ name → is_absent parts.definition ≡ true) × NoneDefines name ps
+NoneDefines name (Placeholder s e text parts ∷ ps) = (parts.name ≡ name → is_absent parts.definition ≡ true)
+    × NoneDefines name ps
 
 -- a placeholder with a definition stands for it
 abbrev pub OwnDefinitionHolds : Type 0
-OwnDefinitionHolds = (stored : Definitions) (text : List ℕ) (before after : List Piece) (s e : ℕ) (pattern : List ℕ) (parts : Parts)
+OwnDefinitionHolds = (stored : Definitions) (text : List ℕ) (before after : List Piece) (s e : ℕ)
+    (pattern : List ℕ) (parts : Parts)
     → pieces text ≡ before ++ Placeholder s e pattern parts ∷ after → is_absent parts.definition ≡ false
-    → slice_get (items_of stored text) (length before) ≡ Some (Opening (label_of parts) (Inline parts.definition))
+    → slice_get (items_of stored text) (length before) ≡ Some
+    (PlaceholderItem (label_of parts) (Inline parts.definition))
 
--- a placeholder without one stands for that of an earlier placeholder of its name, if no other between them defines the name
+-- a placeholder without one stands for that of an earlier placeholder of its name, if no other between them
+-- defines the name
 abbrev pub EarlierDefinitionHolds : Type 0
-EarlierDefinitionHolds = (stored : Definitions) (text : List ℕ) (before between after : List Piece) (s e s' e' : ℕ) (pattern pattern' : List ℕ) (earlier parts : Parts)
-    → pieces text ≡ before ++ Placeholder s e pattern earlier ∷ between ++ Placeholder s' e' pattern' parts ∷ after
-    → is_absent earlier.definition ≡ false → earlier.name ≡ parts.name → NoneDefines parts.name between → is_absent parts.definition ≡ true
-    → slice_get (items_of stored text) (suc (length before + length between)) ≡ Some (Opening (label_of parts) (Inline earlier.definition))
+EarlierDefinitionHolds = (stored : Definitions) (text : List ℕ) (before between after : List Piece)
+    (s e s' e' : ℕ) (pattern pattern' : List ℕ) (earlier parts : Parts)
+    → pieces text ≡ before ++ Placeholder s e pattern earlier ∷ between
+    ++ Placeholder s' e' pattern' parts ∷ after
+    → is_absent earlier.definition ≡ false → earlier.name ≡ parts.name → NoneDefines parts.name between
+    → is_absent parts.definition ≡ true
+    → slice_get (items_of stored text) (suc (length before + length between))
+    ≡ Some (PlaceholderItem (label_of parts) (Inline earlier.definition))
 
--- and where no placeholder before it in its own text defines the name, whatever other texts define, it stands for the stored definition, if there is one
+-- and where no placeholder before it in its own text defines the name, whatever other texts define, it stands
+-- for the stored definition, if there is one
 abbrev pub StoredDefinitionHolds : Type 0
-StoredDefinitionHolds = (stored : Definitions) (text : List ℕ) (before after : List Piece) (s e : ℕ) (pattern : List ℕ) (parts : Parts)
-    → pieces text ≡ before ++ Placeholder s e pattern parts ∷ after → NoneDefines parts.name before → is_absent parts.definition ≡ true
-    → slice_get (items_of stored text) (length before) ≡ Some (opened (label_of parts) None (stored parts.name))
+StoredDefinitionHolds = (stored : Definitions) (text : List ℕ) (before after : List Piece) (s e : ℕ)
+    (pattern : List ℕ) (parts : Parts)
+    → pieces text ≡ before ++ Placeholder s e pattern parts ∷ after → NoneDefines parts.name before
+    → is_absent parts.definition ≡ true
+    → slice_get (items_of stored text) (length before) ≡ Some
+    (resolved (label_of parts) None (stored parts.name))
 
 -- ---- faults
 
@@ -40,27 +52,32 @@ StoredDefinitionHolds = (stored : Definitions) (text : List ℕ) (before after :
 abbrev pub IsUnused : List ℕ → List Event → Type 0
 IsUnused name tree = (reaches name (reached tree) ≡ false) × (first_structural tree ≡ Some (Missing name) → ⊥)
 
--- Definitions that differ in unused names alone make the same first fault, so a fault in a definition that isn't reached is never answered; and they reach the same.
+-- Definitions that differ in unused names alone make the same first fault, so a fault in a definition that
+-- isn't reached is never answered; and they reach the same.
 abbrev pub UnusedDefinitionsDoNotMatter : Type 0
-UnusedDefinitionsDoNotMatter = (stored other : Definitions) (pattern : List ℕ) → ((name : List ℕ) → (stored name ≡ other name) ⊎ IsUnused name (tree stored pattern))
-    → (first_structural (tree other pattern) ≡ first_structural (tree stored pattern)) × (reached (tree other pattern) ≡ reached (tree stored pattern))
+UnusedDefinitionsDoNotMatter = (stored other : Definitions) (pattern : List ℕ)
+    → ((name : List ℕ) → (stored name ≡ other name) ⊎ IsUnused name (tree stored pattern))
+    → (first_structural (tree other pattern) ≡ first_structural (tree stored pattern))
+    × (reached (tree other pattern) ≡ reached (tree stored pattern))
 
 -- both modes answer the same faults
 abbrev pub ModesFaultAlike : Type 0
-ModesFaultAlike = (tree : List Event) (mode other : Bool) (fault : Fault) → measured_tree mode tree ≡ Faulty fault → measured_tree other tree ≡ Faulty fault
+ModesFaultAlike = (tree : List Event) (mode other : Bool) (fault : Fault)
+    → measured_tree mode tree ≡ Faulty fault → measured_tree other tree ≡ Faulty fault
 
 -- the head of a group: unnamed, or named by a number
 pub data IsHead : List ℕ → Type 0 where
-  Unnamed : IsHead (codes "(?:")
-  Numbered : (number : ℕ) → IsHead (codes "(?<_n_" ++ numeral number ++ codes ">")
+  Unnamed : IsHead unnamed_head
+  Numbered : (number : ℕ) → IsHead (named_head number)
 
 -- the text is what the events write, where each open writes a head of either kind
 abbrev pub IsTextOf : List Event → List ℕ → Type 0
 IsTextOf [] text = text ≡ []
 IsTextOf (Text bytes ∷ events) text = (rest : List ℕ) × (text ≡ bytes ++ rest) × IsTextOf events rest
 IsTextOf (Close ∷ events) text = (rest : List ℕ) × (text ≡ codes ")" ++ rest) × IsTextOf events rest
-IsTextOf (Fails fault ∷ events) text = IsTextOf events text
-IsTextOf (Open label meaning ∷ events) text = (head rest : List ℕ) × IsHead head × (text ≡ head ++ rest) × IsTextOf events rest
+IsTextOf (FaultEvent fault ∷ events) text = IsTextOf events text
+IsTextOf (Open label meaning ∷ events) text = (head rest : List ℕ) × IsHead head × (text ≡ head ++ rest)
+    × IsTextOf events rest
 
 -- so the texts of both modes differ in the heads of their groups alone
 abbrev pub HeadsAloneDiffer : Type 0

@@ -1,15 +1,15 @@
 -- What is written for a list of events, and when there is room for it.
-use Rattle.std.specs.Prelude.{◌≡◌, ℕ, ◌+◌, ◌<◌, ◌≤◌, ◌^◌, Bool, List, ◌++◌, length, if◌then◌else◌, codes, None}
+use Rattle.std.specs.Prelude.{◌≡◌, ℕ, ◌+◌, ◌<◌, ◌≤◌, ◌^◌, Bool, List, ◌++◌, length, if◌then◌else◌, None}
 use Rattle.std.specs.String.{string_bytes, string_len, string_capacity}
 use Rattle.grok.specs.Tree.{Event, first_structural}
 use Rattle.grok.specs.Keys.{recorded}
-use Rattle.grok_match.specs.Numeral.{numeral}
+use Rattle.grok.specs.GeneratedNames.{named_head, unnamed_head}
 use Rattle.grok.specs.Expanded.{text_after}
 use Rattle.grok.specs.declared.expand.write.Output.{Output}
 
 -- what an open writes after so many groups
 abbrev pub head_of : Bool → ℕ → List ℕ
-head_of is_recorded count = if is_recorded then codes "(?<_n_" ++ numeral count ++ codes ">" else codes "(?:"
+head_of is_recorded count = if is_recorded then named_head count else unnamed_head
 
 -- The events are clean, and the text that they stand for after what was written finds its room.
 pub record IsReady (alias_only : Bool) (events : List Event) (out : Output) : Type 0 where

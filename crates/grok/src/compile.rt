@@ -1,6 +1,6 @@
 //! Compiling a pattern.
 
-ghost use Rattle.std.specs.Prelude.{◌≡◌, ◌≢◌, ℕ, ◌⊎◌, ◌++◌, codes, List, [], map, length as len, MatchResult, IfOk, Some, None};
+ghost use Rattle.std.specs.Prelude.{◌≡◌, ◌≢◌, ℕ, ◌⊎◌, List, [], map, length as len, MatchResult, IfOk, Some, None};
 ghost use Rattle.std.specs.Option.{option_map};
 ghost use Rattle.std.specs.FinMap as finite;
 ghost use Rattle.std.specs.String.{string_bytes};
@@ -9,20 +9,23 @@ ghost use Rattle.grok.specs.Tree.{tree as tree_of, first_structural};
 ghost use Rattle.grok.specs.Keys.{first_fault};
 ghost use Rattle.grok.specs.Expanded.{expanded};
 ghost use Rattle.grok.specs.Walks.{finding_view};
-ghost use Rattle.grok.specs.Errors.{error_value, RegexCompilationFailed, Memory as memory};
-ghost use Rattle.grok.specs.Compiled.{IsErrorOf, IsFirstError, IsBuilt, IsRefusal, Compiles};
-ghost use Rattle.grok_match.specs.RegexFinds.{IsReadByDefault};
-ghost use Rattle.grok_match.specs.Engines.{engine_regex};
+ghost use Rattle.grok.specs.Errors.{error_value, Memory as memory};
+ghost use Rattle.grok.specs.Compiled.{IsErrorOf, IsFirstError, error_of_refusal, IsBuilt, IsRefusal, Compiles, expansion_of};
+ghost use Rattle.grok.specs.RegexFinds.{IsReadByDefault, MayRefuse};
+ghost use Rattle.grok.specs.Engines.{engine_regex};
 ghost use Rattle.regex.specs.Strings.{regex_source, regex_names};
 
 use crate::Pattern;
 use crate::defs::Grok;
+use crate::engine::regex_engine::RegexEngine;
+use crate::engine::{Engine, Refusal};
 use crate::errors::Error;
-use crate::expand::given::Given;
+use crate::expand::key_assigner::KeyAssigner;
 use crate::expand::walk::{Finding, walk};
 use crate::expand::write::write;
+use crate::key_table::KeyTable;
+use crate::matches::PatternOf;
 use crate::measure::Measure;
-use grok_match::{Engine, KeyTable, PatternOf, Refusal, RegexEngine};
 use std::alloc::{AllocError, Global};
 
 impl Finding<'_> {
@@ -41,21 +44,35 @@ impl Finding<'_> {
 
 /// The error for a text that the engine refused.
 fn refused(alloc: Global, text: &str) -> Result<Error, AllocError>
-    ensures { IfOk result (λ error. error_value error ≡ RegexCompilationFailed (codes "Regex compilation failed:\n" ++ text.now)) }
+    ensures { IfOk result (λ error. error_value error
+        ≡ error_of_refusal Refusal.Refused text.now) }
 {
     Ok(Error::RegexCompilationFailed(format!(in alloc; "Regex compilation failed:\n{text}")?))
 }
 
+impl Refusal {
+    /// The error that compiling answers where the engine doesn't build the text.
+    fn to_error(self, alloc: Global, text: &str) -> Result<Error, AllocError>
+        ensures { IfOk result (λ error. error_value error ≡ error_of_refusal self text.now) }
+    {
+        match self {
+            Refusal::Memory => Ok(Error::Memory),
+            Refusal::Refused => refused(alloc, text),
+        }
+    }
+}
+
 /// The pattern that an engine builds from the text, with these keys and extracts.
-fn build<E: Engine>(alloc: Global, text: &str, given: Given) -> Result<PatternOf<E>, Error>
+fn build<E: Engine>(alloc: Global, text: &str, given: KeyAssigner) -> Result<PatternOf<E>, Error>
     ensures { MatchResult result
-        (IsBuilt E.source_of E.group_names text.now (map string_bytes given.keys.items) (λ key. option_map string_bytes (get_by_text given.extracts key)))
-        (λ error. (error_value error ≡ memory) ⊎ IsRefusal E.may_refuse text.now (error_value error)) }
+        (IsBuilt E.source_of E.group_names text.now (map string_bytes given.keys.items)
+        (λ key. option_map string_bytes (get_by_text given.extracts key)))
+        (λ error. (error_value error ≡ memory) ⊎ IsRefusal E.may_refuse text.now
+        (error_value error)) }
 {
     let engine: E = match E::build(alloc, text) {
         Ok(engine) => engine,
-        Err(Refusal::Memory) => return Err(Error::Memory),
-        Err(Refusal::Refused) => return Err(refused(alloc, text)?),
+        Err(refusal) => return Err(refusal.to_error(alloc, text)?),
     };
     let keys = KeyTable::for_names(alloc, engine.names(), given.keys.as_slice())?;
     Ok(PatternOf::new(alloc, engine, keys, given.extracts))
@@ -65,9 +82,11 @@ impl Grok {
     /// The error of a pattern whose tree has a structural fault: that of the first one, or of a clash before it.
     fn first_error(&self, pattern: &str, with_alias_only: bool) -> Result<Error, AllocError>
         requires { first_structural (tree_of (finite.get self.now) pattern.now) ≢ None }
-        ensures { IfOk result (λ error. IsFirstError with_alias_only (tree_of (finite.get self.now) pattern.now) (error_value error)) }
+        ensures { IfOk result
+            (λ error. IsFirstError with_alias_only (tree_of (finite.get self.now) pattern.now)
+            (error_value error)) }
     {
-        match walk(self.alloc(), self, pattern, with_alias_only)? {
+        match walk(self, pattern, with_alias_only)? {
             Ok(_) => unreachable!(),
             Err(finding) => finding.to_error(self.alloc()),
         }
@@ -82,14 +101,16 @@ impl Grok {
     ) -> Result<PatternOf<E>, Error>
         requires some { pattern.now ≢ [] }
         requires clean { first_structural (tree_of (finite.get self.now) pattern.now) ≡ None }
-        requires long { length ≡ len (expanded with_alias_only (tree_of (finite.get self.now) pattern.now)) }
-        ensures { Compiles E.source_of E.group_names E.may_refuse with_alias_only pattern.now (tree_of (finite.get self.now) pattern.now) result }
+        requires long { length ≡ len (expanded with_alias_only
+            (tree_of (finite.get self.now) pattern.now)) }
+        ensures { Compiles E.source_of E.group_names E.may_refuse
+            (expansion_of self.now with_alias_only pattern.now) result }
     {
         let alloc = self.alloc();
         let text = String::with_capacity(alloc, length)?;
-        match walk(alloc, self, pattern, with_alias_only)? {
+        match walk(self, pattern, with_alias_only)? {
             Ok(given) => {
-                let text = write(alloc, self, pattern, with_alias_only, text)?;
+                let text = write(self, pattern, with_alias_only, text)?;
                 build(alloc, text.as_str(), given)
             }
             Err(finding) => Err(finding.to_error(alloc)?),
@@ -113,7 +134,8 @@ impl Grok {
         pattern: &str,
         with_alias_only: bool,
     ) -> Result<PatternOf<E>, Error>
-        ensures { Compiles E.source_of E.group_names E.may_refuse with_alias_only pattern.now (tree_of (finite.get self.now) pattern.now) result }
+        ensures { Compiles E.source_of E.group_names E.may_refuse
+            (expansion_of self.now with_alias_only pattern.now) result }
     {
         if pattern.is_empty() {
             return Err(Error::CompiledPatternIsEmpty(String::new(self.alloc())));
@@ -121,7 +143,7 @@ impl Grok {
         let found = self.measure_fully(pattern, with_alias_only)?;
         match found.measure {
             Measure::TooLong => Err(Error::Memory),
-            Measure::Fault(_) if found.has_bracket => {
+            Measure::Fault(_) if found.has_numbered_alias => {
                 Err(self.first_error(pattern, with_alias_only)?)
             }
             Measure::Fault(fault) => Err(fault.to_error(self.alloc())?),
@@ -131,7 +153,9 @@ impl Grok {
 
     /// Compiles a pattern for `regex`, with its defaults. The errors are those of `compile_with`.
     pub fn compile(&self, pattern: &str, with_alias_only: bool) -> Result<Pattern, Error>
-        ensures answer { Compiles (λ engine. regex_source (engine_regex engine)) (λ engine. regex_names (engine_regex engine)) (λ _. Unit {0}) with_alias_only pattern.now (tree_of (finite.get self.now) pattern.now) result }
+        ensures answer { Compiles (λ engine. regex_source (engine_regex engine))
+            (λ engine. regex_names (engine_regex engine)) MayRefuse
+            (expansion_of self.now with_alias_only pattern.now) result }
         ensures read { IfOk result (λ pattern. ∥ IsReadByDefault (engine_regex pattern.engine) ∥₁) }
     {
         self.compile_with::<RegexEngine>(pattern, with_alias_only)

@@ -1,14 +1,16 @@
 //! Definitions by name, and the ten that a library may begin with.
 ghost use Rattle.std.specs.Prelude.{◌≡◌, OnOk, OnErr, IfOk, map, option_copied};
 ghost use Rattle.std.specs.FinMap as finite;
-ghost use Rattle.grok_match.specs.Maps.{set_all, pair_texts};
-ghost use Rattle.grok.specs.Ten.{ten};
+ghost use Rattle.grok.specs.Maps.{set_all, pair_texts};
+ghost use Rattle.grok.specs.DefaultDefinitions.{default_definitions};
 
+pub(crate) mod definition;
+pub(crate) mod items;
 pub(crate) mod pieces;
 mod spans;
-pub(crate) mod stored;
 
-use crate::defs::stored::Stored;
+use crate::debug_map::write_map;
+use crate::defs::definition::Definition;
 use std::alloc::{AllocError, Global};
 use std::collections::BTreeMap;
 use std::fmt;
@@ -36,7 +38,7 @@ const PATTERNS: [(&str, &str); 10] = [
 
 /// The ten names with their definitions that [`Grok::with_default_patterns`] sets, in this order.
 pub fn patterns() -> &'static [(&'static str, &'static str)]
-    ensures { map pair_texts result.now ≡ ten }
+    ensures { map pair_texts result.now ≡ default_definitions }
 {
     &PATTERNS
 }
@@ -48,18 +50,18 @@ pub fn patterns() -> &'static [(&'static str, &'static str)]
 #[derive(Drop)]
 pub struct Grok {
     alloc: Global,
-    stored: BTreeMap<String, Stored>,
+    definitions: BTreeMap<String, Definition>,
 }
 
 // Contracts see a finite map from names to texts.
 impl Model for Grok {
-    ghost use Rattle.grok_match.specs.Maps.{Texts, texts_code, texts_of};
+    ghost use Rattle.grok.specs.Maps.{Texts, texts_code, texts_of};
 
     ghost Value = { Texts };
 
     ghost coded = { texts_code };
 
-    ghost view = { λ g. texts_of g.stored.entries };
+    ghost view = { λ g. texts_of g.definitions.entries };
 }
 
 impl Grok {
@@ -69,20 +71,20 @@ impl Grok {
     {
         Grok {
             alloc,
-            stored: BTreeMap::new(alloc),
+            definitions: BTreeMap::new(alloc),
         }
     }
 
     /// A library of the ten definitions of [`patterns`]. The only error is want of memory.
     pub fn with_default_patterns(alloc: Global) -> Result<Grok, AllocError>
-        ensures { IfOk result (λ grok. grok ≡ set_all finite.empty ten) }
+        ensures { IfOk result (λ grok. grok ≡ set_all finite.empty default_definitions) }
     {
         Grok::from_iter(alloc, patterns())
     }
 
     /// A library of the ten definitions of [`patterns`], as [`Grok::with_default_patterns`] makes it.
     pub fn default(alloc: Global) -> Result<Grok, AllocError>
-        ensures { IfOk result (λ grok. grok ≡ set_all finite.empty ten) }
+        ensures { IfOk result (λ grok. grok ≡ set_all finite.empty default_definitions) }
     {
         Grok::with_default_patterns(alloc)
     }
@@ -103,22 +105,27 @@ impl Grok {
     pub fn clone(&self) -> Result<Grok, AllocError>
         ensures { IfOk result (λ grok. grok ≡ self.now) }
     {
-        let stored = self.stored.clone()?;
+        let definitions = self.definitions.clone()?;
         Ok(Grok {
             alloc: self.alloc,
-            stored,
+            definitions,
         })
     }
 
     /// Sets the definition of a name, in place of an earlier one, and leaves every other name as it
     /// was. The only error is want of memory, and then no definition has changed.
+    ///
+    /// A definition is a regular expression with placeholders of its own, as `%{name}`,
+    /// `%{name:alias}`, `%{name:alias:extract}` or `%{name=definition}`. It may name what is set later,
+    /// and is looked at only where a pattern reaches it. A name that a placeholder can spell has ASCII
+    /// letters, ASCII digits and `_`.
     pub fn add_pattern(&mut self, name: &str, pattern: &str) -> Result<(), AllocError>
         ensures ok { OnOk result (self.new ≡ finite.insert self.old name.now pattern.now) }
         ensures err { OnErr result (self.new ≡ self.old) }
     {
         let key = String::from_str(self.alloc, name)?;
-        let stored = Stored::new(self.alloc, pattern)?;
-        self.stored.insert(key, stored)?;
+        let definition = Definition::new(self.alloc, pattern)?;
+        self.definitions.insert(key, definition)?;
         Ok(())
     }
 
@@ -128,21 +135,23 @@ impl Grok {
     }
 
     /// The definition of a name with its pieces, if there is one.
-    pub(crate) fn stored(&self, name: &str) -> Option<&Stored>
+    pub(crate) fn definition(&self, name: &str) -> Option<&Definition>
         ensures { option_copied result ≡ finite.get self.now name.now }
     {
-        self.stored.get(name)
+        self.definitions.get(name)
     }
 }
 
 /// The definitions by name, in the byte order of the names.
 impl fmt::Debug for Grok {
-    ghost use Rattle.std.specs.Prelude.{None};
+    ghost use Rattle.std.specs.Prelude.{codes, Some};
+    ghost use Rattle.std.specs.Fmt.{◌++?◌};
+    ghost use Rattle.grok.specs.Debugs.{debug_texts};
 
-    ghost debug_output = { λ _. None };
+    ghost debug_output = { λ grok. Some (codes "Grok ") ++? debug_texts grok };
 
     fn fmt<W: fmt::Write>(&self, f: &mut fmt::Formatter<W>) -> fmt::Result {
-        let stored = &self.stored;
-        write!(f, "Grok {stored:?}")
+        f.write_str("Grok ")?;
+        write_map(f, &self.definitions)
     }
 }

@@ -1,5 +1,7 @@
 //! The expansion of a pattern: its keys, its extracts and its text, or the first fault.
 
-pub(crate) mod given;
+pub(crate) mod events;
+pub(crate) mod key_assigner;
+pub(crate) mod numbered;
 pub(crate) mod walk;
 pub(crate) mod write;

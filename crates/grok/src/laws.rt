@@ -2,14 +2,15 @@
 //! is what is proved.
 ghost use Rattle.std.specs.Prelude.{◌≡◌, ◌≢◌, ◌++◌, List, ℕ, ◌∷◌, Some, None};
 ghost use Rattle.std.specs.FinMap as finite;
-ghost use Rattle.grok_match.specs.Maps.{Texts, set_all};
+ghost use Rattle.grok.specs.Maps.{Texts, set_all};
 ghost use Rattle.grok.specs.Named.{NoneNames};
 
+pub mod answers;
 pub mod keys;
+mod splitting;
 pub mod tree;
 
-pub use grok_match::laws as answers;
-pub use grok_parser::laws::pieces;
+pub use splitting::pieces;
 
 /// Laws of the definitions of a library.
 ///
@@ -17,9 +18,15 @@ pub use grok_parser::laws::pieces;
 /// other name as it was. Of the pairs that are set one after another, the last one of a name counts.
 #[tactic(auto, using(crate::proofs::Sets::sets))]
 pub fn definitions()
-    ensures none { (name : List ℕ) → finite.get (let texts : Texts = finite.empty in texts) name ≡ None }
-    ensures set { (texts : Texts) (name text : List ℕ) → finite.get (finite.insert texts name text) name ≡ Some text }
-    ensures kept { (texts : Texts) (name text other : List ℕ) → other ≢ name → finite.get (finite.insert texts name text) other ≡ finite.get texts other }
-    ensures last { (texts : Texts) (before after : List (List ℕ × List ℕ)) (name text : List ℕ) → NoneNames after name → finite.get (set_all texts (before ++ (name, text) ∷ after)) name ≡ Some text }
-    ensures others { (texts : Texts) (pairs : List (List ℕ × List ℕ)) (name : List ℕ) → NoneNames pairs name → finite.get (set_all texts pairs) name ≡ finite.get texts name }
+    ensures none { (name : List ℕ) → finite.get (let texts : Texts = finite.empty in texts) name
+        ≡ None }
+    ensures set { (texts : Texts) (name text : List ℕ) → finite.get
+        (finite.insert texts name text) name ≡ Some text }
+    ensures kept { (texts : Texts) (name text other : List ℕ) → other ≢ name
+        → finite.get (finite.insert texts name text) other ≡ finite.get texts other }
+    ensures last { (texts : Texts) (before after : List (List ℕ × List ℕ)) (name text : List ℕ)
+        → NoneNames after name → finite.get (set_all texts (before ++ (name, text) ∷ after)) name
+        ≡ Some text }
+    ensures others { (texts : Texts) (pairs : List (List ℕ × List ℕ)) (name : List ℕ)
+        → NoneNames pairs name → finite.get (set_all texts pairs) name ≡ finite.get texts name }
 {}

@@ -1,17 +1,19 @@
 //! The size of what a pattern stands for, without expanding it.
-ghost use Rattle.std.specs.Prelude.{◌≡◌, ℕ, ◌+◌, ◌<◌, ◌≤◌, ◌^◌, max, [], ◌∷◌, Option, Result, option_map, OnOk, IfOk, IfSome, MatchOption, None as nothing};
+ghost use Rattle.std.specs.Prelude.{◌≡◌, ℕ, ◌+◌, ◌<◌, ◌≤◌, ◌^◌, max, false, [], ◌∷◌, Option, Result, OnOk, IfOk, IfErr, IfSome, MatchOption, map, length};
 ghost use Rattle.grok.specs.Tree.{Fault as ItemFault, reached};
-ghost use Rattle.grok.specs.Keys.{ends_in_bracket, has_bracket};
+ghost use Rattle.grok.specs.Keys.{has_numbered_alias};
 ghost use Rattle.grok.specs.Sizes.{Size, plus, bracketed as bracket, wrapped, length_of, places_from, size_of_bytes};
-ghost use Rattle.grok.specs.Remembered.{State, Answer, inlined, labelled, with_mark, by_mark, nothing_met, visit as visited, look_within, item_within};
-ghost use Rattle.grok.specs.Measured.{tree_of, HasNoFault, measured_tree, size_within, counted, reached_pieces, reached_texts};
-ghost use Rattle.grok.specs.Met.{items_in, fit, shown, shown_result, result_view, mark_of, measured_size, measure_view, Shows, Gives, Knows};
-ghost use Rattle.grok.specs.Items.{label_view, item_view};
+ghost use Rattle.grok.specs.Remembered.{Mark as Known, State, Reading, inlined, labelled, with_mark, failed_mark, by_mark, nothing_met, look_within, item_within, opened_within, deeper};
+ghost use Rattle.grok.specs.Measured.{tree_of, IsClean, measured_tree, size_within, counted, reached_pieces, reached_texts};
+ghost use Rattle.grok.specs.Met.{items_in, reading_of, fit, shown, shown_result, result_view, shown_mark, mark_view, mark_of, is_kept, measured_size, measure_view, Shows, Gives, Knows, IsUnknown, HasReach, Wraps, IsMarked, IsMet, IsOpened, MatchEntry, IfMeasured, unwound, AreLow, Stops, IsTrue, IsShownTrue};
+ghost use Rattle.grok.specs.Items.{fault_view, label_view, item_view};
 
 use crate::defs::Grok;
-use crate::defs::stored::Stored;
-use crate::items::{Item, Items, Label, Meaning};
-use crate::structural::{Fault, LEVELS};
+use crate::defs::definition::Definition;
+use crate::defs::items::{Item, Items, Label, Meaning};
+use crate::errors::fault::{Fault, LEVELS};
+use crate::expand::numbered::ends_in_number;
+use crate::generated_name::{NAMED_BYTES, UNNAMED_BYTES};
 use std::alloc::{AllocError, Global};
 use std::collections::BTreeMap;
 
@@ -44,8 +46,8 @@ pub struct Looks {
 pub(crate) struct Findings<'a> {
     pub measure: Measure<'a>,
     pub looks: Looks,
-    /// Whether an alias that ends in `]` is reached.
-    pub has_bracket: bool,
+    /// Whether an alias that ends in a number in brackets is reached.
+    pub has_numbered_alias: bool,
 }
 
 /// The bytes without the numbers of groups, the groups, and how deep the opens go. A sum past the
@@ -57,12 +59,52 @@ struct Sum {
     height: usize,
 }
 
-/// What was met: of each name that it is open, or its sum.
+/// A fault, and how deep the opens go up to it.
+#[derive(Clone, Copy)]
+struct Failure<'a> {
+    fault: Fault<'a>,
+    height: usize,
+}
+
+/// What is known of a name that was met.
+#[derive(Clone, Copy)]
+enum Mark<'a> {
+    /// Its text is being read.
+    Begun,
+    /// Its text has this sum.
+    Done(Sum),
+    /// Its text has this fault.
+    Failed(Failure<'a>),
+    /// Its text is too deep where so many levels may be opened, or fewer.
+    Deep(usize),
+}
+
+/// What was met.
 #[derive(Drop)]
 struct Met<'a> {
-    marks: BTreeMap<&'a str, Option<Sum>>,
+    marks: BTreeMap<&'a str, Mark<'a>>,
     looks: Looks,
-    has_bracket: bool,
+    has_numbered_alias: bool,
+}
+
+/// A text that opened another one, which is read first.
+#[derive(Drop)]
+struct Frame<'a> {
+    /// What was opened.
+    label: Label<'a>,
+    /// The items behind it.
+    items: Items<'a>,
+    /// The sum of the items before it.
+    sum: Sum,
+}
+
+/// What an item comes to.
+#[derive(Drop)]
+enum Entry<'a> {
+    /// Its sum, or its fault.
+    Measured(Result<Sum, Failure<'a>>),
+    /// It opens a text that wasn't met before.
+    Text(Label<'a>, Items<'a>),
 }
 
 /// The definitions, and whether placeholders without an alias are left unrecorded.
@@ -107,13 +149,6 @@ fn sum_of_bytes(text: &str) -> Sum
     }
 }
 
-/// Whether the alias ends in `]`.
-fn ends_in_bracket(alias: &str) -> bool
-    ensures { result ≡ ends_in_bracket alias.now }
-{
-    alias.ends_with(']')
-}
-
 /// The brackets of an open around what is inside.
 fn bracketed(label: Label<'_>, with_alias_only: bool, inner: Sum) -> Sum
     requires { inner.height < 2 ^ 32 }
@@ -121,11 +156,11 @@ fn bracketed(label: Label<'_>, with_alias_only: bool, inner: Sum) -> Sum
     ensures brackets { (z : Size) → inner ≡ shown z →
         result ≡ shown (bracket with_alias_only (label_view label.entry) z) }
 {
-    // The brackets are `(?<_n_`, the number, `>` and `)`, or `(?:` and `)`. Numbers are counted apart.
+    // Numbers are counted apart.
     let (bytes, groups) = if label.is_recorded(with_alias_only) {
-        (8, 1)
+        (NAMED_BYTES, 1)
     } else {
-        (4, 0)
+        (UNNAMED_BYTES, 0)
     };
     Sum {
         bytes: add_fit(Some(bytes), inner.bytes),
@@ -176,13 +211,13 @@ fn measure_of_sum<'a>(sum: Sum) -> Measure<'a>
 }
 
 /// The answer for a pattern of this sum, or with this fault.
-fn measure_of<'a>(answer: Result<Sum, Fault<'a>>) -> Measure<'a>
+fn measure_of<'a>(answer: Result<Sum, Failure<'a>>) -> Measure<'a>
     ensures { (r : Result Size ItemFault) → result_view answer.entry ≡ shown_result r →
         measure_view result ≡ measured_size r }
 {
     match answer {
         Ok(sum) => measure_of_sum(sum),
-        Err(fault) => Measure::Fault(fault),
+        Err(failure) => Measure::Fault(failure.fault),
     }
 }
 
@@ -192,7 +227,11 @@ fn look<'a>(items: &mut Items<'a>, looks: &mut Looks) -> Result<Option<Item<'a>>
         ((items.old ≡ [])
         × (looks.new ≡ record { pieces = looks.old.pieces; ends = counted (looks.old.ends + 1) }))
         (λ item. (items.old ≡ item_view item ∷ items.new)
-        × (looks.new ≡ record { pieces = counted (looks.old.pieces + 1); ends = looks.old.ends }))) }
+        × (looks.new ≡ record {
+          pieces = counted
+              (looks.old.pieces + 1);
+          ends = looks.old.ends;
+        }))) }
 {
     let found = items.next()?;
     match found {
@@ -203,31 +242,61 @@ fn look<'a>(items: &mut Items<'a>, looks: &mut Looks) -> Result<Option<Item<'a>>
 }
 
 /// The sum of a definition that is written in the text: no placeholder stands in it.
-fn measure_inline<'a>(text: &'a str, levels: usize) -> Result<Sum, Fault<'a>>
+fn measure_inline<'a>(text: &'a str, levels: usize) -> Result<Sum, Failure<'a>>
     ensures gives { result_view result ≡ shown_result (inlined levels text.now) }
     ensures low { IfOk result (λ sum. sum.height < levels) }
+    ensures reach { IfErr result (λ failure. failure.height ≡ 0) }
 {
     if levels == 0 {
-        return Err(Fault::TooDeep);
+        return Err(too_deep());
     }
     Ok(sum_of_bytes(text))
+}
+
+/// No level is left.
+fn too_deep<'a>() -> Failure<'a>
+    ensures fault { result.fault ≡ Fault.TooDeep }
+    ensures reach { result.height ≡ 0 }
+{
+    Failure {
+        fault: Fault::TooDeep,
+        height: 0,
+    }
+}
+
+/// What is known of a text that was read where so many levels may be opened, and has this fault.
+fn mark_of_failure<'a>(failure: Failure<'a>, levels: usize) -> Mark<'a>
+    ensures { mark_view result ≡ failed_mark
+        (fault_view failure.entry.fault) levels failure.entry.height }
+{
+    match failure.fault {
+        Fault::TooDeep => Mark::Deep(levels),
+        Fault::Malformed(_) | Fault::Missing(_) => Mark::Failed(failure),
+    }
 }
 
 /// The sum of an opened text with the brackets of its open.
 fn wrap<'a>(
     mode: Mode<'a>,
     label: Label<'a>,
-    inner: Result<Sum, Fault<'a>>,
-) -> Result<Sum, Fault<'a>>
-    requires { IfOk inner (λ sum. sum.height < 2 ^ 32) }
-    ensures gives { (r : Result Size ItemFault) → result_view inner.entry ≡ shown_result r →
-        result_view result ≡ shown_result (wrapped mode.entry.with_alias_only (label_view label.entry) r) }
+    inner: Result<Sum, Failure<'a>>,
+) -> Result<Sum, Failure<'a>>
+    requires low { IfOk inner (λ sum. sum.height < 2 ^ 32) }
+    requires reach { IfErr inner (λ failure. failure.height < 2 ^ 32) }
+    ensures gives { (st : State) (r : Result Size ItemFault) → result_view inner.entry
+        ≡ shown_result r → HasReach inner.entry st →
+        Wraps result (wrapped mode.entry.with_alias_only (label_view label.entry) r) (deeper st) }
     ensures low { (most : ℕ) → IfOk inner.entry (λ sum. sum.height < most) →
         IfOk result (λ sum. sum.height ≤ most) }
+    ensures reach { (most : ℕ) → IfErr inner.entry (λ failure. failure.height ≤ most) →
+        IfErr result (λ failure. failure.height ≤ most + 1) }
 {
     match inner {
         Ok(sum) => Ok(bracketed(label, mode.with_alias_only, sum)),
-        Err(fault) => Err(fault),
+        Err(failure) => Err(Failure {
+            fault: failure.fault,
+            height: failure.height + 1,
+        }),
     }
 }
 
@@ -240,144 +309,260 @@ impl<'a> Met<'a> {
         Met {
             marks: BTreeMap::new(alloc),
             looks: Looks { pieces: 0, ends: 0 },
-            has_bracket: false,
+            has_numbered_alias: false,
         }
     }
 
-    /// The answer for a name that was met, where so many levels may be opened; nothing for one that
-    /// was not.
-    fn known(&self, name: &'a str, levels: usize) -> Option<Result<Sum, Fault<'a>>>
-        ensures known { MatchOption result (mark_of self.now.marks name.now ≡ nothing) (λ r. (st : State) → Shows self.now st →
-            (fresh : Answer) → Knows r st (by_mark (st.marks name.now) levels st fresh)) }
+    /// What is known of a name where so many levels may be opened; nothing where its text has to be
+    /// read.
+    fn known(&self, name: &'a str, levels: usize) -> Option<Result<Sum, Failure<'a>>>
+        ensures known { MatchOption result ((is_kept (mark_of self.now.marks name.now) ≡ false)
+            × IsUnknown name.now levels self.now)
+            (λ r. (st : State) → Shows self.now st → (fresh : Reading)
+            → Knows r st (by_mark (st.marks name.now) levels st fresh)) }
         ensures low { IfSome result (λ r. IfOk r (λ sum. sum.height < levels)) }
+        ensures reach { IfSome result (λ r. IfErr r (λ failure. failure.height ≤ levels)) }
     {
         match self.marks.get(&name).copied() {
             None => None,
-            Some(Some(sum)) if sum.height < levels => Some(Ok(sum)),
-            // It is open, which is a circle, or too high for the levels that are left.
-            Some(_) => Some(Err(Fault::TooDeep)),
+            Some(Mark::Deep(most)) if most < levels => None,
+            Some(Mark::Done(sum)) if sum.height < levels => Some(Ok(sum)),
+            Some(Mark::Failed(failure)) if failure.height < levels => Some(Err(failure)),
+            // It has begun, which is a circle, or there are too few levels for it.
+            Some(_) => Some(Err(too_deep())),
         }
     }
 
-    /// Marks a name as open, or with its sum.
-    fn mark(&mut self, name: &'a str, mark: Option<Sum>) -> Result<(), AllocError>
-        ensures { OnOk result ((st : State) (size : Option Size) →
-            mark ≡ option_map shown size → Shows self.old st → Shows self.new (with_mark st name.now size)) }
+    /// Marks a name.
+    fn mark(&mut self, name: &'a str, mark: Mark<'a>) -> Result<(), AllocError>
+        ensures shows { OnOk result ((st : State) (known : Known Size) →
+            mark_view mark.entry ≡ shown_mark known → Shows self.old st
+            → Shows self.new (with_mark st name.now known)) }
+        ensures marks { OnOk result (IsMarked name.now mark.entry self.old self.new) }
     {
         self.marks.insert(name, mark)?;
         Ok(())
     }
 
-    /// Keeps in mind whether the alias ends in `]`.
+    /// Keeps in mind whether the alias ends in a number in brackets.
     fn label(&mut self, label: Label<'a>)
-        ensures { (st : State) → Shows self.old st → Shows self.new (labelled (label_view label.entry) st) }
+        ensures shows { (st : State) → Shows self.old st
+            → Shows self.new (labelled (label_view label.entry) st) }
+        ensures marks { self.new.marks ≡ self.old.marks }
     {
-        self.has_bracket = ends_in_bracket(label.alias) || self.has_bracket;
+        self.has_numbered_alias = ends_in_number(label.alias) || self.has_numbered_alias;
     }
 }
 
-/// The sum of the text of a name, or its first fault, where so many levels may be opened, itself
-/// among them.
-#[cycle(measure)]
-fn visit<'a>(
+/// What opening the text of a name comes to, where so many levels may be opened, itself among them.
+fn enter_stored<'a>(
     mode: Mode<'a>,
     met: &mut Met<'a>,
-    name: &'a str,
-    stored: &'a Stored,
+    label: Label<'a>,
+    stored: &'a Definition,
     levels: usize,
-) -> Result<Result<Sum, Fault<'a>>, AllocError>
+) -> Result<Entry<'a>, AllocError>
     requires { levels < 2 ^ 31 }
-    ensures gives { IfOk result (λ r. (st : State) → Shows met.old st →
-        Gives r met.new (visited mode.entry.with_alias_only (items_in mode.entry.grok.now) levels name.now stored.now st)) }
-    ensures low { IfOk result (λ r. IfOk r (λ sum. sum.height < levels)) }
+    ensures gives { IfOk result (λ entry. MatchEntry entry
+        (λ r. (st : State) → Shows met.old st → Gives r met.new
+        (opened_within mode.entry.with_alias_only (items_in mode.entry.grok.now) levels
+        (label_view label.entry) stored.now st))
+        (λ opened items. (opened ≡ label.entry) × (items ≡ items_in mode.entry.grok.now stored.now)
+        × (0 < levels)
+        × IsMet label.entry.name.now levels met.old met.new)) }
+    ensures marks { IfOk result (λ entry. IfMeasured entry (λ r. met.new.marks ≡ met.old.marks)) }
+    ensures low { IfOk result
+        (λ entry. IfMeasured entry (λ r. IfOk r (λ sum. sum.height ≤ levels))) }
+    ensures reach { IfOk result
+        (λ entry. IfMeasured entry (λ r. IfErr r (λ failure. failure.height ≤ levels + 1))) }
 {
     if levels == 0 {
-        return Ok(Err(Fault::TooDeep));
+        return Ok(Entry::Measured(wrap(mode, label, Err(too_deep()))));
     }
-    if let Some(known) = met.known(name, levels) {
-        return Ok(known);
+    if let Some(known) = met.known(label.name, levels) {
+        return Ok(Entry::Measured(wrap(mode, label, known)));
     }
-    met.mark(name, None)?;
+    met.mark(label.name, Mark::Begun)?;
     let items = Items::of_stored(mode.alloc, mode.grok, stored);
-    match measure_items(mode, met, items, levels - 1)? {
-        Ok(sum) => {
-            met.mark(name, Some(sum))?;
-            Ok(Ok(sum))
-        }
-        Err(fault) => Ok(Err(fault)),
-    }
+    Ok(Entry::Text(label, items))
 }
 
-/// The sum of an item that was taken, or its first fault.
-#[cycle(measure)]
-fn measure_item<'a>(
+/// What an item comes to that was taken, where so many levels may be opened.
+fn enter<'a>(
     mode: Mode<'a>,
     met: &mut Met<'a>,
     item: Item<'a>,
     levels: usize,
-) -> Result<Result<Sum, Fault<'a>>, AllocError>
+) -> Result<Entry<'a>, AllocError>
     requires { levels < 2 ^ 31 }
-    ensures gives { IfOk result (λ r. (st : State) → Shows met.old st →
-        Gives r met.new (item_within mode.entry.with_alias_only (items_in mode.entry.grok.now) levels (item_view item.entry) st)) }
-    ensures low { IfOk result (λ r. IfOk r (λ sum. sum.height ≤ levels)) }
+    ensures gives { IfOk result (λ entry. MatchEntry entry
+        (λ r. (st : State) → Shows met.old st → Gives r met.new
+        (item_within mode.entry.with_alias_only (items_in mode.entry.grok.now) levels
+        (item_view item.entry) st))
+        (λ label items. IsOpened (items_in mode.entry.grok.now) levels
+        (item_view item.entry) label items met.old met.new)) }
+    ensures marks { IfOk result (λ entry. IfMeasured entry (λ r. met.new.marks ≡ met.old.marks)) }
+    ensures low { IfOk result
+        (λ entry. IfMeasured entry (λ r. IfOk r (λ sum. sum.height ≤ levels))) }
+    ensures reach { IfOk result
+        (λ entry. IfMeasured entry (λ r. IfErr r (λ failure. failure.height ≤ levels + 1))) }
 {
     match item {
-        Item::Bytes(text) => Ok(Ok(sum_of_bytes(text))),
-        Item::Broken(fault) => Ok(Err(fault)),
-        Item::Opening(label, meaning) => {
+        Item::Text(text) => Ok(Entry::Measured(Ok(sum_of_bytes(text)))),
+        Item::Fault(fault) => Ok(Entry::Measured(Err(Failure { fault, height: 0 }))),
+        Item::Placeholder(label, meaning) => {
             met.label(label);
-            let inner = match meaning {
-                Meaning::Inline(text) => measure_inline(text, levels),
-                Meaning::Stored(stored) => visit(mode, met, label.name, stored, levels)?,
-            };
-            Ok(wrap(mode, label, inner))
+            match meaning {
+                Meaning::Inline(text) => {
+                    let inner = measure_inline(text, levels);
+                    Ok(Entry::Measured(wrap(mode, label, inner)))
+                }
+                Meaning::Stored(stored) => {
+                    let entry = enter_stored(mode, met, label, stored, levels)?;
+                    Ok(entry)
+                }
+            }
         }
     }
 }
 
-/// The sum of the items of a text, or its first fault, where so many levels may be opened in it.
-#[cycle(measure)]
-fn measure_items<'a>(
+/// The sum of a text, or its first fault, where so many levels may be opened in it. A text that is
+/// opened is read first, while a frame keeps what is left of the one around it. Where there is a
+/// fault, the frames that wait are left.
+fn measure_text<'a>(
     mode: Mode<'a>,
     met: &mut Met<'a>,
-    mut items: Items<'a>,
+    frames: &mut Vec<Frame<'a>>,
+    text: &'a str,
     levels: usize,
-) -> Result<Result<Sum, Fault<'a>>, AllocError>
-    requires { levels < 2 ^ 31 }
-    ensures gives { IfOk result (λ r. (st : State) → Shows met.old st →
-        Gives r met.new (look_within mode.entry.with_alias_only (items_in mode.entry.grok.now) levels items.entry st)) }
-    ensures low { IfOk result (λ r. IfOk r (λ sum. sum.height ≤ levels)) }
+) -> Result<Result<Sum, Failure<'a>>, AllocError>
+    requires few { levels < 2 ^ 31 }
+    requires none { frames.old.items ≡ [] }
+    ensures stops { IfOk result (λ r. (st : State) → Shows met.old st →
+        Stops levels r frames.new.items met.new (look_within mode.entry.with_alias_only
+        (items_in mode.entry.grok.now) levels
+        (items_in mode.entry.grok.now text.now) st)) }
+    ensures ended { IfOk result (λ r. IfOk r (λ sum. frames.new.items ≡ [])) }
+    ensures reach { IfOk result (λ r. IfErr r (λ failure. failure.height ≤ levels + 1)) }
+    ensures low { IfOk result (λ r. AreLow levels frames.new.items) }
+    ensures few { IfOk result (λ r. length frames.new.items ≤ levels) }
 {
+    let mut items = Items::of_text(mode.alloc, mode.grok, text);
     let mut sum = sum_of_bytes("");
-    'items: while let Some(item) = look(&mut items, &mut met.looks)? {
-        match measure_item(mode, met, item, levels)? {
-            Ok(one) => sum = add(sum, one),
-            Err(fault) => return Ok(Err(fault)),
+    'items: loop {
+        match look(&mut items, &mut met.looks)? {
+            Some(item) => match enter(mode, met, item, levels - frames.len())? {
+                Entry::Measured(Ok(one)) => sum = add(sum, one),
+                Entry::Measured(Err(failure)) => return Ok(Err(behind(sum, failure))),
+                Entry::Text(label, inner) => {
+                    frames.push(Frame { label, items, sum })?;
+                    items = inner;
+                    sum = sum_of_bytes("");
+                }
+            },
+            None => match frames.pop() {
+                None => return Ok(Ok(sum)),
+                Some(frame) => {
+                    met.mark(frame.label.name, Mark::Done(sum))?;
+                    let inner = bracketed(frame.label, mode.with_alias_only, sum);
+                    sum = add(frame.sum, inner);
+                    items = frame.items;
+                }
+            },
         }
     }
-    Ok(Ok(sum))
+}
+
+/// A fault that stands behind what has this sum.
+fn behind<'a>(sum: Sum, failure: Failure<'a>) -> Failure<'a>
+    ensures fault { result.fault ≡ failure.entry.fault }
+    ensures reach { result.height ≡ max sum.height failure.entry.height }
+{
+    Failure {
+        fault: failure.fault,
+        height: sum.height.max(failure.height),
+    }
+}
+
+/// Takes all frames away, and remembers the fault for each of the names that they wait for.
+fn remember<'a>(
+    met: &mut Met<'a>,
+    frames: &mut Vec<Frame<'a>>,
+    levels: usize,
+    mut failure: Failure<'a>,
+) -> Result<(), AllocError>
+    requires levels { levels < 2 ^ 31 }
+    requires few { length frames.old.items ≤ levels }
+    requires low { AreLow levels frames.old.items }
+    requires reach { failure.height ≤ levels + 1 }
+    ensures remembers { OnOk result ((st : State) → Shows met.old st → st.reach
+        ≡ failure.entry.height →
+        Shows met.new (unwound levels frames.old.items (fault_view failure.entry.fault) st)) }
+    ensures none { OnOk result (frames.new.items ≡ []) }
+{
+    'frames: while let Some(frame) = frames.pop() {
+        let mark = mark_of_failure(failure, levels - frames.len());
+        met.mark(frame.label.name, mark)?;
+        failure.height += 1;
+        failure = behind(frame.sum, failure);
+    }
+    Ok(())
+}
+
+/// The measure of a pattern, where some texts were measured before.
+fn measure_next<'a>(
+    mode: Mode<'a>,
+    met: &mut Met<'a>,
+    frames: &mut Vec<Frame<'a>>,
+    pattern: &'a str,
+) -> Result<Measure<'a>, AllocError>
+    requires { frames.old.items ≡ [] }
+    ensures answer { IfOk result
+        (λ measure. (st : State) → Shows met.old st
+        → IsTrue mode.entry.grok.now mode.entry.with_alias_only st →
+        measure_view measure ≡ measured_tree mode.entry.with_alias_only
+        (tree_of mode.entry.grok.now pattern.now)) }
+    ensures keeps { IfOk result
+        (λ measure. IsShownTrue mode.entry.grok.now mode.entry.with_alias_only met.old →
+        IsShownTrue mode.entry.grok.now mode.entry.with_alias_only met.new) }
+    ensures none { IfOk result (λ measure. frames.new.items ≡ []) }
+{
+    let answer = measure_text(mode, met, frames, pattern, LEVELS)?;
+    match answer {
+        Ok(sum) => Ok(measure_of_sum(sum)),
+        Err(failure) => {
+            remember(met, frames, LEVELS, failure)?;
+            Ok(Measure::Fault(failure.fault))
+        }
+    }
 }
 
 impl Grok {
-    /// Measures a pattern, and finds out how much was read for it and whether an alias that ends in
-    /// `]` is reached.
+    /// Measures a pattern, and finds out how much was read for it and whether an alias that ends in a
+    /// number in brackets is reached.
     pub(crate) fn measure_fully<'a>(
         &'a self,
         pattern: &'a str,
         with_alias_only: bool,
     ) -> Result<Findings<'a>, AllocError>
         ensures answer { IfOk result (λ found.
-            measure_view found.measure ≡ measured_tree with_alias_only (tree_of self.now pattern.now)) }
+            measure_view found.measure ≡ measured_tree with_alias_only
+            (tree_of self.now pattern.now)) }
         ensures pieces { IfOk result (λ found.
             found.looks.pieces ≤ counted (reached_pieces self.now pattern.now)) }
         ensures ends { IfOk result (λ found.
             found.looks.ends ≤ counted (reached_texts self.now pattern.now)) }
-        ensures all_pieces { IfOk result (λ found. HasNoFault (tree_of self.now pattern.now) →
+        ensures all_pieces { IfOk result (λ found. IsClean (tree_of self.now pattern.now) →
             found.looks.pieces ≡ counted (reached_pieces self.now pattern.now)) }
-        ensures all_ends { IfOk result (λ found. HasNoFault (tree_of self.now pattern.now) →
+        ensures all_ends { IfOk result (λ found. IsClean (tree_of self.now pattern.now) →
             found.looks.ends ≡ counted (reached_texts self.now pattern.now)) }
-        ensures bracket { IfOk result (λ found.
-            found.has_bracket ≡ has_bracket (reached (tree_of self.now pattern.now))) }
+        ensures read_pieces { IfOk result (λ found.
+            found.looks.pieces ≡ counted (reading_of self.now with_alias_only pattern.now).looks) }
+        ensures read_ends { IfOk result (λ found.
+            found.looks.ends ≡ counted (reading_of self.now with_alias_only pattern.now).ends) }
+        ensures numbered_alias { IfOk result (λ found.
+            found.has_numbered_alias ≡ has_numbered_alias
+            (reached (tree_of self.now pattern.now))) }
     {
         let alloc = self.alloc();
         let mode = Mode {
@@ -386,12 +571,12 @@ impl Grok {
             with_alias_only,
         };
         let mut met = Met::new(alloc);
-        let items = Items::of_text(alloc, self, pattern);
-        let answer = measure_items(mode, &mut met, items, LEVELS)?;
+        let mut frames = Vec::new(alloc);
+        let answer = measure_text(mode, &mut met, &mut frames, pattern, LEVELS)?;
         Ok(Findings {
             measure: measure_of(answer),
             looks: met.looks,
-            has_bracket: met.has_bracket,
+            has_numbered_alias: met.has_numbered_alias,
         })
     }
 
@@ -409,10 +594,39 @@ impl Grok {
         Ok(self.measure_fully(pattern, with_alias_only)?.measure)
     }
 
+    /// Measures one pattern after another, each as [`Grok::measure`] does, and in the order in which
+    /// they are given. A stored text is read once for all of them, or again where it was too deep and
+    /// more levels are left. An error is want of memory.
+    pub fn measure_all<'a>(
+        &'a self,
+        patterns: &[&'a str],
+        with_alias_only: bool,
+    ) -> Result<Vec<Measure<'a>>, AllocError>
+        ensures { IfOk result (λ measures. map measure_view measures.items
+            ≡ map (λ pattern. measured_tree with_alias_only
+            (tree_of self.now pattern.now)) patterns.now) }
+    {
+        let alloc = self.alloc();
+        let mode = Mode {
+            grok: self,
+            alloc,
+            with_alias_only,
+        };
+        let mut met = Met::new(alloc);
+        let mut frames = Vec::new(alloc);
+        let mut measures = Vec::new(alloc);
+        'patterns: for &pattern in patterns {
+            let measure = measure_next(mode, &mut met, &mut frames, pattern)?;
+            measures.push(measure)?;
+        }
+        Ok(measures)
+    }
+
     /// The same answer, and how often a piece was taken and the end of a text was met for it: at
     /// most, and for a pattern without a fault exactly, once for each piece of the pattern and of
-    /// each stored text that is reached, and once for each of these texts. An error is want of
-    /// memory.
+    /// each stored text that is reached, and once for each of these texts. Where there is a fault
+    /// these are the pieces up to and with the one that has it, and the ends that come before it.
+    /// An error is want of memory.
     pub fn measure_counted<'a>(
         &'a self,
         pattern: &'a str,
@@ -420,12 +634,17 @@ impl Grok {
     ) -> Result<(Measure<'a>, Looks), AllocError>
         ensures answer { IfOk result (λ r.
             measure_view r.0 ≡ measured_tree with_alias_only (tree_of self.now pattern.now)) }
-        ensures pieces { IfOk result (λ r. r.1.pieces ≤ counted (reached_pieces self.now pattern.now)) }
+        ensures pieces { IfOk result
+            (λ r. r.1.pieces ≤ counted (reached_pieces self.now pattern.now)) }
         ensures ends { IfOk result (λ r. r.1.ends ≤ counted (reached_texts self.now pattern.now)) }
-        ensures all_pieces { IfOk result (λ r. HasNoFault (tree_of self.now pattern.now) →
+        ensures all_pieces { IfOk result (λ r. IsClean (tree_of self.now pattern.now) →
             r.1.pieces ≡ counted (reached_pieces self.now pattern.now)) }
-        ensures all_ends { IfOk result (λ r. HasNoFault (tree_of self.now pattern.now) →
+        ensures all_ends { IfOk result (λ r. IsClean (tree_of self.now pattern.now) →
             r.1.ends ≡ counted (reached_texts self.now pattern.now)) }
+        ensures read_pieces { IfOk result (λ r.
+            r.1.pieces ≡ counted (reading_of self.now with_alias_only pattern.now).looks) }
+        ensures read_ends { IfOk result (λ r.
+            r.1.ends ≡ counted (reading_of self.now with_alias_only pattern.now).ends) }
     {
         let found = self.measure_fully(pattern, with_alias_only)?;
         Ok((found.measure, found.looks))

@@ -1,83 +1,112 @@
-//! What compiling answers over engines that take every text, or none.
+//! What compiling each row gives over engines that take every text, or none.
 
+use crate::compiling::{check_debug, check_extracts, check_refusal};
+use crate::library::library;
+use crate::rows::{Compiled, Row, rows};
 use crate::showing::shown;
-use grok::{Engine, Grok, MatchesOf, PatternOf};
+use grok::{Engine, Error, Grok, MatchesOf, PatternOf};
 use grok_engines::{Bare, Heads, Refuser};
-use std::alloc::{AllocError, Global};
+use std::alloc::AllocError;
 use std::process::Abort;
 use std::test::Fail;
 
-/// What compiling answers over the engine: what the pattern shows, or the error.
-fn answer<E: Engine>(
-    alloc: Global,
-    grok: &Grok,
-    text: &str,
-    with_alias_only: bool,
-) -> Result<String, AllocError> {
-    match grok.compile_with::<E>(text, with_alias_only) {
-        Ok(pattern) => shown(alloc, &pattern),
-        Err(error) => format!(in alloc; "{error:?}"),
-    }
-}
-
-/// Compiling answers this over the engine.
-fn check_answer<E: Engine>(
+/// The pattern is shown by the text of the row and, where that is said, by this behind it.
+fn check_shown<E: Engine>(
     rt: &(impl Abort + AllocGlobal),
-    grok: &Grok,
-    text: &str,
-    with_alias_only: bool,
-    expected: &str,
+    row: &Row,
+    pattern: &PatternOf<E>,
+    behind: Option<&str>,
 ) -> Result<(), Fail> {
-    let given = answer::<E>(rt.alloc(), grok, text, with_alias_only)?;
-    assert_eq!(rt; given.as_str(), expected, "at {text}");
+    if let Compiled::Pattern(text, _) | Compiled::Refused(text) = row.compiled {
+        assert_eq!(rt; pattern.text(), text, "{}", row.name);
+        if let Some(behind) = behind {
+            let given = shown(rt.alloc(), pattern)?;
+            let expected = format!(in rt.alloc(); "{text}{behind}")?;
+            assert_eq!(rt; given.as_str(), expected.as_str(), "{}", row.name);
+        }
+    }
     Ok(())
 }
 
-#[test]
-fn over_heads(rt: HostRuntime) -> Result<(), Fail> {
-    let grok = Grok::from_iter(rt.alloc(), &[("A", "a"), ("E", ""), ("N", "é%{A}")])?;
-    for (text, with_alias_only, expected) in [
-        (
-            "%{A:x}%{A:y}%{A:x}",
-            false,
-            "(?<_n_0>a)(?<_n_1>a)(?<_n_2>a) x x[1] y | x=q x[1]=q 2 2",
-        ),
-        ("%{A:x}(?<x>b)", false, "(?<_n_0>a)(?<x>b) x | 0 0"),
-        ("(?<_n_0>b)%{A}", false, "(?<_n_0>b)(?<_n_0>a) A | 0 0"),
-        ("é%{A}", false, "é(?<_n_0>a) A | A=q 1 1"),
-        (
-            "(?<_n_01>b)%{A}",
-            false,
-            "(?<_n_01>b)(?<_n_0>a) A _n_01 | _n_01=q 1 1",
-        ),
-        ("%{A}", true, "(?:a) | 0 0"),
-        ("%{N}", false, "(?<_n_0>é(?<_n_1>a)) A N | N=q 1 1"),
-        ("(", false, "( | 0 0"),
-        ("", false, "CompiledPatternIsEmpty(\"\")"),
-        ("", true, "CompiledPatternIsEmpty(\"\")"),
-        ("%{E}", true, "(?:) | 0 0"),
-        ("%{E}", false, "(?<_n_0>) E | E=q 1 1"),
-        (
-            "%{A}%{A}%{A}%{A}%{A}%{A}%{A}%{A}%{A}%{A}%{A}",
-            true,
-            "(?:a)(?:a)(?:a)(?:a)(?:a)(?:a)(?:a)(?:a)(?:a)(?:a)(?:a) | 0 0",
-        ),
-        (
-            "%{A}%{A}%{A}%{A}%{A}%{A}%{A}%{A}%{A}%{A}%{A:B}",
-            false,
-            "(?<_n_0>a)(?<_n_1>a)(?<_n_2>a)(?<_n_3>a)(?<_n_4>a)(?<_n_5>a)(?<_n_6>a)(?<_n_7>a)(?<_n_8>a)(?<_n_9>a)(?<_n_10>a) \
-             A A[1] A[2] A[3] A[4] A[5] A[6] A[7] A[8] A[9] B | A=q A[2]=q A[4]=q A[6]=q A[8]=q B=q 6 6",
-        ),
-    ] {
-        check_answer::<Heads>(&rt, &grok, text, with_alias_only, expected)?;
+/// The row has this error, which is not the engine's.
+fn check_error(rt: &(impl Abort + AllocGlobal), row: &Row, error: &Error) -> Result<(), Fail> {
+    if let Compiled::Error(expected) = row.compiled {
+        check_debug(rt, row, error, expected)
+    } else {
+        assert!(rt; false, "{}: {error:?}", row.name);
+        Ok(())
+    }
+}
+
+/// Over an engine that takes every text the row has its text or its error, and its extracts.
+fn check_taken<E: Engine>(
+    rt: &(impl Abort + AllocGlobal),
+    row: &Row,
+    grok: &Grok,
+    with_alias_only: bool,
+    behind: Option<&str>,
+) -> Result<(), Fail> {
+    match grok.compile_with::<E>(row.pattern, with_alias_only) {
+        Ok(pattern) => {
+            let is_error = matches!(row.compiled, Compiled::Error(_));
+            assert!(rt; !is_error, "{}: {}", row.name, pattern.text());
+            check_extracts(rt, row, &pattern);
+            check_shown(rt, row, &pattern, behind)
+        }
+        Err(error) => check_error(rt, row, &error),
+    }
+}
+
+/// Over an engine that refuses every text the row has its error, or that of its text.
+fn check_refused(
+    rt: &(impl Abort + AllocGlobal),
+    row: &Row,
+    grok: &Grok,
+    with_alias_only: bool,
+) -> Result<(), Fail> {
+    let Err(error) = grok.compile_with::<Refuser>(row.pattern, with_alias_only) else {
+        assert!(rt; false, "{}", row.name);
+        return Ok(());
+    };
+    match row.compiled {
+        Compiled::Pattern(text, _) | Compiled::Refused(text) => {
+            check_refusal(rt, row, &error, text)
+        }
+        Compiled::Error(expected) => check_debug(rt, row, &error, expected),
+        Compiled::Keys(_) => {
+            let is_refusal = matches!(error, Error::RegexCompilationFailed(_));
+            assert!(rt; is_refusal, "{}: {error:?}", row.name);
+            Ok(())
+        }
+    }
+}
+
+/// The row holds over each engine, in each of its modes.
+fn check_row(rt: &(impl Abort + AllocGlobal), row: &Row) -> Result<(), Fail> {
+    let grok = library(rt.alloc(), row.definitions)?;
+    for with_alias_only in row.modes {
+        check_taken::<Heads>(rt, row, &grok, *with_alias_only, row.over_heads)?;
+        // Without groups a pattern has no keys, and yet its extracts.
+        check_taken::<Bare>(rt, row, &grok, *with_alias_only, Some(" | 0 0"))?;
+        check_refused(rt, row, &grok, *with_alias_only)?;
+    }
+    Ok(())
+}
+
+/// Each of these rows holds.
+fn check_rows(rt: &(impl Abort + AllocGlobal), rows: &[Row]) -> Result<(), Fail> {
+    for row in rows {
+        check_row(rt, row)?;
     }
     Ok(())
 }
 
 #[test]
-fn the_later_definition_counts(rt: HostRuntime) -> Result<(), Fail> {
-    let grok = Grok::from_iter(rt.alloc(), &[("A", "a%{B}"), ("A", "b")])?;
-    check_answer::<Heads>(&rt, &grok, "%{A}", false, "(?<_n_0>b) A | A=q 1 1")
+fn other_engines(rt: HostRuntime) -> Result<(), Fail> {
+    for part in rows() {
+        check_rows(&rt, part)?;
+    }
+    Ok(())
 }
 
 /// The first and the third group took part, and the second did not.
@@ -112,7 +141,7 @@ fn check_pattern(rt: &impl Abort, pattern: &PatternOf<Heads>) -> Result<(), Allo
 /// A matcher that is kept gives these lines those values.
 fn check_matcher(rt: &impl Abort, pattern: &PatternOf<Heads>) -> Result<(), AllocError> {
     for line in ["q", "", "other"] {
-        let mut kept = pattern.line_matcher()?;
+        let mut kept = pattern.matcher()?;
         check_found(rt, kept.match_against(line)?, line);
     }
     Ok(())
@@ -126,39 +155,5 @@ fn values_over_heads(rt: HostRuntime) -> Result<(), Fail> {
     assert_eq!(rt; pattern.get_extract("y"), Some("t"));
     check_pattern(&rt, &pattern)?;
     check_matcher(&rt, &pattern)?;
-    Ok(())
-}
-
-/// Over an engine without groups a pattern has no keys, and yet its extracts.
-fn check_bare(rt: &(impl Abort + AllocGlobal), grok: &Grok) -> Result<(), Fail> {
-    let pattern: PatternOf<Bare> = grok.compile_with("%{A:x:t}", false)?;
-    let given = shown(rt.alloc(), &pattern)?;
-    assert_eq!(rt; given.as_str(), "(?<_n_0>a) | 0 0");
-    assert_eq!(rt; pattern.get_extract("x"), Some("t"));
-    Ok(())
-}
-
-#[test]
-fn without_groups_or_refused(rt: HostRuntime) -> Result<(), Fail> {
-    let grok = Grok::from_iter(rt.alloc(), &[("A", "a")])?;
-    check_bare(&rt, &grok)?;
-    for (text, expected) in [
-        (
-            "%{A}",
-            "RegexCompilationFailed(\"Regex compilation failed:\\n(?<_n_0>a)\")",
-        ),
-        (
-            "x",
-            "RegexCompilationFailed(\"Regex compilation failed:\\nx\")",
-        ),
-        ("", "CompiledPatternIsEmpty(\"\")"),
-        ("%{A}%{nope}", "DefinitionNotFound(\"nope\")"),
-        (
-            "%{A:x[1]}%{A:x}%{A:x}",
-            "GenericCompilationFailure(\"Alias x[1] already exists\")",
-        ),
-    ] {
-        check_answer::<Refuser>(&rt, &grok, text, false, expected)?;
-    }
     Ok(())
 }

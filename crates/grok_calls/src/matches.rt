@@ -1,13 +1,24 @@
 //! Matches of the pattern `%{MAC}` over the ten definitions, and the calls on them.
 use crate::LABELS;
 use anyhow::{Result, bail};
-use grok::{Engine, Grok, LineMatcher, Matches, Pattern, PatternOf};
+use grok::{Engine, Grok, Matcher, Matches, Pattern, PatternOf};
 use grok_engines::Bare;
 use std::alloc::AllocError;
 
 const LINE: &str = "5E:FF:56:A2:AF:15";
 
 const HALF_A_LINE: &str = "5E:FF";
+
+const LINE_WITH_DOTS: &str = "5EFF.56A2.AF15";
+
+/// How many calls a pattern answers before the one in which its search makes its tables.
+const CALLS_BEFORE_TABLES: u32 = 16;
+
+/// More calls than that.
+const CALLS_WITH_TABLES: u32 = 20;
+
+/// How many lines go by before a search has all its tables.
+const WARM: usize = 100;
 
 pub(crate) fn call(rt: &HostRuntime, name: &str) -> Result<()> {
     let grok = Grok::with_default_patterns(rt.alloc())?;
@@ -18,9 +29,18 @@ pub(crate) fn call(rt: &HostRuntime, name: &str) -> Result<()> {
     match name {
         "match_against" => match_against(rt, &pattern, LINE),
         "no_match" => match_against(rt, &pattern, HALF_A_LINE),
-        "line_matcher" => line_matcher(rt, &pattern),
+        "making_tables" => match_after(rt, &pattern, CALLS_BEFORE_TABLES, LINE, LINE),
+        "with_tables" => match_after(rt, &pattern, CALLS_WITH_TABLES, LINE, LINE),
+        "growing_tables" => match_after(rt, &pattern, CALLS_WITH_TABLES, LINE, LINE_WITH_DOTS),
+        "no_match_with_tables" => {
+            match_after(rt, &pattern, CALLS_WITH_TABLES, HALF_A_LINE, HALF_A_LINE)
+        }
+        "matcher" => matcher(rt, &pattern),
         "line_matched" => match_lines(rt, &pattern, LINE),
         "line_not_matched" => match_lines(rt, &pattern, HALF_A_LINE),
+        "line_found" => find_lines(rt, &pattern, LINE, 0),
+        "line_not_found" => find_lines(rt, &pattern, HALF_A_LINE, 0),
+        "warm_line_found" => find_lines(rt, &pattern, LINE, WARM),
         "text" => text(rt, &pattern),
         "capture_names" => capture_names(rt, &pattern),
         "get_extract" => get_extract(rt, &pattern),
@@ -53,11 +73,25 @@ fn match_against<E: Engine>(rt: &HostRuntime, pattern: &PatternOf<E>, line: &str
     Ok(())
 }
 
+/// Asks for a line after so many calls for an earlier one.
+fn match_after(
+    rt: &HostRuntime,
+    pattern: &Pattern,
+    count: u32,
+    earlier: &str,
+    line: &str,
+) -> Result<()> {
+    'calls: for _ in 0..count {
+        pattern.match_against(earlier)?;
+    }
+    match_against(rt, pattern, line)
+}
+
 /// Makes a matcher twice, and shows what each answers.
-fn line_matcher(rt: &HostRuntime, pattern: &Pattern) -> Result<()> {
+fn matcher(rt: &HostRuntime, pattern: &Pattern) -> Result<()> {
     'calls: for label in LABELS {
         eprintln!(rt; "[call")?;
-        let answer = pattern.line_matcher();
+        let answer = pattern.matcher();
         eprintln!(rt; "[done")?;
         show_matcher(rt, label, answer)?;
     }
@@ -65,11 +99,7 @@ fn line_matcher(rt: &HostRuntime, pattern: &Pattern) -> Result<()> {
 }
 
 /// Shows what a matcher answers, or that there is none.
-fn show_matcher(
-    rt: &HostRuntime,
-    label: &str,
-    answer: Result<LineMatcher, AllocError>,
-) -> Result<()> {
+fn show_matcher(rt: &HostRuntime, label: &str, answer: Result<Matcher, AllocError>) -> Result<()> {
     match answer {
         Ok(mut matcher) => println!(rt; "{label}: {:?}", matcher.match_against(LINE))?,
         Err(error) => println!(rt; "{label}: Err({error:?})")?,
@@ -79,12 +109,31 @@ fn show_matcher(
 
 /// Asks one matcher twice. What a refused line left behind doesn't change the next answer.
 fn match_lines<'t>(rt: &HostRuntime, pattern: &'t Pattern, line: &'t str) -> Result<()> {
-    let mut matcher = pattern.line_matcher()?;
+    let mut matcher = pattern.matcher()?;
     ask_twice(rt, &mut matcher, line)
 }
 
-fn ask_twice<'t>(rt: &HostRuntime, matcher: &mut LineMatcher<'t>, line: &'t str) -> Result<()> {
+fn ask_twice<'t>(rt: &HostRuntime, matcher: &mut Matcher<'t>, line: &'t str) -> Result<()> {
     twice!(rt, matcher.match_against(line));
+    Ok(())
+}
+
+/// Finds a line twice by one matcher, after so many lines before.
+fn find_lines<'t>(
+    rt: &HostRuntime,
+    pattern: &'t Pattern,
+    line: &'t str,
+    before: usize,
+) -> Result<()> {
+    let mut matcher = pattern.matcher()?;
+    for _ in 0..before {
+        let _found = matcher.find(line)?;
+    }
+    find_twice(rt, &mut matcher, line)
+}
+
+fn find_twice(rt: &HostRuntime, matcher: &mut Matcher<'_>, line: &str) -> Result<()> {
+    twice!(rt, matcher.find(line));
     Ok(())
 }
 

@@ -1,18 +1,22 @@
 //! Calls on texts that are too long for a program's words, timed. Standard output has the answer, the same in each run,
-//! and standard error the microseconds.
+//! and standard error the microseconds, or for lines of a log the nanoseconds a line.
+mod lines;
 mod split;
 
+use crate::timed::lines::Asked;
 use anyhow::{Result, bail};
 use grok::{Grok, Pattern};
+use regex::Regex;
 use std::alloc::Global;
 use std::io;
 use std::time::Instant;
 
-/// Times a call. Standard input has the pattern to split, or the definitions that the pattern is measured and compiled
-/// over.
+/// Times a call. Standard input has the pattern to split, the text for `regex`, or the definitions that the pattern is
+/// measured and compiled over, and behind an empty line the log that it matches.
 pub(crate) fn call(rt: &HostRuntime, name: &str, pattern: Option<&str>) -> Result<()> {
     match (name, pattern) {
         ("split", None) => time_split(rt),
+        ("regex", None) => time_regex(rt),
         ("measure", Some(pattern)) => {
             let grok = time_library(rt)?;
             time_measure(rt, &grok, pattern)
@@ -22,6 +26,9 @@ pub(crate) fn call(rt: &HostRuntime, name: &str, pattern: Option<&str>) -> Resul
             time_measure(rt, &grok, pattern)?;
             time_compile(rt, &grok, pattern)
         }
+        ("match", Some(pattern)) => lines::call(rt, pattern, Asked::Ways),
+        ("few", Some(pattern)) => lines::call(rt, pattern, Asked::Calls(20_000)),
+        ("many", Some(pattern)) => lines::call(rt, pattern, Asked::Calls(2_000_000)),
         _ => bail!("no timed call has this name and so many words"),
     }
 }
@@ -40,6 +47,16 @@ fn time_split(rt: &HostRuntime) -> Result<()> {
     let pieces = split::count(text.as_str());
     tell(rt, "split", &start)?;
     println!(rt; "{pieces}")?;
+    Ok(())
+}
+
+/// Builds the text that stands on standard input by `regex` alone.
+fn time_regex(rt: &HostRuntime) -> Result<()> {
+    let text = io::read_to_string(rt.alloc(), rt.stdin())?;
+    let start = Instant::now(rt)?;
+    let is_built = Regex::new(rt.alloc(), text.as_str()).is_ok();
+    tell(rt, "regex", &start)?;
+    println!(rt; "built {is_built}")?;
     Ok(())
 }
 

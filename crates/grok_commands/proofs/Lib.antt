@@ -1,0 +1,12 @@
+pub mod Equals
+pub mod Named
+pub mod Answering
+pub mod Cuts
+pub mod LineFeeds
+pub mod LineLemmas
+pub mod LineLaws
+pub mod CommandLaws
+pub mod Steps
+pub mod Objects
+pub mod Utf8Lines
+pub mod Measures

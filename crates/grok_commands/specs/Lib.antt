@@ -1,2 +1,23 @@
+pub mod Commands
+pub mod Views
+pub mod Library
+pub mod Answers
+pub mod Faults
+pub mod JsonEvents
+pub mod JsonObjects
+pub mod LineTexts
+pub mod Lines
+pub mod LineLaws
+pub mod CommandLaws
+pub mod Traffic
+pub mod Streams
+pub mod SizeTexts
 pub mod Split
 pub mod Runs
+-- THE WORDS FOR CALLERS: each word that a clause of `run` is said in.
+pub use Rattle.grok_commands.specs.Commands.{texts, RequestValue, CommandValue, command_of}
+pub use Rattle.grok_commands.specs.Runs.{Job, HasJob, IsPatternFault, IsUntouched, IsDone, IsCutShort, IsReadFault, IsWriteFault}
+pub use Rattle.grok_commands.specs.Traffic.{traffic}
+pub use Rattle.grok_commands.specs.Library.{library_of}
+pub use Rattle.grok_commands.specs.Faults.{fault_text}
+pub use Rattle.grok.specs.Errors.{ErrorValue, error_value}

@@ -1,39 +1,28 @@
--- What a run does, command by command.
-use Rattle.std.specs.Prelude.{◌≡◌, ◌≢◌, ◌⊎◌, ℕ, Bool, true, false, List, ◌++◌, Option, Some, None, length, codes}
+-- What a command answers, and how a run of it ends.
+use Rattle.std.specs.Prelude.{◌≡◌, ◌≢◌, ◌⊎◌, ℕ, Bool, List, [], ◌∷◌, ◌++◌, Option, Some, length, map, codes}
 use Rattle.std.specs.Io.KnownBytes.{Appends, Keeps}
 use Rattle.std.specs.FinMap as finite
-use Rattle.regex.specs.Strings.{regex_source, regex_names, regex_pattern}
-use Rattle.grok_match.specs.declared.engine.RegexEngine.{RegexEngine}
-use Rattle.grok_parser.specs.Pieces.{pieces}
-use Rattle.grok_match.specs.Engines.{engine_regex}
-use Rattle.grok_match.specs.RegexFinds.{captures_in, IsReadByDefault}
-use Rattle.grok_match.specs.Answers.{PatternValue}
+use Rattle.grok.specs.Strings.{regex_source, regex_names, regex_pattern}
+use Rattle.grok.specs.declared.engine.regex_engine.RegexEngine.{RegexEngine}
+use Rattle.grok.specs.Pieces.{Piece, pieces}
+use Rattle.grok.specs.Maps.{Texts}
+use Rattle.grok.specs.Engines.{engine_regex}
+use Rattle.grok.specs.RegexFinds.{captures_in, IsReadByDefault, MayRefuse}
+use Rattle.grok.specs.Answers.{PatternValue}
 use Rattle.grok.specs.Errors.{ErrorValue, Memory}
-use Rattle.grok.specs.Measured.{tree_of}
-use Rattle.grok.specs.Compiled.{IsCompileError, IsPatternOf}
-use Rattle.grok_words.specs.Commands.{RequestValue, CommandValue, Split, Measure, Match, Json, Check}
-use Rattle.grok_lines.specs.Answers.{HasAnswered, HasBegun}
-use Rattle.grok_words.specs.Library.{library_of}
-use Rattle.grok_lines.specs.LineTexts.{Finds, match_answer, json_answer}
-use Rattle.grok_sizes.specs.SizeTexts.{text_of_size, measured, IsFaulty, IsCheckLine}
+use Rattle.grok.specs.Compiled.{Expansion, expansion_of, IsCompileError, IsPatternOf}
+use Rattle.grok_commands.specs.Commands.{RequestValue, CommandValue, Split, Measure, Match, Json, Check}
+use Rattle.grok_commands.specs.Answers.{HasAnswered, HasBegun}
+use Rattle.grok_commands.specs.Library.{library_of}
+use Rattle.grok_commands.specs.LineTexts.{Finds, line_answer}
+use Rattle.grok_commands.specs.SizeTexts.{text_of_size, measure_of, IsFaulty, IsCheckLine}
 use Rattle.grok_commands.specs.Split.{IsPieceLine}
-use Rattle.grok_lines.specs.Streams.{HasAnsweredInput, HasAnsweredEnded, HasAnsweredSome}
-use Rattle.grok_lines.specs.Traffic.{Traffic}
+use Rattle.grok_commands.specs.Streams.{HasAnsweredInput, HasAnsweredEnded, HasAnsweredSome}
+use Rattle.grok_commands.specs.Traffic.{Traffic}
+use Rattle.grok_commands.specs.declared.line_answers.LineFormat.{LineFormat}
+use Rattle.grok_commands.specs.declared.line_answers.LineFormat.TheVariants.{Pairs, Object}
 
--- nothing was read, or nothing written
-abbrev pub IsUnread : Traffic → Type 0
-IsUnread t = Keeps t.unread_old t.unread_new
-
-abbrev pub IsUnwritten : Traffic → Type 0
-IsUnwritten t = Keeps t.written_old t.written_new
-
--- ---- measure
-
--- the size has gone out as one line
-abbrev pub HasMeasured : RequestValue → Traffic → Type 0
-HasMeasured request t = (text : List ℕ) × (text_of_size (measured request) ≡ Some text) × Appends t.written_old t.written_new (text ++ codes "\n")
-
--- ---- match and json
+-- ---- the pattern of a command that reads
 
 -- a pattern over `regex`
 abbrev pub Compiled : Type 0
@@ -47,66 +36,97 @@ names_of engine = regex_names (engine_regex engine)
 
 -- what `regex` captures in a line
 abbrev pub finds_of : RegexEngine → Finds
-finds_of engine = captures_in (regex_pattern (engine_regex engine)) (length (regex_names (engine_regex engine)))
+finds_of engine = let regex = engine_regex engine in captures_in (regex_pattern regex)
+    (length (regex_names regex))
+
+-- the pattern of a request over its definitions
+abbrev pub expansion_of_request : RequestValue → Expansion
+expansion_of_request request = expansion_of
+    (library_of request.definitions) request.alias_only request.pattern
 
 -- the pattern of a request: `regex` built it, with its defaults, from the expanded text
 pub record IsCompiled (request : RequestValue) (pattern : Compiled) : Type 0 where
-  pub is : IsPatternOf source_of names_of request.alias_only request.pattern (tree_of (library_of request.definitions) request.pattern) pattern
+  pub is : IsPatternOf source_of names_of (expansion_of_request request) pattern
   pub read : ∥ IsReadByDefault (engine_regex pattern.engine) ∥₁
 
 -- why a request has no pattern
 abbrev pub IsRefused : RequestValue → ErrorValue → Type 0
-IsRefused request error = IsCompileError (λ text. Unit {0}) request.alias_only request.pattern (tree_of (library_of request.definitions) request.pattern) error × (error ≢ Memory)
+IsRefused request error =
+    IsCompileError MayRefuse (expansion_of_request request) error × (error ≢ Memory)
 
-abbrev pub match_of : Compiled → List ℕ → List ℕ
-match_of pattern = match_answer (finds_of pattern.engine) pattern.keys
+-- the answer to a line
+abbrev pub answer_by : LineFormat → Compiled → List ℕ → List ℕ
+answer_by format pattern = line_answer format (finds_of pattern.engine) pattern.keys
 
-abbrev pub json_of : Compiled → List ℕ → List ℕ
-json_of pattern = json_answer (finds_of pattern.engine) pattern.keys
-
--- `match` or `json` answers the lines by this
+-- the request has a pattern that is so
 abbrev pub HasPattern : RequestValue → (Compiled → Type 0) → Type 0
 HasPattern request Is = (pattern : Compiled) × IsCompiled request pattern × Is pattern
 
--- ---- THE RUN ended well
+-- ---- WHAT A COMMAND ANSWERS
 
-abbrev pub IsDone : CommandValue → Traffic → Type 0
-IsDone (Split pattern) t = IsUnread t × HasAnswered IsPieceLine (pieces pattern) t.written_old t.written_new
-IsDone (Measure request) t = IsUnread t × HasMeasured request t
-IsDone (Match request) t = HasPattern request (λ pattern. HasAnsweredInput (match_of pattern) t)
-IsDone (Json request) t = HasPattern request (λ pattern. HasAnsweredInput (json_of pattern) t)
-IsDone (Check alias_only definitions) t =
-    let texts = library_of definitions in IsUnread t × HasAnswered (IsCheckLine texts alias_only) (finite.keys texts) t.written_old t.written_new
+-- the line of a piece, or of a definition
+pub data Answer : Type 0 where
+  PieceLine : (piece : Piece) → Answer
+  CheckLine : (texts : Texts) (alias_only : Bool) (name : List ℕ) → Answer
 
--- THE RUN was answered by an error of the pattern, before anything was read or written
+abbrev pub IsAnswer : Answer → List ℕ → Type 0
+IsAnswer (PieceLine piece) line = IsPieceLine piece line
+IsAnswer (CheckLine texts alias_only name) line = IsCheckLine texts alias_only name line
+
+-- one text, a list of answers, or an answer to each line of the input
+pub data Job : Type 0 where
+  One : (text : List ℕ) → Job
+  Each : (answers : List Answer) → Job
+  EachLine : (answer : List ℕ → List ℕ) → Job
+
+-- the command has a job that is so
+abbrev pub HasJob : CommandValue → (Job → Type 0) → Type 0
+HasJob (Split pattern) Is = Is (Each (map PieceLine (pieces pattern)))
+HasJob (Measure request) Is =
+    (size : List ℕ) × (text_of_size (measure_of request) ≡ Some size) × Is (One (size ++ codes "\n"))
+HasJob (Match request) Is = HasPattern request (λ pattern. Is (EachLine (answer_by Pairs pattern)))
+HasJob (Json request) Is = HasPattern request (λ pattern. Is (EachLine (answer_by Object pattern)))
+HasJob (Check alias_only definitions) Is =
+    let texts = library_of definitions in
+    Is (Each (map (CheckLine texts alias_only) (finite.keys texts)))
+
+-- the command has no job, for this error of its pattern
 abbrev pub IsPatternFault : CommandValue → ErrorValue → Type 0
 IsPatternFault (Split pattern) error = ⊥
-IsPatternFault (Measure request) error = IsFaulty (measured request) error
+IsPatternFault (Measure request) error = IsFaulty (measure_of request) error
 IsPatternFault (Match request) error = IsRefused request error
 IsPatternFault (Json request) error = IsRefused request error
 IsPatternFault (Check alias_only definitions) error = ⊥
 
--- THE RUN ended for want of memory
-abbrev pub IsCutShort : CommandValue → Traffic → Type 0
-IsCutShort (Split pattern) t = IsUnread t × HasBegun IsPieceLine (pieces pattern) t.written_old t.written_new
-IsCutShort (Measure request) t = IsUnread t × IsUnwritten t
-IsCutShort (Match request) t = (IsUnread t × IsUnwritten t) ⊎ HasPattern request (λ pattern. HasAnsweredSome (match_of pattern) t)
-IsCutShort (Json request) t = (IsUnread t × IsUnwritten t) ⊎ HasPattern request (λ pattern. HasAnsweredSome (json_of pattern) t)
-IsCutShort (Check alias_only definitions) t =
-    let texts = library_of definitions in IsUnread t × HasBegun (IsCheckLine texts alias_only) (finite.keys texts) t.written_old t.written_new
+-- ---- HOW A RUN ENDS
 
--- THE RUN ended for a failed read
-abbrev pub IsReadFault : CommandValue → Traffic → Type 0
-IsReadFault (Split pattern) t = ⊥
-IsReadFault (Measure request) t = ⊥
-IsReadFault (Match request) t = HasPattern request (λ pattern. HasAnsweredEnded (match_of pattern) t)
-IsReadFault (Json request) t = HasPattern request (λ pattern. HasAnsweredEnded (json_of pattern) t)
-IsReadFault (Check alias_only definitions) t = ⊥
+abbrev pub IsUnread : Traffic → Type 0
+IsUnread t = Keeps t.unread_old t.unread_new
 
--- THE RUN ended for a failed write, of which nothing more is said
-abbrev pub IsWriteFault : CommandValue → Traffic → Type 0
-IsWriteFault (Split pattern) t = IsUnread t
-IsWriteFault (Measure request) t = IsUnread t × (text_of_size (measured request) ≢ None)
-IsWriteFault (Match request) t = HasPattern request (λ pattern. Unit {0})
-IsWriteFault (Json request) t = HasPattern request (λ pattern. Unit {0})
-IsWriteFault (Check alias_only definitions) t = IsUnread t
+-- nothing was read or written
+abbrev pub IsUntouched : Traffic → Type 0
+IsUntouched t = IsUnread t × Keeps t.written_old t.written_new
+
+-- well
+abbrev pub IsDone : Traffic → Job → Type 0
+IsDone t (One text) = IsUnread t × Appends t.written_old t.written_new text
+IsDone t (Each answers) = IsUnread t × HasAnswered IsAnswer answers t.written_old t.written_new
+IsDone t (EachLine answer) = HasAnsweredInput answer t
+
+-- for want of memory
+abbrev pub IsCutShort : Traffic → Job → Type 0
+IsCutShort t (One text) = IsUntouched t
+IsCutShort t (Each answers) = IsUnread t × HasBegun IsAnswer answers t.written_old t.written_new
+IsCutShort t (EachLine answer) = HasAnsweredSome answer t
+
+-- for a failed read
+abbrev pub IsReadFault : Traffic → Job → Type 0
+IsReadFault t (One text) = ⊥
+IsReadFault t (Each answers) = ⊥
+IsReadFault t (EachLine answer) = HasAnsweredEnded answer t
+
+-- for a failed write, of which nothing more is said
+abbrev pub IsWriteFault : Traffic → Job → Type 0
+IsWriteFault t (One text) = IsUnread t
+IsWriteFault t (Each answers) = IsUnread t
+IsWriteFault t (EachLine answer) = Unit {0}

@@ -1,33 +1,51 @@
 //! The answers of `split`.
-ghost use Rattle.std.specs.Prelude.{◌≡◌, ◌⊎◌, OnOk, IfErr, IsErrOf, string_bytes};
-ghost use Rattle.grok_parser.specs.Pieces.{pieces};
-ghost use Rattle.grok_parser.specs.Views.{piece_view};
-ghost use Rattle.grok_lines.specs.Answers.{HasAnswered, HasBegun};
+ghost use Rattle.std.specs.Prelude.{◌≡◌, ◌⊎◌, OnOk, IfOk, IfErr, IsErrOf, string_bytes};
+ghost use Rattle.grok.specs.Pieces.{pieces};
+ghost use Rattle.grok.specs.Texts.{fault_words};
+ghost use Rattle.grok.specs.Views.{piece_view};
+ghost use Rattle.grok_commands.specs.Answers.{HasAnswered, HasBegun, Prints};
 ghost use Rattle.grok_commands.specs.Split.{IsPieceLine};
 
-use grok::parser::{GrokComponent, grok_split};
-use grok_lines::{ToolFault, end, send};
+use crate::fault::ToolFault;
+use crate::output::{end, send};
+use grok::parser::{GrokComponent, GrokPatternError, grok_split};
 use std::alloc::{AllocError, Global};
 use std::io::Write;
 
+/// The words of a fault, as Debug prints them.
+fn words_of(alloc: Global, fault: &GrokPatternError) -> Result<String, AllocError>
+    ensures { IfOk result (λ words. Prints (fault_words fault.now) (string_bytes words)) }
+{
+    format!(in alloc; "{fault:?}")
+}
+
 /// Puts the line of a piece into `text`, in place of what it holds.
-fn write_line(text: &mut String, piece: &GrokComponent<'_>) -> Result<(), AllocError>
+fn write_line(alloc: Global, text: &mut String, piece: &GrokComponent<'_>) -> Result<(), AllocError>
     ensures { OnOk result (IsPieceLine (piece_view piece.now) (string_bytes text.new)) }
 {
     text.clear();
-    write!(text, "{piece}")?;
+    match piece {
+        GrokComponent::RegularExpression { string, .. } => text.push_str(string)?,
+        GrokComponent::GrokPattern { pattern, .. } => text.push_str(pattern)?,
+        GrokComponent::PatternError(fault) => {
+            let words = words_of(alloc, fault)?;
+            write!(text, "<error {words}>")?;
+        }
+    }
     text.push('\n')
 }
 
 /// Sends the pieces of a pattern, each with a line feed by one `write_all`.
 pub fn split<W: Write>(alloc: Global, pattern: &str, output: &mut W) -> Result<(), ToolFault>
-    ensures ok { OnOk result (HasAnswered IsPieceLine (pieces pattern.now) (W.contents output.old) (W.contents output.new)) }
-    ensures memory { IsErrOf result ToolFault.Memory → HasBegun IsPieceLine (pieces pattern.now) (W.contents output.old) (W.contents output.new) }
+    ensures ok { OnOk result (HasAnswered IsPieceLine (pieces pattern.now)
+        (W.contents output.old) (W.contents output.new)) }
+    ensures memory { IsErrOf result ToolFault.Memory → HasBegun IsPieceLine (pieces pattern.now)
+        (W.contents output.old) (W.contents output.new) }
     ensures kind { IfErr result (λ fault. (fault ≡ ToolFault.Memory) ⊎ (fault ≡ ToolFault.Write)) }
 {
     let mut text = String::new(alloc);
     'pieces: for piece in grok_split(pattern) {
-        write_line(&mut text, &piece)?;
+        write_line(alloc, &mut text, &piece)?;
         send(output, text.as_bytes())?;
     }
     end(output)

@@ -1,35 +1,81 @@
-//! Long chains and long texts over an engine that takes every text, so that what stops them is the library.
+//! What compiling each row of the table gives, over an engine that takes every text, so that what stops it is the library.
 
-use crate::libraries::{add_chain, chain, doublings};
-use grok::{Grok, PatternOf};
+use crate::rows::{DEEPEST, Row, rows};
+use grok::Measure::Size;
+use grok::{Error, Grok, Measure, PatternOf};
 use grok_engines::Heads;
 use std::alloc::{AllocError, Global};
 use std::process::Abort;
 use std::test::Fail;
 
-/// The error of compiling, as a text, or `a pattern`.
-fn error_of(
-    alloc: Global,
-    grok: &Grok,
-    text: &str,
-    with_alias_only: bool,
-) -> Result<String, AllocError> {
-    match grok.compile_with::<Heads>(text, with_alias_only) {
-        Ok(_) => String::from_str(alloc, "a pattern"),
-        Err(error) => format!(in alloc; "{error:?}"),
+/// The pattern is as long as its measure says, and has as many keys as that has groups.
+fn check_pattern(rt: &impl Abort, row: &Row, pattern: &PatternOf<Heads>, measure: Measure<'_>) {
+    assert!(rt; row.error.is_none(), "{}: a pattern", row.name);
+    if let Size { length, groups, .. } = measure {
+        assert_eq!(rt; pattern.text().len(), length, "{}", row.name);
+        assert_eq!(rt; pattern.capture_names().count(), groups, "{}", row.name);
     }
 }
 
-/// Compiling has this error.
-fn check_error(
+/// The error is that of the row.
+fn check_error(rt: &(impl Abort + AllocGlobal), row: &Row, error: &Error) -> Result<(), Fail> {
+    let shown = format!(in rt.alloc(); "{error:?}")?;
+    let is_right = row.error == Some(shown.as_str());
+    assert!(rt; is_right, "{}: {error:?}", row.name);
+    Ok(())
+}
+
+/// Compiling over that engine gives a pattern of this measure, or the error of the row.
+fn check_mode(
     rt: &(impl Abort + AllocGlobal),
+    row: &Row,
     grok: &Grok,
-    text: &str,
     with_alias_only: bool,
-    expected: &str,
+    measure: Measure<'_>,
 ) -> Result<(), Fail> {
-    let given = error_of(rt.alloc(), grok, text, with_alias_only)?;
-    assert_eq!(rt; given.as_str(), expected, "at {text}");
+    match grok.compile_with::<Heads>(row.pattern, with_alias_only) {
+        Ok(pattern) => {
+            check_pattern(rt, row, &pattern, measure);
+            Ok(())
+        }
+        Err(error) => check_error(rt, row, &error),
+    }
+}
+
+/// Over `regex` compiling has the error of the row too.
+fn check_over_regex(
+    rt: &(impl Abort + AllocGlobal),
+    row: &Row,
+    grok: &Grok,
+    with_alias_only: bool,
+) -> Result<(), Fail> {
+    match grok.compile(row.pattern, with_alias_only) {
+        Ok(_) => {
+            assert!(rt; false, "{}: a pattern", row.name);
+            Ok(())
+        }
+        Err(error) => check_error(rt, row, &error),
+    }
+}
+
+/// The row holds in both modes.
+fn check_row(rt: &(impl Abort + AllocGlobal), row: &Row) -> Result<(), Fail> {
+    let grok = row.library(rt.alloc())?;
+    check_mode(rt, row, &grok, false, row.every)?;
+    check_mode(rt, row, &grok, true, row.aliased)?;
+    if row.error.is_some() {
+        check_over_regex(rt, row, &grok, false)?;
+        check_over_regex(rt, row, &grok, true)?;
+    }
+    Ok(())
+}
+
+/// What is too deep or too long is answered at once.
+#[test]
+fn compiled_texts(rt: HostRuntime) -> Result<(), Fail> {
+    for row in rows() {
+        check_row(&rt, row)?;
+    }
     Ok(())
 }
 
@@ -56,102 +102,35 @@ fn nested(alloc: Global, count: u32, with_alias_only: bool) -> Result<String, Al
     Ok(all)
 }
 
-/// The chain of 1,023 links has a text of this length, and so many keys.
+/// The deepest chain has the text of its groups.
 fn check_deepest(
     rt: &(impl Abort + AllocGlobal),
     grok: &Grok,
     with_alias_only: bool,
-    length: usize,
-    keys: usize,
 ) -> Result<(), Fail> {
-    let pattern: PatternOf<Heads> = grok.compile_with("%{C1}", with_alias_only)?;
+    let pattern: PatternOf<Heads> = grok.compile_with(DEEPEST.pattern, with_alias_only)?;
     let expected = nested(rt.alloc(), 1023, with_alias_only)?;
     let is_right = pattern.text() == expected.as_str();
     assert!(rt; is_right, "at {with_alias_only}");
-    assert_eq!(rt; pattern.text().len(), length);
-    assert_eq!(rt; pattern.capture_names().count(), keys);
     Ok(())
 }
 
-/// The longest chain that is allowed has its text in each mode.
-fn check_deepest_chain(rt: &(impl Abort + AllocGlobal)) -> Result<(), Fail> {
-    let grok = chain(rt.alloc(), "C", 1023, "x")?;
-    for (with_alias_only, length, keys) in [(true, 4093, 0), (false, 11167, 1023)] {
-        check_deepest(rt, &grok, with_alias_only, length, keys)?;
+/// `regex` may refuse the deepest chain, and nothing else may.
+fn check_deepest_over_regex(rt: &impl Abort, grok: &Grok) {
+    match grok.compile(DEEPEST.pattern, true) {
+        Ok(pattern) => assert_eq!(rt; pattern.text().len(), 4093),
+        Err(error) => assert!(rt;
+            matches!(error, Error::RegexCompilationFailed(_)),
+            "{error}"
+        ),
     }
-    Ok(())
-}
-
-/// A chain with one link more is too deep in each mode.
-fn check_deeper_chain(rt: &(impl Abort + AllocGlobal)) -> Result<(), Fail> {
-    let grok = chain(rt.alloc(), "C", 1024, "x")?;
-    for with_alias_only in [false, true] {
-        check_error(rt, &grok, "%{C1}", with_alias_only, "RecursionTooDeep")?;
-    }
-    Ok(())
-}
-
-/// A chain is too deep at the end of another one.
-fn check_two_chains(rt: &(impl Abort + AllocGlobal)) -> Result<(), Fail> {
-    let mut grok = chain(rt.alloc(), "H", 500, "x")?;
-    add_chain(rt.alloc(), &mut grok, "C", 600, "%{H1}")?;
-    check_error(rt, &grok, "%{H1}%{C1}", false, "RecursionTooDeep")
 }
 
 #[test]
 fn the_deepest_chain(rt: HostRuntime) -> Result<(), Fail> {
-    check_deepest_chain(&rt)?;
-    check_deeper_chain(&rt)?;
-    check_two_chains(&rt)
-}
-
-/// A text that is long, and not too long, is written.
-fn check_long_text(rt: &impl Abort, grok: &Grok) -> Result<(), Fail> {
-    let ten: PatternOf<Heads> = grok.compile_with("%{D10}", false)?;
-    assert_eq!(rt; ten.text().len(), 24478);
-    assert_eq!(rt; ten.capture_names().count(), 2047);
-    Ok(())
-}
-
-/// Texts that are far too long are not written, and are answered at once.
-#[test]
-fn long_texts(rt: HostRuntime) -> Result<(), Fail> {
-    let grok = doublings(rt.alloc(), "A=a")?;
-    check_long_text(&rt, &grok)?;
-    for (text, expected) in [
-        ("%{D60}", "Memory"),
-        ("%{D61}", "Memory"),
-        ("%{D70}", "Memory"),
-        ("%{A:x[1]}%{A:x}%{A:x}%{D70}", "Memory"),
-        ("%{D70}%{missing}", "DefinitionNotFound(\"missing\")"),
-        ("%{D70}%{", "GenericCompilationFailure(\"InvalidPattern\")"),
-        (
-            "%{A:x[1]}%{A:x}%{A:x}%{D70}%{missing}",
-            "GenericCompilationFailure(\"Alias x[1] already exists\")",
-        ),
-    ] {
-        check_error(&rt, &grok, text, true, expected)?;
-        check_error(&rt, &grok, text, false, expected)?;
-    }
-    Ok(())
-}
-
-/// Compiling answers this where a chain of so many links stands before a text that is far too long.
-fn check_long_chain(
-    rt: &(impl Abort + AllocGlobal),
-    count: u32,
-    expected: &str,
-) -> Result<(), Fail> {
-    let mut grok = doublings(rt.alloc(), "")?;
-    add_chain(rt.alloc(), &mut grok, "K", count, "%{D70}")?;
-    check_error(rt, &grok, "%{D70}%{K1}", true, expected)
-}
-
-/// Depth is found at once behind a text that is far too long.
-#[test]
-fn too_long_or_too_deep(rt: HostRuntime) -> Result<(), Fail> {
-    for (count, expected) in [(952, "Memory"), (953, "RecursionTooDeep")] {
-        check_long_chain(&rt, count, expected)?;
-    }
+    let grok = DEEPEST.library(rt.alloc())?;
+    check_deepest(&rt, &grok, false)?;
+    check_deepest(&rt, &grok, true)?;
+    check_deepest_over_regex(&rt, &grok);
     Ok(())
 }

@@ -8,6 +8,99 @@ use std::error;
 use std::process::Abort;
 use std::test::Fail;
 
+/// How an error is shown.
+#[derive(Clone, Copy)]
+struct Shown {
+    name: &'static str,
+    display: &'static str,
+    debug: &'static str,
+}
+
+/// One row for each of `errors`, in their order.
+const SHOWN: &[Shown] = &[
+    Shown {
+        name: "too deep",
+        display: "Recursion while compiling reached the limit of 1024",
+        debug: "RecursionTooDeep",
+    },
+    Shown {
+        name: "an empty pattern",
+        display: "The given pattern \"\" ended up compiling into an empty regex",
+        debug: "CompiledPatternIsEmpty(\"\")",
+    },
+    Shown {
+        name: "a missing definition",
+        display: "The given pattern definition name \"nope\" could not be found in the definition map",
+        debug: "DefinitionNotFound(\"nope\")",
+    },
+    Shown {
+        name: "a refused text",
+        display: "The given regex \"Regex compilation failed:\n(\" failed compilation in the underlying engine",
+        debug: "RegexCompilationFailed(\"Regex compilation failed:\\n(\")",
+    },
+    Shown {
+        name: "a malformed placeholder",
+        display: "Something unexpected happened during the compilation phase: \"InvalidCharacter(' ')\"",
+        debug: "GenericCompilationFailure(\"InvalidCharacter(' ')\")",
+    },
+    Shown {
+        name: "want of memory",
+        display: "Out of memory",
+        debug: "Memory",
+    },
+    Shown {
+        name: "a quotation mark and a backslash in a name",
+        display: "The given pattern definition name \"\"é\\\" could not be found in the definition map",
+        debug: "DefinitionNotFound(\"\\\"é\\\\\")",
+    },
+    Shown {
+        name: "a clash of keys",
+        display: "Something unexpected happened during the compilation phase: \"Alias x[1] already exists\"",
+        debug: "GenericCompilationFailure(\"Alias x[1] already exists\")",
+    },
+];
+
+/// A fault, and the debug text of its error.
+#[derive(Clone, Copy)]
+struct FaultRow {
+    name: &'static str,
+    fault: Fault<'static>,
+    error: &'static str,
+}
+
+const FAULTS: &[FaultRow] = &[
+    FaultRow {
+        name: "a missing definition",
+        fault: Missing("x"),
+        error: "DefinitionNotFound(\"x\")",
+    },
+    FaultRow {
+        name: "too deep",
+        fault: TooDeep,
+        error: "RecursionTooDeep",
+    },
+    FaultRow {
+        name: "a malformed placeholder",
+        fault: Malformed(InvalidPattern),
+        error: "GenericCompilationFailure(\"InvalidPattern\")",
+    },
+    FaultRow {
+        name: "a malformed definition in the text",
+        fault: Malformed(InvalidPatternDefinition),
+        error: "GenericCompilationFailure(\"InvalidPatternDefinition\")",
+    },
+    FaultRow {
+        name: "a character that is not allowed",
+        fault: Malformed(InvalidCharacter('!')),
+        error: "GenericCompilationFailure(\"InvalidCharacter('!')\")",
+    },
+    FaultRow {
+        name: "a letter of two bytes that is not allowed",
+        fault: Malformed(InvalidCharacter('é')),
+        error: "GenericCompilationFailure(\"InvalidCharacter('é')\")",
+    },
+];
+
 fn text(alloc: Global, text: &str) -> Result<String, AllocError> {
     String::from_str(alloc, text)
 }
@@ -32,60 +125,36 @@ fn errors(alloc: Global) -> Result<[Error; 8], AllocError> {
 }
 
 /// The error has this debug text.
-fn check_debug(rt: &(impl Abort + AllocGlobal), error: &Error, expected: &str) -> Result<(), Fail> {
+fn check_debug(
+    rt: &(impl Abort + AllocGlobal),
+    name: &str,
+    error: &Error,
+    expected: &str,
+) -> Result<(), Fail> {
     let shown = format!(in rt.alloc(); "{error:?}")?;
-    assert_eq!(rt; shown.as_str(), expected);
+    assert_eq!(rt; shown.as_str(), expected, "{name}");
     Ok(())
 }
 
 /// The error is displayed so.
 fn check_display(
     rt: &(impl Abort + AllocGlobal),
+    name: &str,
     error: &Error,
     expected: &str,
 ) -> Result<(), Fail> {
     let shown = displayed(rt.alloc(), error)?;
-    assert_eq!(rt; shown.as_str(), expected);
+    assert_eq!(rt; shown.as_str(), expected, "{name}");
     Ok(())
 }
 
 #[test]
 fn shown_errors(rt: HostRuntime) -> Result<(), Fail> {
-    let expected = [
-        (
-            "Recursion while compiling reached the limit of 1024",
-            "RecursionTooDeep",
-        ),
-        (
-            "The given pattern \"\" ended up compiling into an empty regex",
-            "CompiledPatternIsEmpty(\"\")",
-        ),
-        (
-            "The given pattern definition name \"nope\" could not be found in the definition map",
-            "DefinitionNotFound(\"nope\")",
-        ),
-        (
-            "The given regex \"Regex compilation failed:\n(\" failed compilation in the underlying engine",
-            "RegexCompilationFailed(\"Regex compilation failed:\\n(\")",
-        ),
-        (
-            "Something unexpected happened during the compilation phase: \"InvalidCharacter(' ')\"",
-            "GenericCompilationFailure(\"InvalidCharacter(' ')\")",
-        ),
-        ("Out of memory", "Memory"),
-        (
-            "The given pattern definition name \"\"é\\\" could not be found in the definition map",
-            "DefinitionNotFound(\"\\\"é\\\\\")",
-        ),
-        (
-            "Something unexpected happened during the compilation phase: \"Alias x[1] already exists\"",
-            "GenericCompilationFailure(\"Alias x[1] already exists\")",
-        ),
-    ];
     let errors = errors(rt.alloc())?;
-    for (error, (display, debug)) in errors.iter().zip(expected.iter()) {
-        check_display(&rt, error, display)?;
-        check_debug(&rt, error, debug)?;
+    assert_eq!(rt; errors.len(), SHOWN.len());
+    for (error, row) in errors.iter().zip(SHOWN.iter()) {
+        check_display(&rt, row.name, error, row.display)?;
+        check_debug(&rt, row.name, error, row.debug)?;
     }
     Ok(())
 }
@@ -118,39 +187,16 @@ fn equal_errors(rt: HostRuntime) -> Result<(), Fail> {
     check_refusals(&rt)
 }
 
-/// The error of a fault has this debug text.
-fn check_fault(
-    rt: &(impl Abort + AllocGlobal),
-    fault: Fault<'_>,
-    expected: &str,
-) -> Result<(), Fail> {
-    let error = fault.to_error(rt.alloc())?;
-    check_debug(rt, &error, expected)
+/// The error of a fault has its debug text.
+fn check_fault(rt: &(impl Abort + AllocGlobal), row: &FaultRow) -> Result<(), Fail> {
+    let error = row.fault.to_error(rt.alloc())?;
+    check_debug(rt, row.name, &error, row.error)
 }
 
 #[test]
 fn errors_of_faults(rt: HostRuntime) -> Result<(), Fail> {
-    for (fault, expected) in [
-        (Missing("x"), "DefinitionNotFound(\"x\")"),
-        (TooDeep, "RecursionTooDeep"),
-        (
-            Malformed(InvalidPattern),
-            "GenericCompilationFailure(\"InvalidPattern\")",
-        ),
-        (
-            Malformed(InvalidPatternDefinition),
-            "GenericCompilationFailure(\"InvalidPatternDefinition\")",
-        ),
-        (
-            Malformed(InvalidCharacter('!')),
-            "GenericCompilationFailure(\"InvalidCharacter('!')\")",
-        ),
-        (
-            Malformed(InvalidCharacter('é')),
-            "GenericCompilationFailure(\"InvalidCharacter('é')\")",
-        ),
-    ] {
-        check_fault(&rt, fault, expected)?;
+    for row in FAULTS {
+        check_fault(&rt, row)?;
     }
     Ok(())
 }

@@ -1,9 +1,7 @@
-//! Tests of what becomes of a text on its way to a pattern: its pieces, its size, the compiled text with its keys and
-//! extracts, and each error. Long chains and hostile libraries of definitions are among them.
+//! Tests of what becomes of a text on its way to a pattern: its pieces, its size, and each error. Long chains and hostile
+//! libraries of definitions are among them.
 #![tactic(auto)]
 
-#[cfg(test)]
-mod compiling;
 #[cfg(test)]
 mod deep;
 #[cfg(test)]
@@ -11,8 +9,12 @@ mod definitions;
 #[cfg(test)]
 mod errors;
 #[cfg(test)]
+mod large;
+#[cfg(test)]
 mod libraries;
 #[cfg(test)]
 mod measure;
 #[cfg(test)]
 mod pieces;
+#[cfg(test)]
+mod rows;

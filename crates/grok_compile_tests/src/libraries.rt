@@ -1,24 +1,7 @@
-//! Libraries of definitions: of a few words, long chains, and doublings.
+//! Long chains of definitions, and doublings.
 
 use grok::Grok;
 use std::alloc::{AllocError, Global};
-
-/// Adds what the word says: `NAME=TEXT`.
-fn add_word(grok: &mut Grok, word: &str) -> Result<(), AllocError> {
-    if let Some((name, text)) = word.split_once("=") {
-        grok.add_pattern(name, text)?;
-    }
-    Ok(())
-}
-
-/// The library of the words `NAME=TEXT`, which spaces separate.
-pub(crate) fn library(alloc: Global, words: &str) -> Result<Grok, AllocError> {
-    let mut grok = Grok::empty(alloc);
-    for word in words.split(' ') {
-        add_word(&mut grok, word)?;
-    }
-    Ok(grok)
-}
 
 /// Adds the link of this letter and number, which stands for the text.
 fn add_link(
@@ -58,30 +41,17 @@ pub(crate) fn add_chain(
     add_link(alloc, grok, letter, count, last)
 }
 
-/// The library of one chain of so many links.
-pub(crate) fn chain(
-    alloc: Global,
-    letter: &str,
-    count: u32,
-    last: &str,
-) -> Result<Grok, AllocError> {
-    let mut grok = Grok::empty(alloc);
-    add_chain(alloc, &mut grok, letter, count, last)?;
-    Ok(grok)
-}
-
 /// Adds the doubling above the one of this number.
 fn add_doubling(alloc: Global, grok: &mut Grok, below: u32) -> Result<(), AllocError> {
     let text = format!(in alloc; "%{{D{below}}}%{{D{below}}}")?;
     add_link(alloc, grok, "D", below.saturating_add(1), text.as_str())
 }
 
-/// The library of the words, with D0, which stands for `a`, and D1 to D70, each of which stands for two of the one before.
-pub(crate) fn doublings(alloc: Global, words: &str) -> Result<Grok, AllocError> {
-    let mut grok = library(alloc, words)?;
+/// Adds D0, which stands for `a`, and D1 to D70, each of which stands for two of the one before.
+pub(crate) fn add_doublings(alloc: Global, grok: &mut Grok) -> Result<(), AllocError> {
     grok.add_pattern("D0", "a")?;
     for below in 0..70u32 {
-        add_doubling(alloc, &mut grok, below)?;
+        add_doubling(alloc, grok, below)?;
     }
-    Ok(grok)
+    Ok(())
 }

@@ -1,8 +1,375 @@
+//! The pieces of texts, with their ranges, parts and faults, and how they are shown.
+
 use grok::parser::GrokPatternError::{InvalidCharacter, InvalidPattern, InvalidPatternDefinition};
 use grok::parser::{GrokComponent, GrokPatternError, grok_split};
 use std::alloc::{AllocError, Global};
 use std::process::Abort;
 use std::test::Fail;
+
+/// A text and its pieces.
+#[derive(Clone, Copy)]
+struct Split {
+    name: &'static str,
+    text: &'static str,
+    /// The range, the text and the parts of each piece, with a line feed behind it.
+    pieces: &'static str,
+}
+
+const SPLITS: &[Split] = &[
+    Split {
+        name: "two percent signs before a brace",
+        text: "%%{name}",
+        pieces: "0..8 %%{name}\n",
+    },
+    Split {
+        name: "three percent signs before a brace",
+        text: "%%%{name}",
+        pieces: "0..2 %%\n2..9 %{name} name=name alias= extract= definition=\n",
+    },
+    Split {
+        name: "a percent sign alone",
+        text: "%",
+        pieces: "0..1 %\n",
+    },
+    Split {
+        name: "a percent sign in a group",
+        text: "(%){2}",
+        pieces: "0..1 (\n1..6 %){2}\n",
+    },
+    Split {
+        name: "colons, equals signs and percent signs in a definition",
+        text: "%{N=a=b:%}",
+        pieces: "0..10 %{N=a=b:%} name=N alias= extract= definition=a=b:%\n",
+    },
+    Split {
+        name: "a letter of two bytes before a placeholder",
+        text: "é%{name}",
+        pieces: "0..2 é\n2..9 %{name} name=name alias= extract= definition=\n",
+    },
+    Split {
+        name: "a placeholder between words",
+        text: "Hello, %{name}!",
+        pieces: "0..7 Hello, \n7..14 %{name} name=name alias= extract= definition=\n14..15 !\n",
+    },
+    Split {
+        name: "nothing behind a fault",
+        text: "a%{A}%{b c}%{A}",
+        pieces: "0..1 a\n1..5 %{A} name=A alias= extract= definition=\nInvalidCharacter(' ')\n",
+    },
+];
+
+/// A placeholder and its parts.
+#[derive(Clone, Copy)]
+struct Placeholder {
+    /// What the row shows.
+    shows: &'static str,
+    text: &'static str,
+    name: &'static str,
+    alias: &'static str,
+    extract: &'static str,
+    definition: &'static str,
+}
+
+const LEGAL: &[Placeholder] = &[
+    Placeholder {
+        shows: "a name",
+        text: "%{name}",
+        name: "name",
+        alias: "",
+        extract: "",
+        definition: "",
+    },
+    Placeholder {
+        shows: "an alias",
+        text: "%{name:name}",
+        name: "name",
+        alias: "name",
+        extract: "",
+        definition: "",
+    },
+    Placeholder {
+        shows: "an alias and an extract",
+        text: "%{name:name:name}",
+        name: "name",
+        alias: "name",
+        extract: "name",
+        definition: "",
+    },
+    Placeholder {
+        shows: "an extract without an alias",
+        text: "%{name::name}",
+        name: "name",
+        alias: "",
+        extract: "name",
+        definition: "",
+    },
+    Placeholder {
+        shows: "a definition",
+        text: "%{name=defn}",
+        name: "name",
+        alias: "",
+        extract: "",
+        definition: "defn",
+    },
+    Placeholder {
+        shows: "an alias and a definition",
+        text: "%{name:name=defn}",
+        name: "name",
+        alias: "name",
+        extract: "",
+        definition: "defn",
+    },
+    Placeholder {
+        shows: "all four parts",
+        text: "%{name:name:name=defn}",
+        name: "name",
+        alias: "name",
+        extract: "name",
+        definition: "defn",
+    },
+    Placeholder {
+        shows: "brackets in an alias",
+        text: "%{name:name[x]}",
+        name: "name",
+        alias: "name[x]",
+        extract: "",
+        definition: "",
+    },
+    Placeholder {
+        shows: "brackets in an alias and in an extract",
+        text: "%{name:name[x]:name[y]}",
+        name: "name",
+        alias: "name[x]",
+        extract: "name[y]",
+        definition: "",
+    },
+];
+
+/// A placeholder that is malformed, and its fault.
+#[derive(Clone, Copy)]
+struct Malformed {
+    name: &'static str,
+    text: &'static str,
+    fault: GrokPatternError,
+}
+
+const ILLEGAL: &[Malformed] = &[
+    Malformed {
+        name: "the end behind the name",
+        text: "%{name",
+        fault: InvalidPattern,
+    },
+    Malformed {
+        name: "the end behind the equals sign",
+        text: "%{name=",
+        fault: InvalidPatternDefinition,
+    },
+    Malformed {
+        name: "an empty definition",
+        text: "%{name=}",
+        fault: InvalidPatternDefinition,
+    },
+    Malformed {
+        name: "the end in the definition",
+        text: "%{name=a",
+        fault: InvalidPatternDefinition,
+    },
+    Malformed {
+        name: "the end behind a colon",
+        text: "%{name:",
+        fault: InvalidPattern,
+    },
+    Malformed {
+        name: "an empty alias",
+        text: "%{name:}",
+        fault: InvalidPatternDefinition,
+    },
+    Malformed {
+        name: "the end behind the alias",
+        text: "%{name:a",
+        fault: InvalidPattern,
+    },
+    Malformed {
+        name: "the end behind the extract",
+        text: "%{name:a:b",
+        fault: InvalidPattern,
+    },
+    Malformed {
+        name: "the end behind two colons",
+        text: "%{name::",
+        fault: InvalidPattern,
+    },
+    Malformed {
+        name: "the end behind an extract without an alias",
+        text: "%{name::b",
+        fault: InvalidPattern,
+    },
+    Malformed {
+        name: "an empty extract behind an alias",
+        text: "%{name:a:}",
+        fault: InvalidPatternDefinition,
+    },
+    Malformed {
+        name: "an empty alias and an empty extract",
+        text: "%{name::}",
+        fault: InvalidPatternDefinition,
+    },
+    Malformed {
+        name: "a full stop in the name",
+        text: "%{na.me:a:b}",
+        fault: InvalidCharacter('.'),
+    },
+    Malformed {
+        name: "a fourth word",
+        text: "%{name:a:b:c}",
+        fault: InvalidPattern,
+    },
+    Malformed {
+        name: "a fourth and a fifth word",
+        text: "%{name:a:b:c:d}",
+        fault: InvalidPattern,
+    },
+    Malformed {
+        name: "an empty alias before a definition",
+        text: "%{name:=x}",
+        fault: InvalidPatternDefinition,
+    },
+    Malformed {
+        name: "an empty extract before a definition",
+        text: "%{name:a:=x}",
+        fault: InvalidPatternDefinition,
+    },
+    Malformed {
+        name: "an exclamation mark for a name",
+        text: "%{!}",
+        fault: InvalidCharacter('!'),
+    },
+    Malformed {
+        name: "an exclamation mark behind a fourth word",
+        text: "%{name:a:b:c!",
+        fault: InvalidCharacter('!'),
+    },
+    Malformed {
+        name: "an empty name",
+        text: "%{}",
+        fault: InvalidPattern,
+    },
+];
+
+/// A text, and how its pieces are shown, each with a line feed behind it.
+#[derive(Clone, Copy)]
+struct Shown {
+    name: &'static str,
+    text: &'static str,
+    display: &'static str,
+    debug: &'static str,
+}
+
+const SHOWN: &[Shown] = &[
+    Shown {
+        name: "a placeholder between words",
+        text: "Hello, %{name}!",
+        display: "Hello, \n%{name}\n!\n",
+        debug: "\"Hello, \"\n%{ name=\"name\" alias=\"\" capture=\"\" definition=\"\" }\n\"!\"\n",
+    },
+    Shown {
+        name: "quotation marks and a backslash in a definition",
+        text: r#"%{n:a[1]:x=it's "\"}"#,
+        display: "%{n:a[1]:x=it's \"\\\"}\n",
+        debug: "%{ name=\"n\" alias=\"a[1]\" capture=\"x\" definition=\"it's \\\"\\\\\\\"\" }\n",
+    },
+    Shown {
+        name: "a tab",
+        text: "é\t",
+        display: "é\t\n",
+        debug: "\"é\\t\"\n",
+    },
+    Shown {
+        name: "a character that is not allowed",
+        text: "%{a!",
+        display: "<error InvalidCharacter('!')>\n",
+        debug: "<error InvalidCharacter('!')>\n",
+    },
+    Shown {
+        name: "a placeholder that is not closed",
+        text: "%{a",
+        display: "<error InvalidPattern>\n",
+        debug: "<error InvalidPattern>\n",
+    },
+    Shown {
+        name: "an empty definition",
+        text: "%{a=}",
+        display: "<error InvalidPatternDefinition>\n",
+        debug: "<error InvalidPatternDefinition>\n",
+    },
+];
+
+/// A placeholder with a character that is not allowed, and how its fault is shown.
+#[derive(Clone, Copy)]
+struct OddCharacter {
+    name: &'static str,
+    text: &'static str,
+    fault: &'static str,
+}
+
+const ODD_CHARACTERS: &[OddCharacter] = &[
+    OddCharacter {
+        name: "an apostrophe",
+        text: "%{'}",
+        fault: r"<error InvalidCharacter('\'')>",
+    },
+    OddCharacter {
+        name: "a quotation mark",
+        text: "%{\"}",
+        fault: "<error InvalidCharacter('\"')>",
+    },
+    OddCharacter {
+        name: "a backslash",
+        text: "%{\\}",
+        fault: r"<error InvalidCharacter('\\')>",
+    },
+    OddCharacter {
+        name: "a line feed",
+        text: "%{\n}",
+        fault: r"<error InvalidCharacter('\n')>",
+    },
+    OddCharacter {
+        name: "the zero byte",
+        text: "%{\0}",
+        fault: r"<error InvalidCharacter('\0')>",
+    },
+    OddCharacter {
+        name: "the delete character",
+        text: "%{\u{7f}}",
+        fault: r"<error InvalidCharacter('\u{7f}')>",
+    },
+    OddCharacter {
+        name: "a letter of two bytes",
+        text: "%{ñ}",
+        fault: "<error InvalidCharacter('ñ')>",
+    },
+    OddCharacter {
+        name: "a combining accent",
+        text: "%{\u{301}}",
+        fault: r"<error InvalidCharacter('\u{301}')>",
+    },
+    OddCharacter {
+        name: "a space of no width",
+        text: "%{\u{200b}}",
+        fault: r"<error InvalidCharacter('\u{200b}')>",
+    },
+    OddCharacter {
+        name: "a face",
+        text: "%{😀}",
+        fault: "<error InvalidCharacter('😀')>",
+    },
+];
+
+const VIEWS: &str =
+    r"(?:\(Views: %{NUMBER:viewms}ms \| ActiveRecord: %{NUMBER:activerecordms}ms|\(ActiveRecord: %{NUMBER:activerecordms}ms)?";
+
+const QUERIES: &str =
+    r"%{NUMBER:ts}\t%{NOTSPACE:uid}\t%{IP:orig_h}\t%{INT:orig_p}\t%{IP:resp_h}\t%{INT:resp_p}\t%{WORD:proto}\t%{INT:trans_id}\t%{GREEDYDATA:query}\t%{GREEDYDATA:qclass}\t%{GREEDYDATA:qclass_name}\t%{GREEDYDATA:qtype}\t%{GREEDYDATA:qtype_name}\t%{GREEDYDATA:rcode}\t%{GREEDYDATA:rcode_name}\t%{GREEDYDATA:AA}\t%{GREEDYDATA:TC}\t%{GREEDYDATA:RD}\t%{GREEDYDATA:RA}\t%{GREEDYDATA:Z}\t%{GREEDYDATA:answers}\t%{GREEDYDATA:TTLs}\t%{GREEDYDATA:rejected}";
 
 /// What a piece has, field by field: its range, its text, the parts of a placeholder; or its fault.
 fn row(alloc: Global, piece: &GrokComponent<'_>) -> Result<String, AllocError> {
@@ -42,9 +409,14 @@ fn rows(alloc: Global, text: &str) -> Result<String, AllocError> {
 }
 
 /// The pieces of the text have these rows.
-fn check_rows(rt: &(impl Abort + AllocGlobal), text: &str, expected: &str) -> Result<(), Fail> {
+fn check_rows(
+    rt: &(impl Abort + AllocGlobal),
+    name: &str,
+    text: &str,
+    expected: &str,
+) -> Result<(), Fail> {
     let given = rows(rt.alloc(), text)?;
-    assert_eq!(rt; given.as_str(), expected, "at {text}");
+    assert_eq!(rt; given.as_str(), expected, "{name}");
     Ok(())
 }
 
@@ -61,105 +433,39 @@ fn only_fault(text: &str) -> Option<GrokPatternError> {
 
 #[test]
 fn pieces_with_ranges_and_parts(rt: HostRuntime) -> Result<(), Fail> {
-    for (text, expected) in [
-        ("", ""),
-        ("%%{name}", "0..8 %%{name}\n"),
-        (
-            "%%%{name}",
-            "0..2 %%\n2..9 %{name} name=name alias= extract= definition=\n",
-        ),
-        ("%", "0..1 %\n"),
-        ("100%", "0..3 100\n3..4 %\n"),
-        ("(%){2}", "0..1 (\n1..6 %){2}\n"),
-        (
-            "%{N=a=b:%}",
-            "0..10 %{N=a=b:%} name=N alias= extract= definition=a=b:%\n",
-        ),
-        (
-            "é%{A}",
-            "0..2 é\n2..6 %{A} name=A alias= extract= definition=\n",
-        ),
-        (
-            "Hello, %{name}!",
-            "0..7 Hello, \n7..14 %{name} name=name alias= extract= definition=\n14..15 !\n",
-        ),
-        // The pieces before a fault are given, and nothing behind it.
-        (
-            "a%{A}%{b c}%{A}",
-            "0..1 a\n1..5 %{A} name=A alias= extract= definition=\nInvalidCharacter(' ')\n",
-        ),
-    ] {
-        check_rows(&rt, text, expected)?;
+    for row in SPLITS {
+        check_rows(&rt, row.name, row.text, row.pieces)?;
     }
     Ok(())
 }
 
-/// The text is one placeholder with these parts.
-fn check_placeholder(
-    rt: &(impl Abort + AllocGlobal),
-    text: &str,
-    name: &str,
-    alias: &str,
-    extract: &str,
-    definition: &str,
-) -> Result<(), Fail> {
+/// The text is one placeholder with the parts of the row.
+fn check_placeholder(rt: &(impl Abort + AllocGlobal), row: &Placeholder) -> Result<(), Fail> {
     let expected = format!(in rt.alloc();
-        "0..{} {text} name={name} alias={alias} extract={extract} definition={definition}\n",
-        text.len()
+        "0..{} {} name={} alias={} extract={} definition={}\n",
+        row.text.len(),
+        row.text,
+        row.name,
+        row.alias,
+        row.extract,
+        row.definition
     )?;
-    check_rows(rt, text, expected.as_str())
+    check_rows(rt, row.shows, row.text, expected.as_str())
 }
 
 #[test]
 fn legal_placeholders(rt: HostRuntime) -> Result<(), Fail> {
-    for (text, name, alias, extract, definition) in [
-        ("%{name}", "name", "", "", ""),
-        ("%{name:name}", "name", "name", "", ""),
-        ("%{name:name:name}", "name", "name", "name", ""),
-        ("%{name::name}", "name", "", "name", ""),
-        ("%{name=defn}", "name", "", "", "defn"),
-        ("%{name:name=defn}", "name", "name", "", "defn"),
-        ("%{name:name:name=defn}", "name", "name", "name", "defn"),
-        ("%{name:name[x]}", "name", "name[x]", "", ""),
-        ("%{name:name[x]:name[y]}", "name", "name[x]", "name[y]", ""),
-    ] {
-        check_placeholder(&rt, text, name, alias, extract, definition)?;
+    for row in LEGAL {
+        check_placeholder(&rt, row)?;
     }
     Ok(())
 }
 
 #[test]
 fn illegal_placeholders(rt: HostRuntime) {
-    for (text, fault) in [
-        ("%{name", InvalidPattern),
-        ("%{name=", InvalidPatternDefinition),
-        ("%{name=}", InvalidPatternDefinition),
-        ("%{name=a", InvalidPatternDefinition),
-        ("%{name:", InvalidPattern),
-        ("%{name:}", InvalidPatternDefinition),
-        ("%{name:a", InvalidPattern),
-        ("%{name:a:b", InvalidPattern),
-        ("%{name::", InvalidPattern),
-        ("%{name::b", InvalidPattern),
-        ("%{name:a:}", InvalidPatternDefinition),
-        ("%{name::}", InvalidPatternDefinition),
-        ("%{na.me:a:b}", InvalidCharacter('.')),
-        ("%{name:a:b:c}", InvalidPattern),
-        ("%{name:a:b:c:d}", InvalidPattern),
-        ("%{a b}", InvalidCharacter(' ')),
-        ("%{name:=x}", InvalidPatternDefinition),
-        ("%{name:a:=x}", InvalidPatternDefinition),
-        ("%{!}", InvalidCharacter('!')),
-        ("%{name::", InvalidPattern),
-        ("%{name::}", InvalidPatternDefinition),
-        ("%{name:a:b:c}", InvalidPattern),
-        ("%{name:a:b:c!", InvalidCharacter('!')),
-        ("%{}", InvalidPattern),
-        ("%{né}", InvalidCharacter('é')),
-        ("%{N=a{2}}", InvalidPatternDefinition),
-    ] {
-        let is_right = only_fault(text) == Some(fault);
-        assert!(rt; is_right, "at {text}");
+    for row in ILLEGAL {
+        let is_right = only_fault(row.text) == Some(row.fault);
+        assert!(rt; is_right, "{}", row.name);
     }
 }
 
@@ -182,87 +488,53 @@ fn debugged(alloc: Global, text: &str) -> Result<String, AllocError> {
 }
 
 /// The pieces of the text are displayed so.
-fn check_display(rt: &(impl Abort + AllocGlobal), text: &str, expected: &str) -> Result<(), Fail> {
+fn check_display(
+    rt: &(impl Abort + AllocGlobal),
+    name: &str,
+    text: &str,
+    expected: &str,
+) -> Result<(), Fail> {
     let given = displayed(rt.alloc(), text)?;
-    assert_eq!(rt; given.as_str(), expected);
+    assert_eq!(rt; given.as_str(), expected, "{name}");
     Ok(())
 }
 
 /// The pieces of the text have this debug text.
-fn check_debug(rt: &(impl Abort + AllocGlobal), text: &str, expected: &str) -> Result<(), Fail> {
+fn check_debug(
+    rt: &(impl Abort + AllocGlobal),
+    name: &str,
+    text: &str,
+    expected: &str,
+) -> Result<(), Fail> {
     let given = debugged(rt.alloc(), text)?;
-    assert_eq!(rt; given.as_str(), expected);
+    assert_eq!(rt; given.as_str(), expected, "{name}");
     Ok(())
 }
 
 #[test]
 fn shown_pieces(rt: HostRuntime) -> Result<(), Fail> {
-    for (text, display, debug) in [
-        (
-            "Hello, %{name}!",
-            "Hello, \n%{name}\n!\n",
-            "\"Hello, \"\n%{ name=\"name\" alias=\"\" capture=\"\" definition=\"\" }\n\"!\"\n",
-        ),
-        (
-            r#"%{n:a[1]:x=it's "\"}"#,
-            "%{n:a[1]:x=it's \"\\\"}\n",
-            "%{ name=\"n\" alias=\"a[1]\" capture=\"x\" definition=\"it's \\\"\\\\\\\"\" }\n",
-        ),
-        ("é\t", "é\t\n", "\"é\\t\"\n"),
-        (
-            "%{a!",
-            "<error InvalidCharacter('!')>\n",
-            "<error InvalidCharacter('!')>\n",
-        ),
-        (
-            "%{a",
-            "<error InvalidPattern>\n",
-            "<error InvalidPattern>\n",
-        ),
-        (
-            "%{a=}",
-            "<error InvalidPatternDefinition>\n",
-            "<error InvalidPatternDefinition>\n",
-        ),
-    ] {
-        check_display(&rt, text, display)?;
-        check_debug(&rt, text, debug)?;
+    for row in SHOWN {
+        check_display(&rt, row.name, row.text, row.display)?;
+        check_debug(&rt, row.name, row.text, row.debug)?;
     }
     Ok(())
 }
 
 /// A fault is shown the same in both ways.
-fn check_shown_fault(rt: &(impl Abort + AllocGlobal), text: &str, debug: &str) -> Result<(), Fail> {
-    let line = format!(in rt.alloc(); "{debug}\n")?;
-    check_display(rt, text, line.as_str())?;
-    check_debug(rt, text, line.as_str())
+fn check_shown_fault(rt: &(impl Abort + AllocGlobal), row: &OddCharacter) -> Result<(), Fail> {
+    let line = format!(in rt.alloc(); "{}\n", row.fault)?;
+    check_display(rt, row.name, row.text, line.as_str())?;
+    check_debug(rt, row.name, row.text, line.as_str())
 }
 
 /// Rust's debug text of each character, within the name of the fault.
 #[test]
 fn odd_characters(rt: HostRuntime) -> Result<(), Fail> {
-    for (text, debug) in [
-        ("%{'}", r"<error InvalidCharacter('\'')>"),
-        ("%{\"}", "<error InvalidCharacter('\"')>"),
-        ("%{\\}", r"<error InvalidCharacter('\\')>"),
-        ("%{\n}", r"<error InvalidCharacter('\n')>"),
-        ("%{\0}", r"<error InvalidCharacter('\0')>"),
-        ("%{\u{7f}}", r"<error InvalidCharacter('\u{7f}')>"),
-        ("%{ñ}", "<error InvalidCharacter('ñ')>"),
-        ("%{\u{301}}", r"<error InvalidCharacter('\u{301}')>"),
-        ("%{\u{200b}}", r"<error InvalidCharacter('\u{200b}')>"),
-        ("%{😀}", "<error InvalidCharacter('😀')>"),
-    ] {
-        check_shown_fault(&rt, text, debug)?;
+    for row in ODD_CHARACTERS {
+        check_shown_fault(&rt, row)?;
     }
     Ok(())
 }
-
-const VIEWS: &str =
-    r"(?:\(Views: %{NUMBER:viewms}ms \| ActiveRecord: %{NUMBER:activerecordms}ms|\(ActiveRecord: %{NUMBER:activerecordms}ms)?";
-
-const QUERIES: &str =
-    r"%{NUMBER:ts}\t%{NOTSPACE:uid}\t%{IP:orig_h}\t%{INT:orig_p}\t%{IP:resp_h}\t%{INT:resp_p}\t%{WORD:proto}\t%{INT:trans_id}\t%{GREEDYDATA:query}\t%{GREEDYDATA:qclass}\t%{GREEDYDATA:qclass_name}\t%{GREEDYDATA:qtype}\t%{GREEDYDATA:qtype_name}\t%{GREEDYDATA:rcode}\t%{GREEDYDATA:rcode_name}\t%{GREEDYDATA:AA}\t%{GREEDYDATA:TC}\t%{GREEDYDATA:RD}\t%{GREEDYDATA:RA}\t%{GREEDYDATA:Z}\t%{GREEDYDATA:answers}\t%{GREEDYDATA:TTLs}\t%{GREEDYDATA:rejected}";
 
 /// The text has no fault, and its pieces are its parts in their order.
 fn check_joined(rt: &(impl Abort + AllocGlobal), text: &str) -> Result<(), Fail> {
@@ -296,7 +568,12 @@ fn rows_of_views(alloc: Global) -> Result<String, AllocError> {
 #[test]
 fn real_grok_patterns(rt: HostRuntime) -> Result<(), Fail> {
     let expected = rows_of_views(rt.alloc())?;
-    check_rows(&rt, VIEWS, expected.as_str())?;
+    check_rows(
+        &rt,
+        "a pattern for times of views",
+        VIEWS,
+        expected.as_str(),
+    )?;
     check_joined(&rt, VIEWS)?;
     check_joined(&rt, QUERIES)
 }

@@ -1,11 +1,9 @@
 //! An engine with group 0 alone.
-ghost use Rattle.std.specs.Prelude.{◌≡◌, [], ◌∷◌, None, Some, length, slice_get, string_bytes};
-ghost use Rattle.grok_match.specs.Captures.{name_texts};
+ghost use Rattle.std.specs.Prelude.{◌≡◌, length, string_bytes};
+ghost use Rattle.grok.specs.Captures.{name_texts};
 ghost use Rattle.grok_engines.specs.Wholes.{whole_line};
-ghost use Rattle.std.proofs.Common.{sym, ◌∙◌};
-ghost use Rattle.std.proofs.lemmas.List.{length-map};
 
-use grok_match::{Engine, Refusal};
+use grok::{Engine, Refusal};
 use std::alloc::{AllocError, Global};
 
 /// Takes every text, has group 0 alone, and finds each line whole. Its `build` keeps the text and
@@ -15,7 +13,6 @@ pub struct Bare {
     text: String,
     names: [Option<String>; 1],
     ghost one: { length names ≡ 1 },
-    ghost unnamed: { slice_get (name_texts names) 0 ≡ Some None },
 }
 
 impl Engine for Bare {
@@ -26,10 +23,6 @@ impl Engine for Bare {
     ghost answer_to = { λ _. whole_line };
 
     ghost may_refuse = { λ _. ⊥ };
-
-    ghost as_many = { λ engine _. sym (length-map engine.names _ ∙ engine.one) };
-
-    ghost whole_has_no_name = { λ engine. engine.unnamed };
 
     fn build(alloc: Global, text: &str) -> Result<Bare, Refusal> {
         match String::from_str(alloc, text) {

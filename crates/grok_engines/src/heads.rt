@@ -1,12 +1,12 @@
 //! An engine that reads the names of groups, and nothing else.
-ghost use Rattle.std.specs.Prelude.{◌≡◌, ℕ, List, None, Some, length, slice_get, string_bytes, option_map, IfOk, IfSome};
-ghost use Rattle.grok_match.specs.Captures.{name_texts, text_of, IsSliceOf};
+ghost use Rattle.std.specs.Prelude.{◌≡◌, length, vec_len, map, string_bytes, option_map, IfOk, IfSome, OnOk};
+ghost use Rattle.std.specs.List.{range_with_len};
+ghost use Rattle.std.specs.Option.{ForSome};
+ghost use Rattle.grok.specs.Captures.{name_texts, text_of, IsSliceOf};
+ghost use Rattle.grok.specs.Locations.{IsLocationIn, AreLocationsIn, located_text, located_texts};
 ghost use Rattle.grok_engines.specs.Wholes.{line_at, whole_at_odd};
-ghost use Rattle.std.proofs.Common.{sym, ◌∙◌};
-ghost use Rattle.std.proofs.lemmas.List.{length-map};
-ghost use Rattle.std.proofs.lemmas.List.FromFn.{length-map-range_with_len};
 
-use grok_match::{Engine, KeepsSearch, Refusal, Search};
+use grok::{Engine, EngineMatcher, HasMatcher, Refusal};
 use std::alloc::{AllocError, Global};
 
 /// Takes every text. Its names are those between `(?<` and `>`, from left to right. It finds each
@@ -15,7 +15,6 @@ use std::alloc::{AllocError, Global};
 pub struct Heads {
     text: String,
     names: Vec<Option<String>>,
-    ghost unnamed: { slice_get (name_texts names.items) 0 ≡ Some None },
 }
 
 impl Engine for Heads {
@@ -26,10 +25,6 @@ impl Engine for Heads {
     ghost answer_to = { λ engine. whole_at_odd (length engine.names.items) };
 
     ghost may_refuse = { λ _. ⊥ };
-
-    ghost as_many = { λ engine line. length-map-range_with_len (line_at line) 0 (length engine.names.items) ∙ sym (length-map engine.names.items _) };
-
-    ghost whole_has_no_name = { λ engine. engine.unnamed };
 
     fn build(alloc: Global, text: &str) -> Result<Heads, Refusal> {
         match read_heads(alloc, text) {
@@ -73,6 +68,37 @@ fn whole_at(line: &str, place: usize) -> Option<&str>
     }
 }
 
+/// Where the whole line stands, at place 0 and at each odd place, and nothing at the others.
+#[tactic(auto, using(crate::proofs::WholeLines::whole_place, crate::proofs::WholeLines::whole_text))]
+fn location_at(line: &str, place: usize) -> Option<(usize, usize)>
+    ensures text { option_map (located_text line.now) result ≡ line_at line.now place }
+    ensures inside { ForSome result (IsLocationIn line.now) }
+{
+    if place == 0 || place % 2 == 1 {
+        Some((0, line.len()))
+    } else {
+        None
+    }
+}
+
+/// Writes where so many groups stand in the line, in the place of what the list has.
+fn write_locations(
+    locations: &mut Vec<Option<(usize, usize)>>,
+    line: &str,
+    count: usize,
+) -> Result<(), AllocError>
+    ensures texts { OnOk result (located_texts line.now locations.new.items
+        ≡ map (line_at line.now) (range_with_len 0 count)) }
+    ensures count { OnOk result (vec_len locations.new ≡ count) }
+    ensures inside { OnOk result (AreLocationsIn line.now locations.new.items) }
+{
+    locations.clear();
+    'places: for place in 0..count {
+        locations.push(location_at(line, place))?;
+    }
+    Ok(())
+}
+
 /// What stands between the first `(?<` and the next `>`, and what stands after that.
 fn split_head(text: &str) -> Option<(&str, &str)> {
     let (_, head) = text.split_once("(?<")?;
@@ -106,14 +132,14 @@ fn read_heads(alloc: Global, text: &str) -> Result<Heads, AllocError>
 
 /// A search that asks its engine for each line.
 #[derive(Drop)]
-pub struct HeadsSearch<'e> {
+pub struct HeadsMatcher<'e> {
     engine: &'e Heads,
 }
 
-impl<'e> Search for HeadsSearch<'e> {
-    ghost finds = { λ search. whole_at_odd (length search.engine.now.names.items) };
+impl<'e> EngineMatcher for HeadsMatcher<'e> {
+    ghost finds = { λ matcher. whole_at_odd (length matcher.engine.now.names.items) };
 
-    ghost group_count = { λ search. length search.engine.now.names.items };
+    ghost group_count = { λ matcher. length matcher.engine.now.names.items };
 
     fn captures<'t>(
         &mut self,
@@ -122,12 +148,21 @@ impl<'e> Search for HeadsSearch<'e> {
     ) -> Result<Option<Vec<Option<&'t str>>>, AllocError> {
         self.engine.captures(alloc, line)
     }
+
+    fn captures_read(
+        &mut self,
+        locations: &mut Vec<Option<(usize, usize)>>,
+        line: &str,
+    ) -> Result<bool, AllocError> {
+        write_locations(locations, line, self.engine.names.len())?;
+        Ok(true)
+    }
 }
 
-impl<'e> KeepsSearch<'e> for Heads {
-    type Kept = HeadsSearch<'e>;
+impl<'e> HasMatcher<'e> for Heads {
+    type Matcher = HeadsMatcher<'e>;
 
-    fn search(&'e self, _alloc: Global) -> Result<HeadsSearch<'e>, AllocError> {
-        Ok(HeadsSearch { engine: self })
+    fn matcher(&'e self, _alloc: Global) -> Result<HeadsMatcher<'e>, AllocError> {
+        Ok(HeadsMatcher { engine: self })
     }
 }

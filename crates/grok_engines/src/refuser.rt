@@ -1,9 +1,6 @@
 //! An engine that refuses.
-ghost use Rattle.std.proofs.Common.{sym, ◌∙◌};
-ghost use Rattle.std.proofs.lemmas.List.{length-map};
-
 use crate::bare::Bare;
-use grok_match::{Engine, Refusal};
+use grok::{Engine, Refusal};
 use std::alloc::{AllocError, Global};
 
 /// Refuses every text. No value of it is ever made; it would answer as `Bare` does.
@@ -20,10 +17,6 @@ impl Engine for Refuser {
     ghost answer_to = { λ engine. ⟦<Bare as Engine>⟧.answer_to engine.bare };
 
     ghost may_refuse = { λ _. Unit {0} };
-
-    ghost as_many = { λ engine _. sym (length-map engine.bare.names _ ∙ engine.bare.one) };
-
-    ghost whole_has_no_name = { λ engine. engine.bare.unnamed };
 
     fn build(_alloc: Global, _text: &str) -> Result<Refuser, Refusal> {
         Err(Refusal::Refused)

@@ -1,5 +1,5 @@
 use crate::{Bare, Heads, Refuser};
-use grok_match::{Engine, KeepsSearch, Refusal, Search};
+use grok::{Engine, EngineMatcher, HasMatcher, Refusal};
 use std::test::Fail;
 
 #[test]
@@ -30,8 +30,8 @@ fn heads_reads_names(rt: HostRuntime) -> Result<(), Fail> {
             None => assert_eq!(rt; None, *want),
         }
     }
-    let mut search = engine.search(rt.alloc())?;
-    let Some(found) = search.captures(rt.alloc(), "line")? else {
+    let mut matcher = engine.matcher(rt.alloc())?;
+    let Some(found) = matcher.captures(rt.alloc(), "line")? else {
         return Err("no match")?;
     };
     assert_eq!(rt;

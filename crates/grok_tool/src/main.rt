@@ -1,17 +1,16 @@
 //! Splits, measures and matches patterns from the command line.
 #![tactic(auto)]
 
-mod prompt;
 #[cfg(test)]
 mod tests;
+mod tied;
 
-use grok_commands::{ToolFault, run};
-use prompt::{Outlet, PromptInput, PromptOutput};
+pub use grok_commands::{ToolFault, run};
 use std::alloc::Global;
-use std::cell::RefCell;
-use std::io::{BufWriter, ErrorKind, Write};
+use std::io::ErrorKind;
 use std::process::ExitCode;
 use std::{env, io};
+use tied::run_tied;
 
 /// Words that are no UTF-8 are a wrong use, and want of memory is itself.
 fn words_fault(error: io::Error) -> ToolFault {
@@ -22,7 +21,7 @@ fn words_fault(error: io::Error) -> ToolFault {
     }
 }
 
-/// Hands `run` the program's words, its input and its output.
+/// Runs the program's words on its input and its output.
 fn work(rt: &HostRuntime) -> Result<(), ToolFault> {
     let alloc = rt.alloc();
     let mut arguments: Vec<String> = Vec::new(alloc);
@@ -33,17 +32,7 @@ fn work(rt: &HostRuntime) -> Result<(), ToolFault> {
     for argument in &arguments {
         words.push(argument.as_str())?;
     }
-    let buffer = BufWriter::with_capacity(alloc, prompt::ROOM, io::writer(rt)).map_err(
-        |_| ToolFault::Memory,
-    )?;
-    let outlet = RefCell::new(Outlet::new(buffer));
-    let mut input = PromptInput::new(rt.stdin(), &outlet);
-    let mut output = PromptOutput::new(&outlet);
-    let result = run(alloc, &words, &mut input, &mut output);
-    // After a fault the answers that `run` gave still go out.
-    let flushed = output.flush();
-    result?;
-    flushed.map_err(|_| ToolFault::Write)
+    run_tied(alloc, &words, rt.stdin(), io::writer(rt))
 }
 
 fn main(rt: HostRuntime) -> ExitCode {

@@ -5,10 +5,11 @@ mod devices;
 mod failing;
 mod lines;
 mod outcome;
-mod prompt;
 mod sizes;
 mod splits;
+mod tied;
 
+use cases::{Run, UNREAD};
 use devices::{FakeReader, FakeWriter};
 use grok_commands::ToolFault;
 use outcome::{Ending, check_untouched, outcome_of};
@@ -28,27 +29,71 @@ const THE_TEN: &str = "CISCOMAC: length 50 groups 1 nesting 1\n\
     YEAR: length 20 groups 1 nesting 1\n";
 
 /// Words that are no command.
-const MISUSES: [&[&str]; 12] = [
-    &[],
-    &[""],
-    &["-a"],
-    &["split"],
-    &["split", "a", "b"],
-    &["spli", "x"],
-    &["measure"],
-    &["match", "-a"],
-    &["match", "x", "A"],
-    &["json", "-a"],
-    &["json", "-a", "x", "A=a", "B"],
-    &["check", "x"],
+const MISUSES: &[Run] = &[
+    UNREAD,
+    Run {
+        name: "an empty word",
+        words: &[""],
+        ..UNREAD
+    },
+    Run {
+        name: "the mode alone",
+        words: &["-a"],
+        ..UNREAD
+    },
+    Run {
+        name: "split without a pattern",
+        words: &["split"],
+        ..UNREAD
+    },
+    Run {
+        name: "split with two patterns",
+        words: &["split", "a", "b"],
+        ..UNREAD
+    },
+    Run {
+        name: "no command",
+        words: &["spli", "x"],
+        ..UNREAD
+    },
+    Run {
+        name: "measure without a pattern",
+        words: &["measure"],
+        ..UNREAD
+    },
+    Run {
+        name: "match with the mode in place of a pattern",
+        words: &["match", "-a"],
+        ..UNREAD
+    },
+    Run {
+        name: "match with a definition without an equals sign",
+        words: &["match", "x", "A"],
+        ..UNREAD
+    },
+    Run {
+        name: "json with the mode in place of a pattern",
+        words: &["json", "-a"],
+        ..UNREAD
+    },
+    Run {
+        name: "json with a second definition without an equals sign",
+        words: &["json", "-a", "x", "A=a", "B"],
+        ..UNREAD
+    },
+    Run {
+        name: "check with a pattern",
+        words: &["check", "x"],
+        ..UNREAD
+    },
 ];
 
 #[test]
 fn wrong_words(rt: HostRuntime) -> Result<(), Fail> {
-    for words in MISUSES {
-        let reader = FakeReader::new(b"left alone");
-        let outcome = outcome_of(&rt, words, reader, FakeWriter::new(rt.alloc()), "");
-        check_untouched(&rt, words, outcome, Ending::Usage, b"left alone");
+    for row in MISUSES {
+        let reader = FakeReader::new(row.input);
+        let outcome = outcome_of(&rt, row.words, reader, FakeWriter::new(rt.alloc()), "");
+        check_untouched(&rt, row, outcome, Ending::Usage);
     }
     Ok(())
 }

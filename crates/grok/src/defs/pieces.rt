@@ -1,11 +1,11 @@
 //! The pieces of a text, from a split or from spans.
 ghost use Rattle.std.specs.Prelude.{◌≡◌};
-ghost use Rattle.grok_parser.specs.Pieces.{pieces};
-ghost use Rattle.grok_parser.specs.Views.{piece_view};
+ghost use Rattle.grok.specs.Pieces.{pieces};
+ghost use Rattle.grok.specs.Views.{piece_view};
 
+use crate::defs::definition::Definition;
 use crate::defs::spans::{Span, read_span};
-use crate::defs::stored::Stored;
-use grok_parser::{GrokComponent, GrokSplit, grok_split};
+use crate::parser::{GrokComponent, GrokSplit, grok_split};
 use std::marker::Model;
 
 /// Where pieces come from.
@@ -24,7 +24,7 @@ pub(crate) struct Pieces<'a> {
 // Contracts see the pieces that are left.
 impl<'a> Model for Pieces<'a> {
     ghost use Rattle.std.specs.Prelude.{List};
-    ghost use Rattle.grok_parser.specs.Pieces.{Piece};
+    ghost use Rattle.grok.specs.Pieces.{Piece};
 
     ghost Value = { List Piece };
 
@@ -45,7 +45,7 @@ pub(crate) fn pieces_of<'a>(text: &'a str) -> Pieces<'a>
 }
 
 /// The pieces of a text that was split before.
-pub(crate) fn pieces_kept<'a>(stored: &'a Stored) -> Pieces<'a>
+pub(crate) fn pieces_kept<'a>(stored: &'a Definition) -> Pieces<'a>
     ensures { result ≡ pieces stored.now }
 {
     Pieces {

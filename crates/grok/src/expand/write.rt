@@ -1,20 +1,17 @@
 //! Writes the text of a tree that has no structural fault.
-
-ghost use Rattle.std.specs.Prelude.{◌≡◌, ◌+◌, ◌<◌, ◌≤◌, ◌^◌, List, [], ◌∷◌, ◌++◌, length, IfOk, OnOk, if◌then◌else◌, true, None};
+ghost use Rattle.std.specs.Prelude.{◌≡◌, ◌+◌, ◌<◌, ◌≤◌, ◌^◌, List, [], ◌∷◌, ◌++◌, length, IfOk, if◌then◌else◌, true, None};
 ghost use Rattle.std.specs.String.{string_bytes, string_len, string_capacity};
 ghost use Rattle.std.specs.FinMap as finite;
-ghost use Rattle.grok.specs.Tree as tree;
-ghost use Rattle.grok.specs.Tree.{items_of, inside, events, first_structural, tree as tree_of};
+ghost use Rattle.grok.specs.Tree.{first_structural, tree as tree_of};
+ghost use Rattle.grok.specs.Events.{event_view};
 ghost use Rattle.grok.specs.Expanded.{expanded};
-ghost use Rattle.grok.specs.Items.{label_view, meaning_view, item_view};
 ghost use Rattle.grok.specs.Writes.{head_of, IsReady, Wrote};
 
 use crate::defs::Grok;
-use crate::expand::walk::items_inside;
-use crate::items::{Item, Items, Label, Meaning};
-use crate::structural::LEVELS;
+use crate::expand::events::{Event, Events};
+use crate::generated_name::{CLOSE, NAME_END, NAME_START, NAMED, UNNAMED};
 use itoa::Buffer;
-use std::alloc::{AllocError, Global};
+use std::alloc::AllocError;
 
 /// The text so far, and how many groups it has.
 #[derive(Drop)]
@@ -42,108 +39,64 @@ fn put_numbered(out: &mut String, number: usize)
     ensures capacity { string_capacity out.old ≤ string_capacity out.new }
 {
     let mut buffer = Buffer::new();
-    put(out, "(?<_n_");
+    put(out, NAMED);
+    put(out, NAME_START);
     put(out, buffer.format(number));
-    put(out, ">");
+    put(out, NAME_END);
 }
 
-/// Writes the head of an open.
-fn put_head(out: &mut Output, is_recorded: bool)
-    requires room { string_len out.old.text + length (head_of is_recorded out.old.groups) ≤ string_capacity out.old.text }
-    requires fits { out.old.groups + (if is_recorded then 1 else 0) < 2 ^ 64 }
-    ensures text { string_bytes out.new.text ≡ string_bytes out.old.text ++ head_of is_recorded out.old.groups }
-    ensures groups { out.new.groups ≡ out.old.groups + (if is_recorded then 1 else 0) }
-    ensures capacity { string_capacity out.old.text ≤ string_capacity out.new.text }
-{
-    if is_recorded {
-        put_numbered(&mut out.text, out.groups);
-        out.groups += 1;
-    } else {
-        put(&mut out.text, "(?:");
-    }
-}
-
-/// Writes what a placeholder opens, where so many more levels are allowed.
-#[cycle(write)]
-fn write_opening<'a>(
-    alloc: Global,
-    grok: &'a Grok,
-    label: Label<'a>,
-    meaning: Meaning<'a>,
-    levels: usize,
-    alias_only: bool,
-    out: &mut Output,
-) -> Result<(), AllocError>
-    requires { IsReady alias_only (events (inside (items_of (finite.get grok.now)) levels) (tree.Opening (label_view label) (meaning_view meaning) ∷ [])) out.old }
-    ensures { OnOk result (Wrote alias_only (events (inside (items_of (finite.get grok.now)) levels) (tree.Opening (label_view label.entry) (meaning_view meaning.entry) ∷ [])) out.old out.new) }
-{
-    put_head(out, label.is_recorded(alias_only));
-    let inner = items_inside(alloc, grok, meaning);
-    // A clean tree opens nothing where no level is left.
-    write_items(alloc, grok, inner, levels - 1, alias_only, out)?;
-    put(&mut out.text, ")");
-    Ok(())
-}
-
-/// Writes an item of a text.
-#[cycle(write)]
-fn write_item<'a>(
-    alloc: Global,
-    grok: &'a Grok,
-    item: Item<'a>,
-    levels: usize,
-    alias_only: bool,
-    out: &mut Output,
-) -> Result<(), AllocError>
-    requires { IsReady alias_only (events (inside (items_of (finite.get grok.now)) levels) (item_view item ∷ [])) out.old }
-    ensures { OnOk result (Wrote alias_only (events (inside (items_of (finite.get grok.now)) levels) (item_view item.entry ∷ [])) out.old out.new) }
-{
-    match item {
-        Item::Bytes(text) => {
-            put(&mut out.text, text);
-            Ok(())
+impl Output {
+    /// Writes the head of an open.
+    fn write_head(&mut self, is_recorded: bool)
+        requires room { string_len self.old.text + length (head_of is_recorded self.old.groups) ≤
+            string_capacity self.old.text }
+        requires fits { self.old.groups + (if is_recorded then 1 else 0) < 2 ^ 64 }
+        ensures text { string_bytes self.new.text ≡
+            string_bytes self.old.text ++ head_of is_recorded self.old.groups }
+        ensures groups { self.new.groups ≡ self.old.groups + (if is_recorded then 1 else 0) }
+        ensures capacity { string_capacity self.old.text ≤ string_capacity self.new.text }
+    {
+        if is_recorded {
+            put_numbered(&mut self.text, self.groups);
+            self.groups += 1;
+        } else {
+            put(&mut self.text, UNNAMED);
         }
-        Item::Broken(_) => unreachable!(),
-        Item::Opening(label, meaning) => {
-            write_opening(alloc, grok, label, meaning, levels, alias_only, out)
+    }
+
+    /// Writes what an event stands for.
+    fn write_event(&mut self, event: Event<'_>, with_alias_only: bool)
+        requires { IsReady with_alias_only (event_view event ∷ []) self.old }
+        ensures { Wrote with_alias_only (event_view event.entry ∷ []) self.old self.new }
+    {
+        match event {
+            Event::Text(text) => put(&mut self.text, text),
+            Event::Open(label, _) => self.write_head(label.is_recorded(with_alias_only)),
+            Event::Close => put(&mut self.text, CLOSE),
+            Event::Fault(_) => unreachable!(),
         }
     }
 }
 
-/// Writes the items of a text that are left.
-#[cycle(write)]
-fn write_items<'a>(
-    alloc: Global,
-    grok: &'a Grok,
-    mut items: Items<'a>,
-    levels: usize,
-    alias_only: bool,
-    out: &mut Output,
-) -> Result<(), AllocError>
-    requires { IsReady alias_only (events (inside (items_of (finite.get grok.now)) levels) items) out.old }
-    ensures { OnOk result (Wrote alias_only (events (inside (items_of (finite.get grok.now)) levels) items.entry) out.old out.new) }
-{
-    'items: while let Some(item) = items.next()? {
-        write_item(alloc, grok, item, levels, alias_only, out)?;
-    }
-    Ok(())
-}
-
-/// The text of a pattern's tree, written into an empty text that has room for it. The tree has no structural fault.
-pub(crate) fn write<'a>(
-    alloc: Global,
-    grok: &'a Grok,
-    pattern: &'a str,
-    alias_only: bool,
+/// The text of a pattern's tree, written into an empty text that has room for it. The tree has no
+/// structural fault.
+pub(crate) fn write(
+    grok: &Grok,
+    pattern: &str,
+    with_alias_only: bool,
     text: String,
 ) -> Result<String, AllocError>
     requires clean { first_structural (tree_of (finite.get grok.now) pattern.now) ≡ None }
     requires empty { string_bytes text ≡ [] }
-    requires room { length (expanded alias_only (tree_of (finite.get grok.now) pattern.now)) ≤ string_capacity text }
-    ensures { IfOk result (λ text. string_bytes text ≡ expanded alias_only (tree_of (finite.get grok.now) pattern.now)) }
+    requires room { length (expanded with_alias_only (tree_of (finite.get grok.now) pattern.now)) ≤
+        string_capacity text }
+    ensures { IfOk result (λ text. string_bytes text ≡
+        expanded with_alias_only (tree_of (finite.get grok.now) pattern.now)) }
 {
-    let mut out = Output { text, groups: 0 };
-    let items = Items::of_text(alloc, grok, pattern);
-    write_items(alloc, grok, items, LEVELS, alias_only, &mut out)?;
-    Ok(out.text)
+    let mut output = Output { text, groups: 0 };
+    let mut events = Events::of_pattern(grok, pattern);
+    'events: while let Some(event) = events.next()? {
+        output.write_event(event, with_alias_only);
+    }
+    Ok(output.text)
 }

@@ -1,10 +1,13 @@
 //! Laws of keys, of first faults and of extracts.
-ghost use Rattle.grok.specs.Keys.{ClashNeedsBracket, KeysAreDistinct};
+ghost use Rattle.grok.specs.Keys.{EndsInNumberWhereNumbered, ClashNeedsNumber, KeysAreDistinct};
 ghost use Rattle.grok.specs.FirstFault.{FirstFaultIsFirst, ExtractIsLast};
 
-/// Laws of the keys that are given to the recorded opens of a tree: without an alias that ends in `]` there is no clash, and without a fault no two opens share a key.
+/// Laws of the keys that recorded opens of a tree are assigned: a key ends in a number in brackets
+/// exactly where it is a numbered one, without an alias that ends so there is no clash, and without
+/// a fault no two opens share a key.
 pub fn laws_of_keys()
-    ensures clash { ClashNeedsBracket }
+    ensures numbered { EndsInNumberWhereNumbered }
+    ensures clash { ClashNeedsNumber }
     ensures distinct { KeysAreDistinct }
 {}
 

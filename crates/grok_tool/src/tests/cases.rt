@@ -10,9 +10,29 @@ pub const KEYED: &str = "(?<k>[a-z]\\s?)";
 /// A line that matches, one that does not, and one that is not UTF-8 and that no line feed ends.
 pub const LINES: &[u8] = b"p\n#\n\xff";
 
+/// A run, and what comes of it.
+#[derive(Clone, Copy)]
+pub struct Run {
+    /// What the row shows.
+    pub name: &'static str,
+    pub words: &'static [&'static str],
+    pub input: &'static [u8],
+    /// What it writes, or what its fault says.
+    pub output: &'static str,
+}
+
+/// What a row has where it says nothing else: an input that is not read, and no output.
+pub const UNREAD: Run = Run {
+    name: "no words",
+    words: &[],
+    input: b"left alone",
+    output: "",
+};
+
 /// The words of a run on `LINES`, whether it reads these, how many answers it gives, and the answers.
 #[derive(Clone, Copy)]
 pub struct Case {
+    pub name: &'static str,
     pub words: &'static [&'static str],
     pub reads: bool,
     pub answers: usize,
@@ -29,30 +49,35 @@ impl Case {
 /// A case of each command.
 pub const CASES: [Case; 5] = [
     Case {
+        name: "pieces",
         words: &["split", "ab%%c"],
         reads: false,
         answers: 2,
         output: "ab\n%%c\n",
     },
     Case {
+        name: "a size",
         words: &["measure", "%{MAC}"],
         reads: false,
         answers: 1,
         output: "length 163 groups 4 nesting 2\n",
     },
     Case {
+        name: "answers to lines",
         words: &["match", KEYED],
         reads: true,
         answers: 3,
         output: "k=p\n\nno match\n\nnot UTF-8\n\n",
     },
     Case {
+        name: "answers to lines as JSON",
         words: &["json", KEYED],
         reads: true,
         answers: 3,
         output: "{\"k\":\"p\"}\nnull\nfalse\n",
     },
     Case {
+        name: "the sizes of the ten",
         words: &["check"],
         reads: false,
         answers: 10,
@@ -67,12 +92,11 @@ pub(crate) fn check_run<'a>(
     reader: FakeReader<'a>,
     writer: FakeWriter,
 ) -> Outcome<'a> {
-    let words = case.words;
-    let outcome = outcome_of(rt, words, reader, writer, case.output);
+    let outcome = outcome_of(rt, case.words, reader, writer, case.output);
     let left = if case.reads { b"".as_slice() } else { LINES };
     check_outcome(
         rt,
-        words,
+        case.name,
         outcome,
         Outcome {
             ending: Ending::Well,

@@ -30,10 +30,10 @@ fn check_widths(
     for (most_read, most_written) in WIDTHS {
         let mut reader = FakeReader::new(LINES);
         reader.most = most_read;
-        reader.interrupts = reader_interrupts;
+        reader.failing.interrupts = reader_interrupts;
         let mut writer = FakeWriter::new(rt.alloc());
         writer.most = most_written;
-        writer.interrupts = writer_interrupts;
+        writer.failing.interrupts = writer_interrupts;
         check_run(rt, case, reader, writer);
     }
 }
@@ -67,7 +67,7 @@ fn check_calls(
     let reads = if case.reads { reads } else { 0 };
     check_outcome(
         rt,
-        case.words,
+        case.name,
         outcome,
         Outcome {
             reads,
@@ -105,9 +105,9 @@ fn one_write_for_each_answer(rt: HostRuntime) -> Result<(), Fail> {
 fn interrupted_calls_are_made_again(rt: HostRuntime) -> Result<(), Fail> {
     for case in CASES {
         let mut reader = FakeReader::new(LINES);
-        reader.interrupts = true;
+        reader.failing.interrupts = true;
         let mut writer = FakeWriter::new(rt.alloc());
-        writer.interrupts = true;
+        writer.failing.interrupts = true;
         let outcome = check_run(&rt, &case, reader, writer);
         check_calls(&rt, outcome, &case, 4, case.answers.saturating_mul(2));
     }

@@ -4,16 +4,54 @@ use std::cell::RefCell;
 use std::io;
 use std::io::{ErrorKind, Read, Write};
 
-/// Whether a call gets through: each from the one numbered `bad` on fails, and where `interrupts` is set, every second
-/// one, the first among them, is interrupted.
-fn get_through(call: usize, bad: Option<usize>, interrupts: bool) -> io::Result<()> {
-    if bad.is_some_and(|bad| bad <= call) {
-        return Err(io::Error::from(ErrorKind::BrokenPipe));
+/// How the calls of a device fail: those from the one numbered `bad` on, up to the one numbered `good_again`, by a fault
+/// of this kind. Where `interrupts` is set, every second one, the first among them, is interrupted.
+#[derive(Clone, Copy)]
+pub struct Failing {
+    pub bad: Option<usize>,
+    pub good_again: usize,
+    pub kind: ErrorKind,
+    pub interrupts: bool,
+}
+
+impl Failing {
+    /// No call fails.
+    pub(crate) fn never() -> Failing {
+        Failing {
+            bad: None,
+            good_again: usize::MAX,
+            kind: ErrorKind::BrokenPipe,
+            interrupts: false,
+        }
     }
-    if interrupts && call % 2 == 0 {
-        return Err(io::Error::from(ErrorKind::Interrupted));
+
+    /// Each call fails from this one on.
+    pub(crate) fn since(bad: usize) -> Failing {
+        Failing {
+            bad: Some(bad),
+            ..Failing::never()
+        }
     }
-    Ok(())
+
+    /// This one call would block.
+    pub(crate) fn blocking_at(bad: usize) -> Failing {
+        Failing {
+            good_again: bad.saturating_add(1),
+            kind: ErrorKind::WouldBlock,
+            ..Failing::since(bad)
+        }
+    }
+
+    /// Whether a call gets through.
+    fn get_through(self, call: usize) -> io::Result<()> {
+        if call < self.good_again && self.bad.is_some_and(|bad| bad <= call) {
+            return Err(io::Error::from(self.kind));
+        }
+        if self.interrupts && call % 2 == 0 {
+            return Err(io::Error::from(ErrorKind::Interrupted));
+        }
+        Ok(())
+    }
 }
 
 /// Gives the bytes that it has left, at most `most` a call.
@@ -21,8 +59,7 @@ fn get_through(call: usize, bad: Option<usize>, interrupts: bool) -> io::Result<
 pub struct FakeReader<'a> {
     pub left: &'a [u8],
     pub most: usize,
-    pub bad: Option<usize>,
-    pub interrupts: bool,
+    pub failing: Failing,
     pub calls: usize,
 }
 
@@ -32,8 +69,7 @@ impl<'a> FakeReader<'a> {
         FakeReader {
             left,
             most: usize::MAX,
-            bad: None,
-            interrupts: false,
+            failing: Failing::never(),
             calls: 0,
         }
     }
@@ -43,7 +79,7 @@ impl Read for FakeReader<'_> {
     fn read(&mut self, buf: &mut [u8]) -> io::Result<usize> {
         let call = self.calls;
         self.calls = call.saturating_add(1);
-        get_through(call, self.bad, self.interrupts)?;
+        self.failing.get_through(call)?;
         let n = self.most.min(buf.len()).min(self.left.len());
         buf[..n].copy_from_slice(&self.left[..n]);
         self.left = &self.left[n..];
@@ -56,8 +92,7 @@ impl Read for FakeReader<'_> {
 pub struct FakeWriter {
     pub taken: Vec<u8>,
     pub most: usize,
-    pub bad: Option<usize>,
-    pub interrupts: bool,
+    pub failing: Failing,
     pub bad_flush: bool,
     pub calls: usize,
     pub flushes: usize,
@@ -69,8 +104,7 @@ impl FakeWriter {
         FakeWriter {
             taken: Vec::new(alloc),
             most: usize::MAX,
-            bad: None,
-            interrupts: false,
+            failing: Failing::never(),
             bad_flush: false,
             calls: 0,
             flushes: 0,
@@ -82,7 +116,7 @@ impl Write for FakeWriter {
     fn write(&mut self, buf: &[u8]) -> io::Result<usize> {
         let call = self.calls;
         self.calls = call.saturating_add(1);
-        get_through(call, self.bad, self.interrupts)?;
+        self.failing.get_through(call)?;
         let n = self.most.min(buf.len());
         self.taken.extend_from_slice(&buf[..n])?;
         Ok(n)

@@ -1,4 +1,5 @@
 //! What a run on a fake reader and a fake writer gives.
+use super::cases::Run;
 use super::devices::{FakeReader, FakeWriter};
 use grok_commands::{ToolFault, run};
 use std::alloc::{AllocError, Global};
@@ -43,7 +44,7 @@ pub(crate) fn outcome_at<'a>(
 }
 
 /// The kind of a fault.
-fn ending_at(fault: &ToolFault) -> Ending {
+pub(crate) fn ending_at(fault: &ToolFault) -> Ending {
     match fault {
         ToolFault::Pattern(_) => Ending::Pattern,
         ToolFault::Usage => Ending::Usage,
@@ -105,47 +106,44 @@ fn words_of_pattern(
     }
 }
 
-/// Runs words whose pattern is at fault: the fault says what is wanted, and comes before a device is called.
+/// Runs words whose pattern is at fault: the fault says what the row says, and comes before a device is called.
 pub(crate) fn check_pattern_fault(
     rt: &(impl Abort + AllocGlobal),
-    words: &[&str],
-    input: &[u8],
-    wanted: &str,
+    row: &Run,
 ) -> Result<(), AllocError> {
-    let mut reader = FakeReader::new(input);
+    let mut reader = FakeReader::new(row.input);
     let mut writer = FakeWriter::new(rt.alloc());
-    let said = words_of_pattern(rt.alloc(), words, &mut reader, &mut writer)?;
-    assert_eq!(rt; said.as_str(), wanted);
+    let said = words_of_pattern(rt.alloc(), row.words, &mut reader, &mut writer)?;
+    assert_eq!(rt; said.as_str(), row.output, "{}", row.name);
     let outcome = outcome_at(Ending::Pattern, &reader, &writer);
-    check_untouched(rt, words, outcome, Ending::Pattern, input);
+    check_untouched(rt, row, outcome, Ending::Pattern);
     Ok(())
 }
 
-/// The outcome of a run of these words is as wanted.
+/// The outcome of the run of this name is as wanted.
 pub(crate) fn check_outcome(
     rt: &(impl Abort + AllocGlobal),
-    words: &[&str],
+    name: &str,
     outcome: Outcome<'_>,
     wanted: Outcome<'_>,
 ) {
-    assert_eq!(rt; outcome, wanted, "{words:?}");
+    assert_eq!(rt; outcome, wanted, "{name}");
 }
 
-/// The run of the words ended so before a device was called.
+/// The run of the row ended so before a device was called.
 pub(crate) fn check_untouched(
     rt: &(impl Abort + AllocGlobal),
-    words: &[&str],
+    row: &Run,
     outcome: Outcome<'_>,
     ending: Ending,
-    input: &[u8],
 ) {
     let wanted = Outcome {
         ending,
-        left: input,
+        left: row.input,
         reads: 0,
         taken: 0,
         writes: 0,
         flushes: 0,
     };
-    check_outcome(rt, words, outcome, wanted);
+    check_outcome(rt, row.name, outcome, wanted);
 }

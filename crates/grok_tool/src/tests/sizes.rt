@@ -1,12 +1,169 @@
 //! Runs of `measure` and of `check`.
 use super::THE_TEN;
+use super::cases::{Run, UNREAD};
 use super::devices::{FakeReader, FakeWriter};
-use super::outcome::{
-    Ending, Outcome, check_outcome, check_pattern_fault, ending_of, outcome_at, outcome_of,
-};
+use super::outcome::{Ending, Outcome, check_outcome, check_pattern_fault, ending_of, outcome_at};
 use std::alloc::{AllocError, Global};
 use std::process::Abort;
 use std::test::Fail;
+
+/// Patterns, and the line of each.
+const SIZES: &[Run] = &[
+    Run {
+        name: "two placeholders",
+        words: &["measure", "%{A}%{A}", "A=a"],
+        output: "length 20 groups 2 nesting 1\n",
+        ..UNREAD
+    },
+    Run {
+        name: "two placeholders without an alias",
+        words: &["measure", "-a", "%{A}%{A}", "A=a"],
+        output: "length 10 groups 0 nesting 1\n",
+        ..UNREAD
+    },
+    Run {
+        name: "one placeholder with an alias and one without",
+        words: &["measure", "-a", "%{A:k}%{A}", "A=a"],
+        output: "length 15 groups 1 nesting 1\n",
+        ..UNREAD
+    },
+    Run {
+        name: "one of the ten",
+        words: &["measure", "%{MAC}"],
+        output: "length 163 groups 4 nesting 2\n",
+        ..UNREAD
+    },
+    Run {
+        name: "a definition in the text",
+        words: &["measure", "%{W=ab}"],
+        output: "length 11 groups 1 nesting 1\n",
+        ..UNREAD
+    },
+    Run {
+        name: "a letter of two bytes",
+        words: &["measure", "é%{A}", "A=a"],
+        output: "length 12 groups 1 nesting 1\n",
+        ..UNREAD
+    },
+    Run {
+        name: "the empty pattern",
+        words: &["measure", ""],
+        output: "length 0 groups 0 nesting 0\n",
+        ..UNREAD
+    },
+    Run {
+        name: "the word of the mode is a pattern behind the mode",
+        words: &["measure", "-a", "-a"],
+        output: "length 2 groups 0 nesting 0\n",
+        ..UNREAD
+    },
+    Run {
+        name: "the later definition of a name counts",
+        words: &["measure", "%{A}", "A=a", "A=bcd"],
+        output: "length 12 groups 1 nesting 1\n",
+        ..UNREAD
+    },
+    Run {
+        name: "a definition ends the name at its first equals sign",
+        words: &["measure", "%{A}", "A=b=c"],
+        output: "length 12 groups 1 nesting 1\n",
+        ..UNREAD
+    },
+    Run {
+        name: "an empty definition",
+        words: &["measure", "%{A}", "A="],
+        output: "length 9 groups 1 nesting 1\n",
+        ..UNREAD
+    },
+    Run {
+        name: "a definition in place of one of the ten",
+        words: &["measure", "%{DAY}", "DAY=x"],
+        output: "length 10 groups 1 nesting 1\n",
+        ..UNREAD
+    },
+];
+
+/// Patterns at fault, and what the fault says.
+const FAULTS: &[Run] = &[
+    Run {
+        name: "a missing definition",
+        words: &["measure", "%{nope}"],
+        output: "The given pattern definition name \"nope\" could not be found in the definition map",
+        ..UNREAD
+    },
+    Run {
+        name: "a circle",
+        words: &["measure", "%{A}", "A=%{A}"],
+        output: "Recursion while compiling reached the limit of 1024",
+        ..UNREAD
+    },
+    Run {
+        name: "a space in a name",
+        words: &["measure", "-a", "x%{a b}"],
+        output: "Something unexpected happened during the compilation phase: \"InvalidCharacter(' ')\"",
+        ..UNREAD
+    },
+    Run {
+        name: "a malformed definition",
+        words: &["measure", "%{BAD}", "BAD=%{"],
+        output: "Something unexpected happened during the compilation phase: \"InvalidPattern\"",
+        ..UNREAD
+    },
+    Run {
+        name: "a missing definition before a circle",
+        words: &["measure", "%{nope}%{A}", "A=%{A}"],
+        output: "The given pattern definition name \"nope\" could not be found in the definition map",
+        ..UNREAD
+    },
+];
+
+/// Checks of the ten, and the ten lines of each.
+const LISTS: &[Run] = &[
+    Run {
+        name: "the ten",
+        words: &["check"],
+        output: THE_TEN,
+        ..UNREAD
+    },
+    Run {
+        name: "the ten without aliases",
+        words: &["check", "-a"],
+        output: "CISCOMAC: length 45 groups 0 nesting 1\n\
+         COMMONMAC: length 44 groups 0 nesting 1\n\
+         DAY: length 99 groups 0 nesting 1\n\
+         MAC: length 143 groups 0 nesting 2\n\
+         MONTH: length 152 groups 0 nesting 1\n\
+         SPACE: length 7 groups 0 nesting 1\n\
+         USER: length 23 groups 0 nesting 2\n\
+         USERNAME: length 19 groups 0 nesting 1\n\
+         WINDOWSMAC: length 44 groups 0 nesting 1\n\
+         YEAR: length 15 groups 0 nesting 1\n",
+        ..UNREAD
+    },
+];
+
+/// Patterns over the doublings up to `D61`, and the line of each.
+const DOUBLED: &[Run] = &[
+    Run {
+        name: "a length that is a number",
+        words: &["measure", "-a", "%{D60}"],
+        output: "length 10376293541461622780 groups 0 nesting 61\n",
+        ..UNREAD
+    },
+    Run {
+        name: "a length past the greatest number",
+        words: &["measure", "-a", "%{D61}"],
+        output: "too long\n",
+        ..UNREAD
+    },
+];
+
+/// Lines among those of a list that has the doublings up to `D70`.
+const LONG_TEXTS: &[&str] = &[
+    "\nD0: length 5 groups 0 nesting 1\nD1: length 14 groups 0 nesting 2\nD10: ",
+    "\nD60: length 10376293541461622780 groups 0 nesting 61\nD61: too long\nD62: too long\n",
+    "\nD70: too long\nD8: ",
+];
 
 /// The words `D0=a`, and after it for each next number a word that doubles the one before.
 fn doublings(alloc: Global, last: u8) -> Result<Vec<String>, AllocError> {
@@ -33,18 +190,18 @@ fn with_doublings<'a>(
 }
 
 /// Runs words that succeed and read nothing, and gives what they write, in so many writes.
-fn written(rt: &(impl Abort + AllocGlobal), words: &[&str], writes: usize) -> Vec<u8> {
-    let mut reader = FakeReader::new(b"left alone");
+fn written(rt: &(impl Abort + AllocGlobal), name: &str, words: &[&str], writes: usize) -> Vec<u8> {
+    let mut reader = FakeReader::new(UNREAD.input);
     let mut writer = FakeWriter::new(rt.alloc());
     let ending = ending_of(rt.alloc(), words, &mut reader, &mut writer);
     let outcome = outcome_at(ending, &reader, &writer);
     check_outcome(
         rt,
-        words,
+        name,
         outcome,
         Outcome {
             ending: Ending::Well,
-            left: b"left alone",
+            left: UNREAD.input,
             reads: 0,
             writes,
             flushes: 1,
@@ -54,138 +211,48 @@ fn written(rt: &(impl Abort + AllocGlobal), words: &[&str], writes: usize) -> Ve
     writer.taken
 }
 
-/// Runs words that succeed and read nothing: they write this, in so many writes.
-fn check_written(rt: &(impl Abort + AllocGlobal), words: &[&str], writes: usize, wanted: &str) {
-    let taken = written(rt, words, writes);
-    assert_eq!(rt; taken.as_slice(), wanted.as_bytes(), "at {words:?}");
+/// Runs a row, with these words behind its own: it succeeds, reads nothing and writes its output, in so many writes.
+fn check_written(
+    rt: &(impl Abort + AllocGlobal),
+    row: &Run,
+    more: &[String],
+    writes: usize,
+) -> Result<(), AllocError> {
+    let words = with_doublings(rt.alloc(), row.words, more)?;
+    let taken = written(rt, row.name, &words, writes);
+    assert_eq!(rt; taken.as_slice(), row.output.as_bytes(), "{}", row.name);
+    Ok(())
 }
-
-/// The words of a run, and its line.
-const SIZES: [(&[&str], &str); 12] = [
-    (
-        &["measure", "%{A}%{A}", "A=a"],
-        "length 20 groups 2 nesting 1\n",
-    ),
-    (
-        &["measure", "-a", "%{A}%{A}", "A=a"],
-        "length 10 groups 0 nesting 1\n",
-    ),
-    (
-        &["measure", "-a", "%{A:k}%{A}", "A=a"],
-        "length 15 groups 1 nesting 1\n",
-    ),
-    (&["measure", "%{MAC}"], "length 163 groups 4 nesting 2\n"),
-    (&["measure", "%{W=ab}"], "length 11 groups 1 nesting 1\n"),
-    (
-        &["measure", "é%{A}", "A=a"],
-        "length 12 groups 1 nesting 1\n",
-    ),
-    (&["measure", ""], "length 0 groups 0 nesting 0\n"),
-    (&["measure", "-a", "-a"], "length 2 groups 0 nesting 0\n"),
-    (
-        &["measure", "%{A}", "A=a", "A=bcd"],
-        "length 12 groups 1 nesting 1\n",
-    ),
-    (
-        &["measure", "%{A}", "A=b=c"],
-        "length 12 groups 1 nesting 1\n",
-    ),
-    (&["measure", "%{A}", "A="], "length 9 groups 1 nesting 1\n"),
-    (
-        &["measure", "%{DAY}", "DAY=x"],
-        "length 10 groups 1 nesting 1\n",
-    ),
-];
 
 #[test]
 fn measure_prints_one_line(rt: HostRuntime) -> Result<(), Fail> {
-    for (words, want) in SIZES {
-        check_written(&rt, words, 1, want);
+    for row in SIZES {
+        check_written(&rt, row, &[], 1)?;
     }
     Ok(())
 }
-
-/// The words of a run, and what its fault says.
-const FAULTS: [(&[&str], &str); 5] = [
-    (
-        &["measure", "%{nope}"],
-        "The given pattern definition name \"nope\" could not be found in the definition map",
-    ),
-    (
-        &["measure", "%{A}", "A=%{A}"],
-        "Recursion while compiling reached the limit of 1024",
-    ),
-    (
-        &["measure", "-a", "x%{a b}"],
-        "Something unexpected happened during the compilation phase: \"InvalidCharacter(' ')\"",
-    ),
-    (
-        &["measure", "%{BAD}", "BAD=%{"],
-        "Something unexpected happened during the compilation phase: \"InvalidPattern\"",
-    ),
-    (
-        &["measure", "%{nope}%{A}", "A=%{A}"],
-        "The given pattern definition name \"nope\" could not be found in the definition map",
-    ),
-];
 
 #[test]
 fn measure_answers_a_fault_before_it_writes(rt: HostRuntime) -> Result<(), Fail> {
-    for (words, want) in FAULTS {
-        check_pattern_fault(&rt, words, b"left alone", want)?;
+    for row in FAULTS {
+        check_pattern_fault(&rt, row)?;
     }
-    Ok(())
-}
-
-/// Measures a pattern over the doublings: the line is as wanted.
-fn check_doubled(
-    rt: &(impl Abort + AllocGlobal),
-    doublings: &[String],
-    pattern: &str,
-    want: &str,
-) -> Result<(), AllocError> {
-    let words = with_doublings(rt.alloc(), &["measure", "-a", pattern], doublings)?;
-    check_written(rt, &words, 1, want);
     Ok(())
 }
 
 #[test]
 fn measure_of_a_text_past_the_limit(rt: HostRuntime) -> Result<(), Fail> {
     let doublings = doublings(rt.alloc(), 61)?;
-    for (pattern, want) in [
-        (
-            "%{D60}",
-            "length 10376293541461622780 groups 0 nesting 61\n",
-        ),
-        ("%{D61}", "too long\n"),
-    ] {
-        check_doubled(&rt, &doublings, pattern, want)?;
+    for row in DOUBLED {
+        check_written(&rt, row, &doublings, 1)?;
     }
     Ok(())
 }
 
-/// The words of a run, and its ten lines.
-const LISTS: [(&[&str], &str); 2] = [
-    (&["check"], THE_TEN),
-    (
-        &["check", "-a"],
-        "CISCOMAC: length 45 groups 0 nesting 1\n\
-         COMMONMAC: length 44 groups 0 nesting 1\n\
-         DAY: length 99 groups 0 nesting 1\n\
-         MAC: length 143 groups 0 nesting 2\n\
-         MONTH: length 152 groups 0 nesting 1\n\
-         SPACE: length 7 groups 0 nesting 1\n\
-         USER: length 23 groups 0 nesting 2\n\
-         USERNAME: length 19 groups 0 nesting 1\n\
-         WINDOWSMAC: length 44 groups 0 nesting 1\n\
-         YEAR: length 15 groups 0 nesting 1\n",
-    ),
-];
-
 #[test]
 fn check_lists_the_ten(rt: HostRuntime) -> Result<(), Fail> {
-    for (words, want) in LISTS {
-        check_written(&rt, words, 10, want);
+    for row in LISTS {
+        check_written(&rt, row, &[], 10)?;
     }
     Ok(())
 }
@@ -199,7 +266,7 @@ fn check_names_each_fault(rt: HostRuntime) -> Result<(), Fail> {
         CISCOMAC: length 50 groups 1 nesting 1\n";
     let last = "YEAR: length 20 groups 1 nesting 1\n\
         a-b: Something unexpected happened during the compilation phase: \"InvalidCharacter('-')\"\n";
-    let list = written(&rt, &words, 14);
+    let list = written(&rt, "each fault by its name", &words, 14);
     assert!(rt; list.starts_with(first.as_bytes()));
     assert!(rt; list.ends_with(last.as_bytes()));
     Ok(())
@@ -213,53 +280,19 @@ fn check_names_a_definition_once(rt: HostRuntime) -> Result<(), Fail> {
         COMMONMAC: length 49 groups 1 nesting 1\n\
         DAY: length 10 groups 1 nesting 1\n\
         MAC: length 163 groups 4 nesting 2\n";
-    let list = written(&rt, &words, 11);
+    let list = written(&rt, "a definition once", &words, 11);
     assert!(rt; list.starts_with(first.as_bytes()));
     Ok(())
 }
-
-/// Lines among those of a list that has the doublings up to `D70`.
-const LONG_TEXTS: [&str; 3] = [
-    "\nD0: length 5 groups 0 nesting 1\nD1: length 14 groups 0 nesting 2\nD10: ",
-    "\nD60: length 10376293541461622780 groups 0 nesting 61\nD61: too long\nD62: too long\n",
-    "\nD70: too long\nD8: ",
-];
 
 #[test]
 fn check_of_long_texts_ends_at_once(rt: HostRuntime) -> Result<(), Fail> {
     let doublings = doublings(rt.alloc(), 70)?;
     let words = with_doublings(rt.alloc(), &["check", "-a"], &doublings)?;
-    let list = written(&rt, &words, 81);
+    let list = written(&rt, "long texts", &words, 81);
     let text = str::from_utf8(&list).unwrap_or("");
     for line in LONG_TEXTS {
         assert!(rt; text.contains(line), "at {line}");
-    }
-    Ok(())
-}
-
-/// Runs the words on a writer whose call `bad` fails: they answer that, and neither write nor flush any more.
-fn check_failed_write(rt: &(impl Abort + AllocGlobal), words: &[&str], bad: usize, whole: &str) {
-    let mut writer = FakeWriter::new(rt.alloc());
-    writer.bad = Some(bad);
-    let outcome = outcome_of(rt, words, FakeReader::new(b""), writer, whole);
-    check_outcome(
-        rt,
-        words,
-        outcome,
-        Outcome {
-            ending: Ending::Write,
-            writes: bad.saturating_add(1),
-            flushes: 0,
-            ..outcome
-        },
-    );
-}
-
-#[test]
-fn a_failed_write_of_a_size(rt: HostRuntime) -> Result<(), Fail> {
-    check_failed_write(&rt, &["measure", "a"], 0, "");
-    for bad in 0..10 {
-        check_failed_write(&rt, &["check"], bad, THE_TEN);
     }
     Ok(())
 }

@@ -1,9 +1,9 @@
 use Rattle.std.proofs.Common.{rules, string_bytes}
 use Rattle.std.specs.Io.KnownBytes.{Appends}
-use Rattle.grok_parser.specs.Pieces.{pieces}
-use Rattle.grok_parser.specs.Views.{piece_view}
+use Rattle.grok.specs.Pieces.{pieces}
+use Rattle.grok.specs.Views.{piece_view}
 use Rattle.grok_commands.specs.Split.{IsPieceLine}
-use Rattle.grok_lines.proofs.Answering.{answered_step}
+use Rattle.grok_commands.proofs.Answering.{answered_step}
 use Rattle.grok_commands.proofs.split.split.Goals as goal
 
 pub pieces-preserved : goal.pieces-preserved

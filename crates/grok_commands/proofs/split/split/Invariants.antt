@@ -1,6 +1,6 @@
-use Rattle.grok_parser.specs.Pieces.{pieces}
+use Rattle.grok.specs.Pieces.{pieces}
 use Rattle.grok_commands.specs.Split.{IsPieceLine}
-use Rattle.grok_lines.specs.Progress.{Answered}
+use Rattle.grok_commands.proofs.Answering.{Answered}
 use Rattle.grok_commands.proofs.split.split.Given as goal
 
 abbrev pub invariant-pieces : goal.invariant-pieces

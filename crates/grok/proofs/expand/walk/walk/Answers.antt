@@ -1,22 +1,33 @@
-use Rattle.std.proofs.Common.{[], List, subst}
-use Rattle.std.specs.FinMap as finite
-use Rattle.grok.specs.Tree.{Item, items_of, inside, events, deepest}
-use Rattle.grok.specs.Walks.{Passed, Stopped}
-use Rattle.grok.proofs.Walking.{whole_keyed, whole_stopped}
+use Rattle.std.proofs.Common.{◌∙◌, ap, sym, subst}
+use Rattle.grok.specs.Keys.{first_fault}
+use Rattle.grok.specs.Events.{event_view}
+use Rattle.grok.specs.Walks.{HasKeys}
+use Rattle.grok.proofs.Walking.{read_more, read_all, read_stopped, so_far, keyed}
 use Rattle.grok.proofs.expand.walk.walk.Goals as goal
 
-pub returns-in-None : goal.returns-in-None
-returns-in-None c =
-    let stored = finite.get c.args.grok.now in
-    let walked = c.in_ok-walk_items.ensures [] c.nothing-given.ensures in
-    let passed : Passed c.args.alias_only [] (events (inside (items_of stored) deepest) c.of_text-items.result) c.walk_items.new.given = rw c.in-None.is at walked in
-    whole_keyed c.args.alias_only stored c.args.pattern.now c.walk_items.new.given
-    (subst (λ (xs : List Item). Passed c.args.alias_only [] (events (inside (items_of stored) deepest) xs) c.walk_items.new.given) c.of_text-items.ensures passed)
+pub returns-in-Some-2 : goal.returns-in-Some-2
+returns-in-Some-2 c =
+    let mode = c.args.with_alias_only in
+    let all = c.of_pattern-events.result in
+    let event = event_view c.in-Some.event in
+    let cut = rw c.in-Some.is at c.in_ok-event.ensures in
+    let now = so_far mode all c.events.events event c.next.new.self c.events.keys cut c.events.invariant in
+    let stopped = rw c.in-Some-2.is at (c.in_ok-finding.ensures now c.events.invariant.passed.shows) in
+    sym (ap (first_fault mode) c.of_pattern-events.ensures) ∙ read_stopped mode all c.events.events event c.next.new.self c.events.keys cut c.events.invariant c.in-Some-2.finding stopped
+
+pub events-preserved : goal.events-preserved
+events-preserved c =
+    let mode = c.args.with_alias_only in
+    let all = c.of_pattern-events.result in
+    let event = event_view c.in-Some.event in
+    let cut = rw c.in-Some.is at c.in_ok-event.ensures in
+    let now = so_far mode all c.events.events event c.next.new.self c.events.keys cut c.events.invariant in
+    let passed = rw c.in_default-2.is at (c.in_ok-finding.ensures now c.events.invariant.passed.shows) in
+    read_more mode all c.events.events event c.next.new.self c.events.keys cut c.events.invariant c.read.new.keys passed
 
 pub returns : goal.returns
 returns c =
-    let stored = finite.get c.args.grok.now in
-    let walked = c.in_ok-walk_items.ensures [] c.nothing-given.ensures in
-    let stopped : Stopped c.args.alias_only [] (events (inside (items_of stored) deepest) c.of_text-items.result) c.in-Some.finding = rw c.in-Some.is at walked in
-    whole_stopped c.args.alias_only stored c.args.pattern.now c.in-Some.finding
-    (subst (λ (xs : List Item). Stopped c.args.alias_only [] (events (inside (items_of stored) deepest) xs) c.in-Some.finding) c.of_text-items.ensures stopped)
+    let mode = c.args.with_alias_only in
+    let over = rw c.in_default.is at c.in_ok-event.ensures in
+    subst (λ es. HasKeys mode es c.events.keys) c.of_pattern-events.ensures
+    (keyed mode c.of_pattern-events.result c.events.keys (read_all mode c.of_pattern-events.result c.events.events c.events.keys over.0 c.events.invariant))

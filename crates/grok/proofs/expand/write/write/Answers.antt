@@ -1,18 +1,26 @@
-use Rattle.std.proofs.Common.{List, sym, subst}
-use Rattle.std.specs.FinMap as finite
-use Rattle.grok.specs.Tree.{Item, items_of, inside, events, deepest}
-use Rattle.grok.specs.Writes.{IsReady, Wrote}
-use Rattle.grok.proofs.WriteSteps.{ready_whole, wrote_whole}
+use Rattle.std.proofs.Common.{◌≡◌, ◌≤◌, None, length}
+use Rattle.std.specs.String.{string_capacity}
+use Rattle.grok.specs.Tree.{first_structural}
+use Rattle.grok.specs.Expanded.{expanded}
+use Rattle.grok.specs.Events.{event_view}
+use Rattle.grok.specs.declared.expand.write.Output.{Output}
+use Rattle.grok.proofs.WriteSteps.{ready_whole, written_none, written_ready, written_more}
 use Rattle.grok.proofs.expand.write.write.Goals as goal
 
-pub write_items-requires : goal.write_items-requires
-write_items-requires c =
-    let stored = finite.get c.args.grok.now in
-    subst (λ (xs : List Item). IsReady c.args.alias_only (events (inside (items_of stored) deepest) xs) (record { text = c.args.text; groups = 0 })) (sym c.of_text-items.ensures)
-    (ready_whole c.args.alias_only stored c.args.pattern.now c.args.text c.requires.clean c.requires.empty c.requires.room)
+pub events-init : goal.events-init
+events-init c =
+    let mode = c.args.with_alias_only in
+    let all = c.of_pattern-events.result in
+    let clean : first_structural all ≡ None = rw c.of_pattern-events.ensures c.requires.clean in
+    let room : length (expanded mode all) ≤ string_capacity c.args.text = rw c.of_pattern-events.ensures c.requires.room in
+    written_none mode all (record { text = c.args.text; groups = 0 }) (ready_whole mode all c.args.text clean c.requires.empty room)
 
-pub returns : goal.returns
-returns c =
-    let stored = finite.get c.args.grok.now in
-    wrote_whole c.args.alias_only stored c.args.pattern.now c.args.text c.write_items.new.out c.requires.empty
-    (subst (λ (xs : List Item). Wrote c.args.alias_only (events (inside (items_of stored) deepest) xs) (record { text = c.args.text; groups = 0 }) c.write_items.new.out) c.of_text-items.ensures c.in_ok-write_items.ensures)
+pub write_event-requires : goal.write_event-requires
+write_event-requires c =
+    let start : Output = record { text = c.args.text; groups = 0 } in
+    written_ready c.args.with_alias_only c.of_pattern-events.result start c.events.events (event_view c.in-Some.event) c.next.new.self c.events.output (rw c.in-Some.is at c.in_ok-event.ensures) c.events.invariant
+
+pub events-preserved : goal.events-preserved
+events-preserved c =
+    let start : Output = record { text = c.args.text; groups = 0 } in
+    written_more c.args.with_alias_only c.of_pattern-events.result start c.events.events (event_view c.in-Some.event) c.next.new.self c.events.output (rw c.in-Some.is at c.in_ok-event.ensures) c.events.invariant c.write_event.new.self c.write_event.ensures

@@ -2,7 +2,7 @@ use Rattle.std.proofs.Common.{◌≡◌, ℕ, ◌+◌, List, [], ◌∷◌, ◌+
 use Rattle.std.proofs.lemmas.List.{map-append}
 use Rattle.std.proofs.lemmas.List.Elements.{All-push}
 use Rattle.std.proofs.lemmas.List.FromFn.{map-range_with_len_more}
-use Rattle.grok_match.specs.Captures.{capture_texts, text_of, IsSliceOf}
+use Rattle.grok.specs.Captures.{capture_texts, text_of, IsSliceOf}
 use Rattle.grok_engines.specs.Wholes.{line_at}
 use Rattle.grok_engines.proofs.heads.HeadsEngine.captures.Goals as goal
 

@@ -1,5 +1,5 @@
 use Rattle.std.proofs.Common.{◌≡◌, vec_len, map}
-use Rattle.grok_match.specs.Captures.{capture_texts, AreSlicesOf}
+use Rattle.grok.specs.Captures.{capture_texts, AreSlicesOf}
 use Rattle.grok_engines.specs.Wholes.{line_at}
 use Rattle.std.specs.List.{range_with_len}
 use Rattle.grok_engines.proofs.heads.HeadsEngine.captures.Given as goal

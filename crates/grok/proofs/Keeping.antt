@@ -1,0 +1,86 @@
+-- What was measured before changes no answer, and stays true.
+use Rattle.std.proofs.Common.{◌≡◌, ℕ, Bool, List, [], length, Result, Some, Ok, Err, refl, sym, ◌∙◌, ap, subst, inl, inr}
+use Rattle.std.specs.Prelude.{MatchResult}
+use Rattle.std.specs.FinMap as finite
+use Rattle.grok.specs.declared.measure.Failure.{Failure}
+use Rattle.grok.specs.declared.measure.Sum.{Sum}
+use Rattle.grok.specs.declared.measure.Met.{Met}
+use Rattle.grok.specs.declared.measure.Frame.{Frame}
+use Rattle.grok.specs.Maps.{Texts}
+use Rattle.grok.specs.Tree.{Fault, Item, items_of, deepest, tree}
+use Rattle.grok.specs.Expanded.{expanded, groups, nesting}
+use Rattle.grok.specs.Items.{fault_view}
+use Rattle.grok.specs.Sizes.{Size, no_size, sizes, size_or_fault}
+use Rattle.grok.specs.Remembered.{State, look_within}
+use Rattle.grok.specs.Measured.{Measured, size_within, fault_or, measured_tree}
+use Rattle.grok.specs.Met.{shown_result, result_view, measured_size, Shows, HasReach, unwound, Stops, IsTrue, IsShownTrue}
+use Rattle.grok.proofs.TreeSizes.{tree_sizes}
+use Rattle.grok.proofs.Remembering.{Outcome, ItemsFail, look_right, visit_right}
+use Rattle.grok.proofs.Sound.{sound_texts}
+
+module _ (texts : Texts) (alias_only : Bool) where
+  abbrev resolve : List ℕ → List Item
+  resolve = items_of (finite.get texts)
+
+  outcome : (levels : ℕ) (pattern : List ℕ) (st : State) → IsTrue texts alias_only st
+      → Outcome alias_only resolve (finite.get texts) st (look_within alias_only resolve levels (resolve pattern) st) (sizes alias_only (size_or_fault alias_only resolve levels) (resolve pattern)) (ItemsFail alias_only resolve (finite.get texts) (resolve pattern))
+  outcome levels pattern st t =
+      look_right alias_only resolve (finite.get texts) levels (visit_right alias_only resolve (finite.get texts) (sound_texts (finite.get texts)) levels) pattern (resolve pattern) st ([], no_size, refl, refl)
+      ((sound_texts (finite.get texts)).sound pattern) (λ name mark text is stored. inr (t.says name mark text is stored)) (λ name text met stored. absurd (t.none_begun name met))
+
+  -- the plain sum is read off the tree
+  tree_from : (pattern : List ℕ) (s : Result Size Fault) → sizes alias_only (size_or_fault alias_only resolve deepest) (resolve pattern) ≡ s → measured_size s ≡ measured_tree alias_only (tree (finite.get texts) pattern)
+  unfolding tree
+  tree_from pattern (Err fault) is =
+      let t = tree_sizes alias_only resolve deepest pattern in
+      let whole = tree (finite.get texts) pattern in
+      sym (ap (λ o. fault_or o (size_within (length (expanded alias_only whole)) (groups alias_only whole) (nesting whole))) (t.on_err fault is))
+  tree_from pattern (Ok z) is =
+      let t = tree_sizes alias_only resolve deepest pattern in
+      rw (t.clean z is, t.length z is, t.groups z is, t.nesting z is) refl
+
+  module _ (pattern : List ℕ) (r : Result Sum Failure) (frames : List Frame) (before met : Met)
+      (stops : (st : State) → Shows before st → Stops deepest r frames met (look_within alias_only resolve deepest (resolve pattern) st)) where
+    pub answer_is : (st : State) → Shows before st → IsTrue texts alias_only st → (m : Measured) → ((s : Result Size Fault) → result_view r ≡ shown_result s → m ≡ measured_size s)
+        → m ≡ measured_tree alias_only (tree (finite.get texts) pattern)
+    answer_is st shows t m h =
+        let answer = look_within alias_only resolve deepest (resolve pattern) st in
+        h answer.0 (stops st shows).same ∙ tree_from pattern answer.0 (sym (outcome deepest pattern st t).same)
+
+    -- ---- what stays
+
+    stays : (after : Met) → ((st : State) → Shows before st → Shows after (look_within alias_only resolve deepest (resolve pattern) st).1) → IsShownTrue texts alias_only before → IsShownTrue texts alias_only after
+    stays after shows true_before =
+        let st = true_before.st in
+        let t = true_before.is_true in
+        let o = outcome deepest pattern st t in
+        let last = (look_within alias_only resolve deepest (resolve pattern) st).1 in
+        record {
+          st = last;
+          shows = shows st true_before.shows;
+          is_true = record {
+            none_begun = λ name is. t.none_begun name (o.opens name is);
+            says = λ name mark text is stored. elim (o.honest name mark text is stored) [
+              | inl begun ↦ absurd (t.none_begun name (o.opens name (is ∙ ap Some begun)))
+              | inr says ↦ says
+            ];
+          };
+        }
+
+    pub done_true : (sum : Sum) → r ≡ Ok sum → IsShownTrue texts alias_only before → IsShownTrue texts alias_only met
+    done_true sum is =
+        stays met (λ st shows.
+        let s = stops st shows in
+        let answer = look_within alias_only resolve deepest (resolve pattern) st in
+        let leaves : answer.1 ≡ s.now = subst (λ x. MatchResult x (λ sum. answer.1 ≡ s.now) (λ failure. answer.1 ≡ unwound deepest frames (fault_view failure.fault) s.now)) is s.leaves in
+        subst (Shows met) (sym leaves) s.shows)
+
+    pub failed_true : (failure : Failure) (after : Met) → r ≡ Err failure → ((st : State) → Shows met st → st.reach ≡ failure.height → Shows after (unwound deepest frames (fault_view failure.fault) st))
+        → IsShownTrue texts alias_only before → IsShownTrue texts alias_only after
+    failed_true failure after is remembers =
+        stays after (λ st shows.
+        let s = stops st shows in
+        let answer = look_within alias_only resolve deepest (resolve pattern) st in
+        let reached : HasReach (Err failure) s.now = subst (λ x. HasReach x s.now) is s.reach in
+        let leaves : answer.1 ≡ unwound deepest frames (fault_view failure.fault) s.now = subst (λ x. MatchResult x (λ sum. answer.1 ≡ s.now) (λ failure. answer.1 ≡ unwound deepest frames (fault_view failure.fault) s.now)) is s.leaves in
+        subst (Shows after) (sym leaves) (remembers s.now s.shows reached))

@@ -1,0 +1,5 @@
+use Rattle.grok.proofs.AnswerLemmas.{walk_rises}
+use Rattle.grok.proofs.matches.MatchesIter.new.Goals as goal
+
+pub returns-clause-sorted : goal.returns-clause-sorted
+returns-clause-sorted c = walk_rises _ c.entries.result c.entries.ensures.sorted

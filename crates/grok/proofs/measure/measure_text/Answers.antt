@@ -1,0 +1,178 @@
+use Rattle.std.proofs.Common.{◌≡◌, ◌+◌, ◌-◌, ◌<◌, ◌≤◌, ◌∷◌, [], ◌++◌, length, length-append, refl, sym, ◌∙◌, ap, subst, arith, IfOk}
+use Rattle.std.specs.FinMap as finite
+use Rattle.grok.specs.Items.{item_view, label_view}
+use Rattle.grok.specs.Remembered.{State, look_within, with_mark, item_within}
+use Rattle.grok.specs.Remembered as kept
+use Rattle.grok.specs.Sizes.{bracketed}
+use Rattle.grok.specs.declared.measure.Mark.TheVariants.{Done}
+use Rattle.grok.specs.Measured.{counted}
+use Rattle.grok.specs.Met.{items_in, Shows, Gives, IsOpened}
+use Rattle.grok.specs.declared.measure.Looks.{Looks}
+use Rattle.grok.specs.declared.measure.Frame.{Frame}
+use Rattle.grok.proofs.Flat.{AreSound, sound_rest}
+use Rattle.grok.proofs.Defined.{table_of}
+use Rattle.grok.proofs.Sound.{sound_texts}
+use Rattle.grok.proofs.Going.{GoesOn, piece_counted, goes_on_start, fault_stops, sum_goes_on, text_goes_on, end_goes_on}
+use Rattle.grok.proofs.Ending.{AreFit, work_left, fit_low, fit_push, fit_pop, less_opened, less_ended}
+use Rattle.grok.proofs.measure.measure_text.Goals as goal
+
+pub items-init : goal.items-init
+items-init c =
+    let texts = c.args.mode.grok.now in
+    let none : c.args.frames.now.items ≡ [] = c.requires.none in
+    let resolve = items_in texts in
+    record {
+      goes_on = λ st shows.
+          subst (λ items. GoesOn c.args.mode.with_alias_only resolve c.args.levels (look_within c.args.mode.with_alias_only resolve c.args.levels (resolve c.args.text.now) st) c.args.frames.now.items items c.sum_of_bytes-sum.result c.args.met.now)
+          (sym c.of_text-items.ensures)
+          (subst (λ frames. GoesOn c.args.mode.with_alias_only resolve c.args.levels (look_within c.args.mode.with_alias_only resolve c.args.levels (resolve c.args.text.now) st) frames (resolve c.args.text.now) c.sum_of_bytes-sum.result c.args.met.now)
+          (sym none)
+          (goes_on_start c.args.mode.with_alias_only resolve c.args.levels (resolve c.args.text.now) st c.sum_of_bytes-sum.result c.args.met.now c.sum_of_bytes-sum.ensures.shown shows));
+      fit = subst (AreFit resolve (finite.get texts) c.args.levels) (sym none) tt;
+      low = omega arith;
+      sound = subst (AreSound resolve (finite.get texts)) (sym c.of_text-items.ensures) ((sound_texts (finite.get texts)).sound c.args.text.now);
+      few = omega (arith, ap length none);
+    }
+
+pub items-preserved-in-Measured-Ok : goal.items-preserved-in-Measured-Ok
+items-preserved-in-Measured-Ok c =
+    let alias_only = c.args.mode.with_alias_only in
+    let texts = c.args.mode.grok.now in
+    let resolve = items_in texts in
+    let levels = c.args.levels in
+    let frames = c.items.frames.items in
+    let item = item_view c.in-Some.item in
+    let met = c.items.met in
+    let after = c.enter.new.met in
+    let taken : (c.items.items ≡ item ∷ c.look.new.items) × (c.look.new.looks ≡ record { pieces = counted (met.looks.pieces + 1); ends = met.looks.ends }) = rw c.in-Some.is at c.in_ok-item.ensures in
+    let room : levels - c.len.result ≡ levels - length frames = omega arith in
+    let gives : (st : State) → Shows (record met { looks = c.look.new.looks }) st → Gives c.in-Measured-Ok.field-0 after (item_within alias_only resolve (levels - c.len.result) item st) = rw c.in-Measured-Ok.is at c.in_ok-one-in-Some.ensures.gives in
+    let here : (now : State) → Shows (piece_counted met) now → Gives c.in-Measured-Ok.field-0 after (item_within alias_only resolve (levels - length frames) item now) =
+    λ now s. subst (λ n. Gives c.in-Measured-Ok.field-0 after (item_within alias_only resolve n item now)) room (gives now (subst (λ (looks : Looks). Shows (record met { looks = looks }) now) (sym taken.1) s)) in
+    let low : IfOk c.in-Measured-Ok.field-0 (λ sum. sum.height ≤ levels - c.len.result) = rw c.in-Measured-Ok.is at c.in_ok-one-in-Some.ensures.low in
+    let low' : c.in-Measured-Ok.one.height ≤ levels - c.len.result = subst (λ r. IfOk r (λ sum. sum.height ≤ levels - c.len.result)) c.in-Measured-Ok.field-0-is low in
+    let sound : AreSound resolve (finite.get texts) (item ∷ c.look.new.items) = subst (AreSound resolve (finite.get texts)) taken.0 c.items.invariant.sound in
+    record {
+      goes_on = λ st shows.
+          let whole = look_within alias_only resolve levels (resolve c.args.text.now) st in
+          sum_goes_on alias_only resolve levels whole frames item c.look.new.items c.items.sum met after (subst (λ items. GoesOn alias_only resolve levels whole frames items c.items.sum met) taken.0 (c.items.invariant.goes_on st shows))
+          c.in-Measured-Ok.field-0 here c.in-Measured-Ok.one c.add-sum.result c.in-Measured-Ok.field-0-is c.add-sum.ensures.adds;
+      fit = c.items.invariant.fit;
+      low = omega (arith, c.items.invariant.low, low', room, c.add-sum.ensures.height);
+      sound = sound_rest resolve (finite.get texts) item c.look.new.items sound;
+      few = c.items.invariant.few;
+    }
+
+pub items-smaller-in-Text : goal.items-smaller-in-Text
+items-smaller-in-Text c =
+    let alias_only = c.args.mode.with_alias_only in
+    let texts = c.args.mode.grok.now in
+    let resolve = items_in texts in
+    let levels = c.args.levels in
+    let frames = c.items.frames.items in
+    let item = item_view c.in-Some.item in
+    let met = c.items.met in
+    let after = c.enter.new.met in
+    let taken : (c.items.items ≡ item ∷ c.look.new.items) × (c.look.new.looks ≡ record { pieces = counted (met.looks.pieces + 1); ends = met.looks.ends }) = rw c.in-Some.is at c.in_ok-item.ensures in
+    let room : levels - c.len.result ≡ levels - length frames = omega arith in
+    let opened : IsOpened resolve (levels - c.len.result) item c.in-Text.label c.in-Text.inner (record met { looks = c.look.new.looks }) after = rw c.in-Text.is at c.in_ok-one-in-Some.ensures.gives in
+    let frame : Frame = record { label = c.in-Text.label; items = c.look.new.items; sum = c.items.sum } in
+    let pushed : c.push.new.self.items ≡ frames ++ frame ∷ [] = c.in_ok-push-in-Text.ensures.items in
+    let sound : AreSound resolve (finite.get texts) (item ∷ c.look.new.items) = subst (AreSound resolve (finite.get texts)) taken.0 c.items.invariant.sound in
+    subst (λ items. work_left resolve (finite.get texts) (finite.entries texts) after c.in-Text.inner c.push.new.self.items < work_left resolve (finite.get texts) (finite.entries texts) met items frames) (sym taken.0)
+    (subst (λ items. work_left resolve (finite.get texts) (finite.entries texts) after items c.push.new.self.items < work_left resolve (finite.get texts) (finite.entries texts) met (item ∷ c.look.new.items) frames) (sym opened.starts)
+    (subst (λ fs. work_left resolve (finite.get texts) (finite.entries texts) after (resolve opened.text) fs < work_left resolve (finite.get texts) (finite.entries texts) met (item ∷ c.look.new.items) frames) (sym pushed)
+    (less_opened resolve (finite.get texts) (finite.entries texts) (table_of texts) met after item c.look.new.items frames frame (label_view c.in-Text.label) opened.text opened.is sound opened.unkept opened.marked refl)))
+
+pub items-preserved-in-Text : goal.items-preserved-in-Text
+items-preserved-in-Text c =
+    let alias_only = c.args.mode.with_alias_only in
+    let texts = c.args.mode.grok.now in
+    let resolve = items_in texts in
+    let levels = c.args.levels in
+    let frames = c.items.frames.items in
+    let item = item_view c.in-Some.item in
+    let met = c.items.met in
+    let after = c.enter.new.met in
+    let taken : (c.items.items ≡ item ∷ c.look.new.items) × (c.look.new.looks ≡ record { pieces = counted (met.looks.pieces + 1); ends = met.looks.ends }) = rw c.in-Some.is at c.in_ok-item.ensures in
+    let room : levels - c.len.result ≡ levels - length frames = omega arith in
+    let opened : IsOpened resolve (levels - c.len.result) item c.in-Text.label c.in-Text.inner (record met { looks = c.look.new.looks }) after = rw c.in-Text.is at c.in_ok-one-in-Some.ensures.gives in
+    let frame : Frame = record { label = c.in-Text.label; items = c.look.new.items; sum = c.items.sum } in
+    let pushed : c.push.new.self.items ≡ frames ++ frame ∷ [] = c.in_ok-push-in-Text.ensures.items in
+    let sound : AreSound resolve (finite.get texts) (item ∷ c.look.new.items) = subst (AreSound resolve (finite.get texts)) taken.0 c.items.invariant.sound in
+    let here : IsOpened resolve (levels - length frames) item c.in-Text.label c.in-Text.inner (piece_counted met) after =
+    subst (λ n. IsOpened resolve n item c.in-Text.label c.in-Text.inner (piece_counted met) after) room
+    (subst (λ (looks : Looks). IsOpened resolve (levels - c.len.result) item c.in-Text.label c.in-Text.inner (record met { looks = looks }) after) taken.1 opened) in
+    let some = opened.room in
+    record {
+      goes_on = λ st shows.
+          let whole = look_within alias_only resolve levels (resolve c.args.text.now) st in
+          subst (λ fs. GoesOn alias_only resolve levels whole fs c.in-Text.inner c.sum_of_bytes-sum-in-Text.result after) (sym pushed)
+          (text_goes_on alias_only resolve levels whole frames item c.look.new.items c.items.sum met after (subst (λ items. GoesOn alias_only resolve levels whole frames items c.items.sum met) taken.0 (c.items.invariant.goes_on st shows))
+          c.in-Text.label c.in-Text.inner c.sum_of_bytes-sum-in-Text.result here c.sum_of_bytes-sum-in-Text.ensures.shown);
+      fit = subst (AreFit resolve (finite.get texts) levels) (sym pushed) (fit_push resolve (finite.get texts) levels frames frame c.items.invariant.fit c.items.invariant.low (sound_rest resolve (finite.get texts) item c.look.new.items sound));
+      low = omega (arith, c.sum_of_bytes-sum-in-Text.ensures.height);
+      sound = subst (AreSound resolve (finite.get texts)) (sym opened.starts) ((sound_texts (finite.get texts)).sound opened.text);
+      few = omega (arith, some, ap length pushed, length-append frames (frame ∷ []), room);
+    }
+
+pub items-smaller : goal.items-smaller
+items-smaller c =
+    let texts = c.args.mode.grok.now in
+    let resolve = items_in texts in
+    let frames = c.pop.new.self.items in
+    let frame = c.in-Some-pop.frame in
+    let taken : (c.items.items ≡ []) × (c.look.new.looks ≡ record { pieces = c.items.met.looks.pieces; ends = counted (c.items.met.looks.ends + 1) }) = rw c.in-None.is at c.in_ok-item.ensures in
+    let popped : c.items.frames.items ≡ frames ++ frame ∷ [] = c.in-Some-pop.ensures.items in
+    subst (λ items. work_left resolve (finite.get texts) (finite.entries texts) c.mark.new.self frame.items frames < work_left resolve (finite.get texts) (finite.entries texts) c.items.met items c.items.frames.items) (sym taken.0)
+    (subst (λ fs. work_left resolve (finite.get texts) (finite.entries texts) c.mark.new.self frame.items frames < work_left resolve (finite.get texts) (finite.entries texts) c.items.met [] fs) (sym popped)
+    (less_ended resolve (finite.get texts) (finite.entries texts) c.items.met c.mark.new.self frames frame frame.label.name.now (Done c.items.sum) refl c.in_ok-mark-in-Some-pop.ensures.marks))
+
+pub items-preserved : goal.items-preserved
+items-preserved c =
+    let alias_only = c.args.mode.with_alias_only in
+    let texts = c.args.mode.grok.now in
+    let resolve = items_in texts in
+    let levels = c.args.levels in
+    let frames = c.pop.new.self.items in
+    let frame = c.in-Some-pop.frame in
+    let met = c.items.met in
+    let taken : (c.items.items ≡ []) × (c.look.new.looks ≡ record { pieces = met.looks.pieces; ends = counted (met.looks.ends + 1) }) = rw c.in-None.is at c.in_ok-item.ensures in
+    let popped : c.items.frames.items ≡ frames ++ frame ∷ [] = c.in-Some-pop.ensures.items in
+    let p = fit_pop resolve (finite.get texts) levels frames frame (subst (AreFit resolve (finite.get texts) levels) popped c.items.invariant.fit) in
+    let long : length c.items.frames.items ≡ length frames + 1 = ap length popped ∙ length-append frames (frame ∷ []) in
+    record {
+      goes_on = λ st shows.
+          let whole = look_within alias_only resolve levels (resolve c.args.text.now) st in
+          let g = subst (λ items. GoesOn alias_only resolve levels whole c.items.frames.items items c.items.sum met) taken.0 (c.items.invariant.goes_on st shows) in
+          end_goes_on alias_only resolve levels whole frames frame c.items.sum c.add-sum-in-Some-pop.result met c.mark.new.self (subst (λ fs. GoesOn alias_only resolve levels whole fs [] c.items.sum met) popped g)
+          (λ now size is s. c.in_ok-mark-in-Some-pop.ensures.shows now (kept.Done size) (ap kept.Done is) (subst (λ (looks : Looks). Shows (record met { looks = looks }) now) (sym taken.1) s))
+          (λ x y a b. c.add-sum-in-Some-pop.ensures.adds x (bracketed alias_only (label_view frame.label) y) a (c.bracketed-inner.ensures.brackets y b));
+      fit = p.fit;
+      low = omega (arith, p.low, c.items.invariant.low, c.items.invariant.few, long, c.bracketed-inner.ensures.height, c.add-sum-in-Some-pop.ensures.height);
+      sound = p.sound;
+      few = omega (arith, c.items.invariant.few, long);
+    }
+
+pub returns-in-Measured-Err-clause-stops : goal.returns-in-Measured-Err-clause-stops
+returns-in-Measured-Err-clause-stops c =
+    let alias_only = c.args.mode.with_alias_only in
+    let texts = c.args.mode.grok.now in
+    let resolve = items_in texts in
+    let levels = c.args.levels in
+    let frames = c.items.frames.items in
+    let item = item_view c.in-Some.item in
+    let met = c.items.met in
+    let after = c.enter.new.met in
+    let taken : (c.items.items ≡ item ∷ c.look.new.items) × (c.look.new.looks ≡ record { pieces = counted (met.looks.pieces + 1); ends = met.looks.ends }) = rw c.in-Some.is at c.in_ok-item.ensures in
+    let room : levels - c.len.result ≡ levels - length frames = omega arith in
+    let gives : (st : State) → Shows (record met { looks = c.look.new.looks }) st → Gives c.in-Measured-Err.field-0 after (item_within alias_only resolve (levels - c.len.result) item st) = rw c.in-Measured-Err.is at c.in_ok-one-in-Some.ensures.gives in
+    let here : (now : State) → Shows (piece_counted met) now → Gives c.in-Measured-Err.field-0 after (item_within alias_only resolve (levels - length frames) item now) =
+    λ now s. subst (λ n. Gives c.in-Measured-Err.field-0 after (item_within alias_only resolve n item now)) room (gives now (subst (λ (looks : Looks). Shows (record met { looks = looks }) now) (sym taken.1) s)) in
+    λ st shows.
+    let whole = look_within alias_only resolve levels (resolve c.args.text.now) st in
+    fault_stops alias_only resolve levels whole frames item c.look.new.items c.items.sum met after (subst (λ items. GoesOn alias_only resolve levels whole frames items c.items.sum met) taken.0 (c.items.invariant.goes_on st shows))
+    c.in-Measured-Err.field-0 here c.in-Measured-Err.failure c.behind.result c.in-Measured-Err.field-0-is c.behind.ensures.fault c.behind.ensures.reach
+
+pub returns-in-Measured-Err-clause-low : goal.returns-in-Measured-Err-clause-low
+returns-in-Measured-Err-clause-low c = fit_low (items_in c.args.mode.grok.now) (finite.get c.args.mode.grok.now) c.args.levels c.args.levels c.items.frames.items (omega arith) c.items.invariant.fit

@@ -1,0 +1,47 @@
+-- THE LAWS of key tables and of answers.
+use Rattle.std.specs.Prelude.{◌≡◌, ◌≢◌, ◌↔◌, ℕ, ◌<◌, List, Option, Some, Contains, filter, is_some, length, slice_get, slice_index_or, [], MatchOption}
+use Rattle.std.specs.List.Sorted.{IsStrictlySortedBy}
+use Rattle.std.specs.Map.{keys_of}
+use Rattle.std.specs.Cmp.Lexicographic.{slice_cmp}
+use Rattle.std.specs.Ordering.{nat_cmp}
+use Rattle.grok.specs.GeneratedNames.{generated}
+use Rattle.grok.specs.KeyTable.{Entries, meant_key, group_of}
+use Rattle.grok.specs.Answers.{answer_of, walk}
+
+-- the keys of a table stand in byte order, each once
+abbrev pub Rises : Entries → Type 0
+Rises table = IsStrictlySortedBy (slice_cmp nat_cmp) (keys_of table)
+
+-- a walk has the keys of the table that have an answer, in the table's order
+abbrev pub WalksHaveTheAnsweredKeys : Type 0
+WalksHaveTheAnsweredKeys = (table : Entries) (captures : List (Option (List ℕ))) → Rises table
+    → keys_of (walk table captures) ≡ filter (λ key. is_some (answer_of table captures key)) (keys_of table)
+
+-- a key has an answer exactly if the walk has a pair of that key, and then it is the pair's text
+abbrev pub AnswersAreThoseOfTheWalk : Type 0
+AnswersAreThoseOfTheWalk = (table : Entries) (captures : List (Option (List ℕ))) → Rises table
+    → (key text : List ℕ)
+    → (answer_of table captures key ≡ Some text) ↔ Contains (walk table captures) (key, text)
+
+-- the name for the number of a key means that key
+abbrev pub GeneratedNamesMeanTheirKeys : Type 0
+GeneratedNamesMeanTheirKeys = (keys : List (List ℕ)) (number : ℕ) → number < length keys
+    → meant_key keys (generated number) ≡ slice_index_or keys number []
+
+-- any other name means itself
+abbrev pub OtherNamesMeanThemselves : Type 0
+OtherNamesMeanThemselves = (keys : List (List ℕ)) (name : List ℕ)
+    → ((number : ℕ) → number < length keys → name ≢ generated number) → meant_key keys name ≡ name
+
+-- the name of a group means the key
+abbrev pub NameMeans : List (List ℕ) → List (Option (List ℕ)) → List ℕ → ℕ → Type 0
+NameMeans keys names key group = (name : List ℕ) × (slice_get names group ≡ Some (Some name))
+    × (meant_key keys name ≡ key)
+
+-- the group of a key is the greatest whose name means it, and where a key has no group no name means it
+abbrev pub GroupsAreTheGreatest : Type 0
+GroupsAreTheGreatest = (keys : List (List ℕ)) (names : List (Option (List ℕ))) (key : List ℕ)
+    → MatchOption (group_of keys names key)
+    ((group : ℕ) → ¬ NameMeans keys names key group)
+    (λ group. NameMeans keys names key group × ((later : ℕ) → group < later
+    → ¬ NameMeans keys names key later))

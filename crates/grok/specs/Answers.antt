@@ -1,0 +1,57 @@
+-- What contracts see of a pattern and of a match, and what a match answers.
+use Rattle.std.specs.Prelude.{ℕ, List, Option, None, String, map, option_map, option_and_then, filter_map, slice_index_or, string_bytes, refl}
+use Rattle.std.specs.Coded.{Coded, code_by, coded×, coded_list, coded_option, coded_ℕ}
+use Rattle.std.specs.FinMap as finite
+use Rattle.grok.specs.Maps.{Texts, texts_code}
+use Rattle.grok.specs.KeyTable.{Entries, group_in}
+
+-- ---- patterns
+
+pub record PatternValue (E : Type 0) : Type 0 where
+  pub engine : E
+  -- the key table: each key with its group, in byte order
+  pub keys : Entries
+  -- the extract of each key that has one
+  pub extracts : Texts
+
+abbrev pub pattern_code : {E : Type 0} → Coded E → Coded (PatternValue E)
+pattern_code {E} engine =
+    code_by (E × (Entries × Texts))
+    (coded× engine (coded× (coded_list (coded× (coded_list coded_ℕ) coded_ℕ)) texts_code))
+    (λ p. (p.engine, (p.keys, p.extracts))) (λ t. record { engine = t.0; keys = t.1.0; extracts = t.1.1 }) (λ _. refl)
+
+-- the extracts of a map from keys to texts
+abbrev pub extract_texts : {A : Type 0} → List (String A × String A) → Texts
+extract_texts entries = finite.from_entries (map (λ entry.
+    (string_bytes entry.0, string_bytes entry.1)) entries)
+
+-- ---- matches
+
+pub record MatchesValue (E : Type 0) : Type 0 where
+  pub pattern : PatternValue E
+  -- the text of each group, from group 0 on, where it took part
+  pub captures : List (Option (List ℕ))
+
+abbrev pub matches_code : {E : Type 0} → Coded E → Coded (MatchesValue E)
+matches_code {E} engine =
+    code_by (PatternValue E × List (Option (List ℕ))) (coded× (pattern_code engine)
+    (coded_list (coded_option (coded_list coded_ℕ))))
+    (λ p. (p.pattern, p.captures)) (λ t. record { pattern = t.0; captures = t.1 }) (λ _. refl)
+
+-- ---- answers
+
+-- the text of a group, if it took part
+abbrev pub capture_at : List (Option (List ℕ)) → ℕ → Option (List ℕ)
+capture_at captures group = slice_index_or captures group None
+
+-- the answer of a key: the capture of its group
+abbrev pub answer_of : Entries → List (Option (List ℕ)) → List ℕ → Option (List ℕ)
+answer_of table captures key = option_and_then (capture_at captures) (group_in table key)
+
+-- an entry of the table as a key with its text, if its group took part
+abbrev pub pair_of : List (Option (List ℕ)) → List ℕ × ℕ → Option (List ℕ × List ℕ)
+pair_of captures entry = option_map (λ text. (entry.0, text)) (capture_at captures entry.1)
+
+-- THE WALK: the keys with their texts, in the table's order, without the keys whose group took no part
+abbrev pub walk : Entries → List (Option (List ℕ)) → List (List ℕ × List ℕ)
+walk table captures = filter_map (pair_of captures) table

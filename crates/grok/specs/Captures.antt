@@ -1,0 +1,23 @@
+-- What an engine's names and captures are, as texts.
+use Rattle.std.specs.Prelude.{◌≡◌, ℕ, ◌≤◌, List, Option, String, All, IfSome, map, length, option_map, string_bytes, slice_range}
+use Rattle.std.specs.Borrow.{Bor}
+
+-- the name of each group, from group 0 on
+abbrev pub name_texts : {A : Type 0} → List (Option (String A)) → List (Option (List ℕ))
+name_texts names = map (option_map string_bytes) names
+
+abbrev pub text_of : Bor (List ℕ) → List ℕ
+text_of part = part.now
+
+-- the text of each group, from group 0 on, where it took part
+abbrev pub capture_texts : List (Option (Bor (List ℕ))) → List (Option (List ℕ))
+capture_texts captures = map (option_map text_of) captures
+
+-- the part is a range of the line
+abbrev pub IsSliceOf : List ℕ → List ℕ → Type 0
+IsSliceOf line part = (start : ℕ) × (end : ℕ) × (start ≤ end) × (end ≤ length line)
+    × (part ≡ slice_range line start end)
+
+-- each text that is there is a range of the line
+abbrev pub AreSlicesOf : List ℕ → List (Option (List ℕ)) → Type 0
+AreSlicesOf line texts = All (λ text. IfSome text (IsSliceOf line)) texts

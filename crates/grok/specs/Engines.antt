@@ -1,0 +1,6 @@
+-- The value that `regex` built, of an engine over it.
+use Rattle.regex.specs.declared.string.regex.Regex.{Regex}
+use Rattle.grok.specs.declared.engine.regex_engine.RegexEngine.{RegexEngine}
+
+abbrev pub engine_regex : RegexEngine → Regex
+engine_regex engine = engine.regex

@@ -1,0 +1,15 @@
+-- What contracts see of the texts of a match's groups.
+use Rattle.std.specs.Prelude.{ℕ, List, Option}
+use Rattle.grok.specs.Captures.{capture_texts}
+use Rattle.grok.specs.Locations.{located_texts}
+use Rattle.grok.specs.declared.matches.groups.Located.{Located}
+use Rattle.grok.specs.declared.matches.groups.GroupTexts.{GroupTexts}
+use Rattle.grok.specs.declared.matches.groups.GroupTexts.TheVariants as variant
+
+-- the text of each group, from group 0 on, where it took part
+abbrev pub texts_in_line : Located → List (Option (List ℕ))
+texts_in_line located = located_texts located.line.now located.locations.now
+
+abbrev pub group_texts : GroupTexts → List (Option (List ℕ))
+group_texts (variant.Listed captures) = capture_texts captures.now
+group_texts (variant.Located located) = texts_in_line located

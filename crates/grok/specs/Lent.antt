@@ -1,0 +1,13 @@
+-- What contracts see of a match that is lent.
+use Rattle.std.specs.Prelude.{ℕ, List, Option}
+use Rattle.grok.specs.KeyTable.{Entries}
+use Rattle.grok.specs.Groups.{texts_in_line}
+use Rattle.grok.specs.declared.matches.lent.MatchesRef.{MatchesRef}
+
+-- the key table of its pattern
+abbrev pub lent_keys : MatchesRef → Entries
+lent_keys matches = matches.keys.now
+
+-- the text of each group, from group 0 on, where it took part
+abbrev pub lent_captures : MatchesRef → List (Option (List ℕ))
+lent_captures matches = texts_in_line matches.located

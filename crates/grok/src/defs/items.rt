@@ -1,0 +1,163 @@
+//! The pieces of a text with what they stand for.
+
+ghost use Rattle.std.specs.Prelude.{◌≡◌, [], ◌∷◌, Option, Some, option_map, IfOk, OnOk, MatchOption, List, ℕ, not, ◌&&◌, if◌then◌else◌};
+ghost use Rattle.std.specs.Str.{bytes_eq};
+ghost use Rattle.std.specs.FinMap as finite;
+ghost use Rattle.grok.specs.Pieces.{pieces};
+ghost use Rattle.grok.specs.Tree.{no_definitions, items_of, items_after, is_absent, resolved};
+ghost use Rattle.grok.specs.Keys.{is_recorded};
+ghost use Rattle.grok.specs.Items.{item_view, label_view, written_in};
+ghost use Rattle.std.specs.Borrow.{Bor};
+
+use crate::defs::Grok;
+use crate::defs::definition::Definition;
+use crate::defs::pieces::{Pieces, pieces_kept, pieces_of};
+use crate::errors::fault::Fault;
+use crate::parser::GrokComponent;
+use std::alloc::{AllocError, Global};
+use std::collections::BTreeMap;
+use std::marker::Model;
+
+/// What a placeholder opens under.
+#[derive(Clone, Copy)]
+pub(crate) struct Label<'a> {
+    pub name: &'a str,
+    pub alias: &'a str,
+    pub extract: &'a str,
+}
+
+impl Label<'_> {
+    /// Whether the placeholder gets a key: in alias-only mode one without an alias gets none.
+    pub fn is_recorded(self, with_alias_only: bool) -> bool
+        ensures { result ≡ is_recorded with_alias_only (label_view self.entry) }
+    {
+        !(with_alias_only && self.alias.is_empty())
+    }
+}
+
+/// What a placeholder stands for.
+#[derive(Clone, Copy)]
+pub(crate) enum Meaning<'a> {
+    /// A definition that is written in the same text.
+    Inline(&'a str),
+    /// The stored definition of its name.
+    Stored(&'a Definition),
+}
+
+/// A piece with what it stands for.
+#[derive(Clone, Copy)]
+pub(crate) enum Item<'a> {
+    Text(&'a str),
+    Fault(Fault<'a>),
+    Placeholder(Label<'a>, Meaning<'a>),
+}
+
+/// The items of a text that are left, and the definitions that were written in it so far.
+#[derive(Drop)]
+pub(crate) struct Items<'a> {
+    grok: &'a Grok,
+    source: Pieces<'a>,
+    written: BTreeMap<&'a str, &'a str>,
+}
+
+// Contracts see the items that are left.
+impl<'a> Model for Items<'a> {
+    ghost use Rattle.std.specs.Prelude.{List};
+    ghost use Rattle.std.specs.FinMap as finite;
+    ghost use Rattle.grok.specs.Tree.{Item, items_after};
+    ghost use Rattle.grok.specs.Items.{written_in};
+
+    ghost Value = { List Item };
+
+    ghost view = { λ s. items_after (finite.get s.grok.now) (written_in s.written) s.source };
+}
+
+/// What the label opens: the definition that was written for its name, or else the stored one.
+fn open_label<'a>(grok: &'a Grok, label: Label<'a>, written: Option<&'a str>) -> Item<'a>
+    ensures { item_view result ≡ resolved (label_view label.entry)
+        (option_map (λ (t : Bor (List ℕ)). t.now) written.entry)
+        (finite.get grok.now label.entry.name.now) }
+{
+    match written {
+        Some(text) => Item::Placeholder(label, Meaning::Inline(text)),
+        None => match grok.definition(label.name) {
+            Some(stored) => Item::Placeholder(label, Meaning::Stored(stored)),
+            None => Item::Fault(Fault::Missing(label.name)),
+        },
+    }
+}
+
+/// Writes a definition, if it isn't empty, for the name.
+fn write_definition<'a>(
+    written: &mut BTreeMap<&'a str, &'a str>,
+    name: &'a str,
+    definition: &'a str,
+) -> Result<(), AllocError>
+    ensures { OnOk result ((other : List ℕ) → written_in written.new other
+        ≡ (if bytes_eq name.now other && not
+        (is_absent definition.now) then Some definition.now else written_in written.old other)) }
+{
+    if !definition.is_empty() {
+        written.insert(name, definition)?;
+    }
+    Ok(())
+}
+
+impl<'a> Items<'a> {
+    fn new(alloc: Global, grok: &'a Grok, source: Pieces<'a>) -> Items<'a>
+        ensures { result ≡ items_after (finite.get grok.now) no_definitions source.entry }
+    {
+        Items {
+            grok,
+            source,
+            written: BTreeMap::new(alloc),
+        }
+    }
+
+    /// The items of a text, which is split as they are taken.
+    pub fn of_text(alloc: Global, grok: &'a Grok, text: &'a str) -> Items<'a>
+        ensures { result ≡ items_of (finite.get grok.now) text.now }
+    {
+        Items::new(alloc, grok, pieces_of(text))
+    }
+
+    /// The items of a stored definition, which was split before.
+    pub fn of_stored(alloc: Global, grok: &'a Grok, stored: &'a Definition) -> Items<'a>
+        ensures { result ≡ items_of (finite.get grok.now) stored.now }
+    {
+        Items::new(alloc, grok, pieces_kept(stored))
+    }
+
+    /// The next item, if there is one. An error is want of memory for a definition that the text writes.
+    pub fn next(&mut self) -> Result<Option<Item<'a>>, AllocError>
+        ensures { IfOk result
+            (λ found. MatchOption found ((self.old ≡ []) × (self.new ≡ []))
+            (λ item. self.old ≡ item_view item ∷ self.new)) }
+    {
+        match self.source.next() {
+            None => Ok(None),
+            Some(GrokComponent::RegularExpression { string, .. }) => Ok(Some(Item::Text(string))),
+            Some(GrokComponent::PatternError(fault)) => {
+                Ok(Some(Item::Fault(Fault::Malformed(fault))))
+            }
+            Some(
+                GrokComponent::GrokPattern {
+                    name,
+                    alias,
+                    extract,
+                    definition,
+                    ..
+                },
+            ) => {
+                write_definition(&mut self.written, name, definition)?;
+                let label = Label {
+                    name,
+                    alias,
+                    extract,
+                };
+                let written = self.written.get(&name).copied();
+                Ok(Some(open_label(self.grok, label, written)))
+            }
+        }
+    }
+}

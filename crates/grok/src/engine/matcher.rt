@@ -1,0 +1,117 @@
+//! Searches that keep what they need from line to line.
+ghost use Rattle.std.specs.Prelude.{◌≡◌, ℕ, List, Option, Some, None, length, vec_len, option_map, if◌then◌else◌, IfOk, IfSome, IsTrue};
+ghost use Rattle.grok.specs.Captures.{capture_texts, AreSlicesOf};
+ghost use Rattle.grok.specs.Locations.{AreLocationsIn, located_texts};
+
+use crate::engine::Engine;
+use crate::engine::regex_engine::{RegexEngine, group_texts, write_locations};
+use std::alloc::{AllocError, Global};
+
+/// A search that is kept from line to line. What it finds in a line doesn't depend on the lines
+/// before.
+pub trait EngineMatcher: Sized + Drop {
+    /// For each line the text of each group, where it took part, or none where nothing matches.
+    ghost finds: { Self → List ℕ → Option (List (Option (List ℕ))) };
+
+    /// How many groups it has, group 0 included.
+    ghost group_count: { Self → ℕ };
+
+    /// The text of each group of the first match in the line, or none where nothing matches.
+    fn captures<'t>(
+        &mut self,
+        alloc: Global,
+        line: &'t str,
+    ) -> Result<Option<Vec<Option<&'t str>>>, AllocError>
+        ensures answer { IfOk result
+            (λ found. option_map (λ captures. capture_texts captures.items) found
+            ≡ finds self.old line.now) }
+        ensures places { IfOk result (λ found. IfSome found (λ captures. vec_len captures
+            ≡ group_count self.old)) }
+        ensures slices { IfOk result (λ found. IfSome found (λ captures. AreSlicesOf line.now
+            (capture_texts captures.items))) }
+        ensures same { finds self.new ≡ finds self.old }
+        ensures count { group_count self.new ≡ group_count self.old };
+
+    /// Looks for the first match in the line, and answers whether there is one. Then the list has,
+    /// from group 0 on, the start and the end in bytes of each group that took part. Without a
+    /// match, and after an error, what the list has is not said.
+    fn captures_read(
+        &mut self,
+        locations: &mut Vec<Option<(usize, usize)>>,
+        line: &str,
+    ) -> Result<bool, AllocError>
+        ensures answer { IfOk result (λ is_match. (if is_match
+            then Some (located_texts line.now locations.new.items) else None)
+            ≡ finds self.old line.now) }
+        ensures places { IfOk result (λ is_match. IsTrue is_match
+            → vec_len locations.new ≡ group_count self.old) }
+        ensures inside { IfOk result (λ is_match. IsTrue is_match
+            → AreLocationsIn line.now locations.new.items) }
+        ensures same { finds self.new ≡ finds self.old }
+        ensures count { group_count self.new ≡ group_count self.old };
+}
+
+/// An engine whose searches can be kept. The search of one that has nothing to keep asks it for
+/// each line.
+pub trait HasMatcher<'e>: Engine {
+    type Matcher: EngineMatcher;
+
+    /// A search that finds in each line what the engine answers.
+    fn matcher(&'e self, alloc: Global) -> Result<Self::Matcher, AllocError>
+        ensures answers { IfOk result
+            (λ matcher. Self.Matcher.finds matcher ≡ Self.answer_to self.now) }
+        ensures count { IfOk result
+            (λ matcher. Self.Matcher.group_count matcher ≡ length (Self.group_names self.now)) };
+}
+
+/// A search of `regex`, whose tables are kept.
+#[derive(Drop)]
+pub struct RegexMatcher<'e> {
+    matcher: regex::Matcher<'e>,
+}
+
+impl<'e> EngineMatcher for RegexMatcher<'e> {
+    ghost use Rattle.std.specs.Prelude.{length};
+    ghost use Rattle.regex.specs.Strings.{matcher_pattern, matcher_names};
+    ghost use Rattle.grok.specs.RegexFinds.{captures_in};
+
+    ghost finds = { λ matcher. captures_in (matcher_pattern matcher.matcher)
+        (length (matcher_names matcher.matcher)) };
+
+    ghost group_count = { λ matcher. length (matcher_names matcher.matcher) };
+
+    #[inline(always)]
+    fn captures<'t>(
+        &mut self,
+        alloc: Global,
+        line: &'t str,
+    ) -> Result<Option<Vec<Option<&'t str>>>, AllocError> {
+        match self.matcher.captures(line) {
+            Some(found) => Ok(Some(group_texts(alloc, &found)?)),
+            None => Ok(None),
+        }
+    }
+
+    fn captures_read(
+        &mut self,
+        locations: &mut Vec<Option<(usize, usize)>>,
+        line: &str,
+    ) -> Result<bool, AllocError> {
+        match self.matcher.captures(line) {
+            Some(found) => {
+                write_locations(locations, &found)?;
+                Ok(true)
+            }
+            None => Ok(false),
+        }
+    }
+}
+
+impl<'e> HasMatcher<'e> for RegexEngine {
+    type Matcher = RegexMatcher<'e>;
+
+    fn matcher(&'e self, alloc: Global) -> Result<RegexMatcher<'e>, AllocError> {
+        let matcher = self.regex.matcher(alloc)?;
+        Ok(RegexMatcher { matcher })
+    }
+}

@@ -1,0 +1,155 @@
+//! The engine over the crate `regex`.
+ghost use Rattle.std.specs.Prelude.{◌≡◌, ◌↔◌, length, vec_len, option_map, IfOk, IfSome, OnOk};
+ghost use Rattle.std.specs.Option.{ForSome};
+ghost use Rattle.grok.specs.Captures.{text_of, capture_texts, IsSliceOf, AreSlicesOf};
+ghost use Rattle.grok.specs.Locations.{IsLocationIn, AreLocationsIn, located_texts};
+ghost use Rattle.grok.specs.RegexFinds.{IsReadByDefault, captures_in, texts_at, text_at};
+ghost use Rattle.regex.specs.declared.error.Error.TheVariants.{OutOfMemory};
+ghost use Rattle.regex.specs.Strings.{captures_haystack, captures_span, captures_names, regex_pattern, regex_names};
+
+use crate::engine::shared_search::SharedSearch;
+use crate::engine::{Engine, Refusal};
+use regex::{Captures, Regex};
+use std::alloc::{AllocError, Global};
+
+/// The engine over the crate `regex`, with its defaults: no flag and no limit is set.
+#[derive(Drop)]
+pub struct RegexEngine {
+    pub(crate) regex: Regex,
+    search: SharedSearch,
+    ghost by_default: { ∥ IsReadByDefault regex ∥₁ },
+}
+
+// Want of memory where `regex` wants memory, and a refusal for each other error.
+impl From<regex::Error> for Refusal {
+    ghost use Rattle.grok.specs.declared.engine.Refusal.TheVariants.{Memory};
+
+    ghost from_gives = { λ error refusal. (refusal ≡ Memory) ↔ (error ≡ OutOfMemory) };
+
+    fn from(error: regex::Error) -> Refusal {
+        match error {
+            regex::Error::OutOfMemory => Refusal::Memory,
+            _ => Refusal::Refused,
+        }
+    }
+}
+
+impl Engine for RegexEngine {
+    ghost use Rattle.regex.specs.Strings.{regex_source, regex_names, regex_pattern};
+    ghost use Rattle.grok.specs.RegexFinds.{captures_in, MayRefuse};
+    ghost use Rattle.grok.specs.Engines.{engine_regex};
+
+    ghost source_of = { λ engine. regex_source (engine_regex engine) };
+
+    ghost group_names = { λ engine. regex_names (engine_regex engine) };
+
+    ghost answer_to = { λ engine. captures_in (regex_pattern (engine_regex engine))
+        (length (regex_names (engine_regex engine))) };
+
+    ghost may_refuse = { MayRefuse };
+
+    fn build(alloc: Global, text: &str) -> Result<Self, Refusal> {
+        let regex = Regex::new(alloc, text)?;
+        Ok(RegexEngine {
+            regex,
+            search: SharedSearch::new(),
+        })
+    }
+
+    fn text(&self) -> &str {
+        self.regex.as_str()
+    }
+
+    fn names(&self) -> &[Option<String>] {
+        self.regex.capture_names()
+    }
+
+    fn captures<'t>(
+        &self,
+        alloc: Global,
+        line: &'t str,
+    ) -> Result<Option<Vec<Option<&'t str>>>, AllocError> {
+        match self.search.captures(alloc, &self.regex, line) {
+            Ok(found) => Ok(found),
+            Err(_) => captures_afresh(alloc, &self.regex, line),
+        }
+    }
+}
+
+/// The texts that a search finds which is made for this line alone.
+fn captures_afresh<'t>(
+    alloc: Global,
+    regex: &Regex,
+    line: &'t str,
+) -> Result<Option<Vec<Option<&'t str>>>, AllocError>
+    ensures answer { IfOk result
+        (λ found. option_map (λ captures. capture_texts captures.items) found
+        ≡ captures_in (regex_pattern regex.now) (length (regex_names regex.now)) line.now) }
+    ensures places { IfOk result (λ found. IfSome found (λ captures. vec_len captures
+        ≡ length (regex_names regex.now))) }
+    ensures slices { IfOk result (λ found. IfSome found (λ captures. AreSlicesOf line.now
+        (capture_texts captures.items))) }
+{
+    let mut matcher = regex.matcher(alloc)?;
+    match matcher.captures(line) {
+        Some(found) => Ok(Some(group_texts(alloc, &found)?)),
+        None => Ok(None),
+    }
+}
+
+/// The text of each group, from group 0 on, in one new list.
+pub(crate) fn group_texts<'t>(
+    alloc: Global,
+    found: &Captures<'_, 't>,
+) -> Result<Vec<Option<&'t str>>, AllocError>
+    ensures texts { IfOk result
+        (λ captures. capture_texts captures.items ≡ texts_at (captures_haystack found.now)
+        (captures_span found.now) (length (captures_names found.now))) }
+    ensures count { IfOk result (λ captures. vec_len captures ≡ length (captures_names found.now)) }
+    ensures slices { IfOk result (λ captures. AreSlicesOf (captures_haystack found.now)
+        (capture_texts captures.items)) }
+{
+    let mut captures = Vec::with_capacity(alloc, found.len())?;
+    'groups: for number in 0..found.len() {
+        captures.push(group_text(found, number))?;
+    }
+    Ok(captures)
+}
+
+/// The text of one group, if it took part.
+fn group_text<'t>(found: &Captures<'_, 't>, number: usize) -> Option<&'t str>
+    ensures text { option_map text_of result ≡ text_at (captures_haystack found.now)
+        (captures_span found.now) number }
+    ensures slice { IfSome (option_map text_of result) (IsSliceOf (captures_haystack found.now)) }
+{
+    let group = found.get(number)?;
+    Some(group.as_str())
+}
+
+/// Writes where each group stands, from group 0 on, in the place of what the list has.
+pub(crate) fn write_locations(
+    locations: &mut Vec<Option<(usize, usize)>>,
+    found: &Captures<'_, '_>,
+) -> Result<(), AllocError>
+    ensures texts { OnOk result (located_texts (captures_haystack found.now) locations.new.items
+        ≡ texts_at (captures_haystack found.now) (captures_span found.now)
+        (length (captures_names found.now))) }
+    ensures count { OnOk result (vec_len locations.new ≡ length (captures_names found.now)) }
+    ensures inside { OnOk result (AreLocationsIn
+        (captures_haystack found.now) locations.new.items) }
+{
+    locations.clear();
+    'groups: for number in 0..found.len() {
+        locations.push(group_location(found, number))?;
+    }
+    Ok(())
+}
+
+/// Where one group stands, if it took part.
+fn group_location(found: &Captures<'_, '_>, number: usize) -> Option<(usize, usize)>
+    ensures span { result ≡ captures_span found.now number }
+    ensures inside { ForSome result (IsLocationIn (captures_haystack found.now)) }
+{
+    let group = found.get(number)?;
+    Some((group.start(), group.end()))
+}

@@ -1,0 +1,110 @@
+//! Why a pattern isn't compiled.
+ghost use Rattle.std.specs.Prelude.{◌≡◌, IfOk, Some};
+ghost use Rattle.grok.specs.Errors.{error_value, error_text};
+ghost use Rattle.grok.specs.declared.errors.error.Error.TheVariants.{Memory};
+ghost use Rattle.grok.specs.Items.{fault_view};
+ghost use Rattle.grok.specs.Compiled.{IsFaultError};
+
+use crate::errors::fault::Fault;
+use std::alloc::{AllocError, AllocFailed, Global};
+use std::{error, fmt};
+
+/// Why a pattern isn't compiled.
+#[derive(Debug, Drop, PartialEq, Eq)]
+pub enum Error {
+    /// More than 1,023 placeholders stand in one another.
+    RecursionTooDeep,
+    /// The pattern, which is empty, stands for an empty regular expression.
+    CompiledPatternIsEmpty(String),
+    /// The name has no definition.
+    DefinitionNotFound(String),
+    /// The engine refused the expanded text. The words say so, and hold that text.
+    RegexCompilationFailed(String),
+    /// A placeholder is malformed, or two placeholders have one key. The words say which.
+    GenericCompilationFailure(String),
+    /// There was not enough memory.
+    Memory,
+}
+
+impl Error {
+    /// An equal error. It fails where there is no memory for the copy of its words.
+    pub fn clone(&self) -> Result<Error, AllocError>
+        ensures { IfOk result (λ copy. error_value copy ≡ error_value self.now) }
+    {
+        Ok(match self {
+            Error::RecursionTooDeep => Error::RecursionTooDeep,
+            Error::CompiledPatternIsEmpty(pattern) => {
+                Error::CompiledPatternIsEmpty(pattern.clone()?)
+            }
+            Error::DefinitionNotFound(name) => Error::DefinitionNotFound(name.clone()?),
+            Error::RegexCompilationFailed(words) => Error::RegexCompilationFailed(words.clone()?),
+            Error::GenericCompilationFailure(words) => {
+                Error::GenericCompilationFailure(words.clone()?)
+            }
+            Error::Memory => Error::Memory,
+        })
+    }
+}
+
+impl fmt::Display for Error {
+    ghost output = { λ error. Some (error_text (error_value error)) };
+
+    fn fmt<W: fmt::Write>(&self, f: &mut fmt::Formatter<W>) -> fmt::Result {
+        match self {
+            // The crate's words: the 1,024th level is the one that is refused.
+            Error::RecursionTooDeep => {
+                write!(f, "Recursion while compiling reached the limit of 1024")
+            }
+            Error::CompiledPatternIsEmpty(pattern) => write!(
+                f,
+                "The given pattern \"{pattern}\" ended up compiling into an empty regex"
+            ),
+            Error::DefinitionNotFound(name) => write!(
+                f,
+                "The given pattern definition name \"{name}\" could not be found in the definition map"
+            ),
+            Error::RegexCompilationFailed(words) => write!(
+                f,
+                "The given regex \"{words}\" failed compilation in the underlying engine"
+            ),
+            Error::GenericCompilationFailure(words) => write!(
+                f,
+                "Something unexpected happened during the compilation phase: \"{words}\""
+            ),
+            Error::Memory => write!(f, "Out of memory"),
+        }
+    }
+}
+
+impl error::Error for Error {}
+
+impl From<AllocError> for Error {
+    ghost from_gives = { λ _ error. error ≡ Memory };
+
+    fn from(_error: AllocError) -> Error {
+        Error::Memory
+    }
+}
+
+impl<T: Drop> From<AllocFailed<T>> for Error {
+    ghost from_gives = { λ _ error. error ≡ Memory };
+
+    fn from(_error: AllocFailed<T>) -> Error {
+        Error::Memory
+    }
+}
+
+impl Fault<'_> {
+    /// The error that compiling answers for the fault. It fails where there is no memory for the error's text.
+    pub fn to_error(&self, alloc: Global) -> Result<Error, AllocError>
+        ensures { IfOk result (λ error. IsFaultError (fault_view self.now) (error_value error)) }
+    {
+        Ok(match self {
+            Fault::Malformed(fault) => {
+                Error::GenericCompilationFailure(format!(in alloc; "{fault:?}")?)
+            }
+            Fault::Missing(name) => Error::DefinitionNotFound(String::from_str(alloc, name)?),
+            Fault::TooDeep => Error::RecursionTooDeep,
+        })
+    }
+}

@@ -1,0 +1,110 @@
+//! The events of a pattern's tree, one after another, on a stack of their own.
+ghost use Rattle.std.specs.Prelude.{◌≡◌, [], ◌∷◌, IfOk, MatchOption};
+ghost use Rattle.std.specs.FinMap as finite;
+ghost use Rattle.grok.specs.Tree.{items_of, meaning_text, tree as tree_of};
+ghost use Rattle.grok.specs.Items.{meaning_view};
+ghost use Rattle.grok.specs.Events.{event_view};
+
+use crate::defs::Grok;
+use crate::defs::items::{Item, Items, Label, Meaning};
+use crate::errors::fault::{Fault, LEVELS};
+use std::alloc::AllocError;
+use std::marker::Model;
+use std::mem;
+
+/// What is read of a pattern in which each placeholder stands with all that it opens.
+#[derive(Clone, Copy)]
+pub(crate) enum Event<'a> {
+    Text(&'a str),
+    /// A placeholder, with what it stands for.
+    Open(Label<'a>, Meaning<'a>),
+    /// The end of what the last open placeholder stands for.
+    Close,
+    Fault(Fault<'a>),
+}
+
+/// The events of a pattern's tree that are left.
+///
+/// The texts that are open lie on a stack, so no nesting of definitions takes more of the caller's.
+#[derive(Drop)]
+pub(crate) struct Events<'a> {
+    grok: &'a Grok,
+    /// What is left of the texts around the innermost one, the pattern first.
+    around: Vec<Items<'a>>,
+    /// What is left of the innermost text.
+    items: Items<'a>,
+    /// What the placeholder stands for that was read last, if it is still to be opened.
+    opening: Option<Meaning<'a>>,
+}
+
+// Contracts see the events that are left.
+impl<'a> Model for Events<'a> {
+    ghost use Rattle.std.specs.Prelude.{List};
+    ghost use Rattle.grok.specs.Tree.{Event};
+
+    ghost Value = { List Event };
+
+    ghost use Rattle.std.specs.FinMap as finite;
+    ghost use Rattle.std.specs.Option.{option_map};
+    ghost use Rattle.grok.specs.Tree.{items_of, deepest};
+    ghost use Rattle.grok.specs.Items.{meaning_view};
+    ghost use Rattle.grok.specs.Events.{events_left};
+
+    ghost view = { λ s. events_left (items_of (finite.get s.grok.now)) deepest
+        s.around.items (option_map meaning_view s.opening) s.items };
+}
+
+/// The items of what a placeholder stands for.
+fn items_inside<'a>(grok: &'a Grok, meaning: Meaning<'a>) -> Items<'a>
+    ensures { result ≡ items_of (finite.get grok.now) (meaning_text (meaning_view meaning.entry)) }
+{
+    match meaning {
+        Meaning::Inline(text) => Items::of_text(grok.alloc(), grok, text),
+        Meaning::Stored(stored) => Items::of_stored(grok.alloc(), grok, stored),
+    }
+}
+
+impl<'a> Events<'a> {
+    /// The events of a pattern's tree.
+    pub fn of_pattern(grok: &'a Grok, pattern: &'a str) -> Events<'a>
+        ensures { result ≡ tree_of (finite.get grok.now) pattern.now }
+    {
+        let alloc = grok.alloc();
+        Events {
+            grok,
+            around: Vec::new(alloc),
+            items: Items::of_text(alloc, grok, pattern),
+            opening: None,
+        }
+    }
+
+    /// The next event, if there is one. An error is want of memory, for a text that is opened or for
+    /// a definition that it writes.
+    pub fn next(&mut self) -> Result<Option<Event<'a>>, AllocError>
+        ensures { IfOk result (λ found. MatchOption found ((self.old ≡ []) × (self.new ≡ []))
+            (λ event. self.old ≡ event_view event ∷ self.new)) }
+    {
+        if let Some(meaning) = self.opening.take() {
+            if self.around.len() >= LEVELS {
+                return Ok(Some(Event::Fault(Fault::TooDeep)));
+            }
+            let inner = items_inside(self.grok, meaning);
+            self.around.push(mem::replace(&mut self.items, inner))?;
+        }
+        match self.items.next()? {
+            Some(Item::Text(text)) => Ok(Some(Event::Text(text))),
+            Some(Item::Fault(fault)) => Ok(Some(Event::Fault(fault))),
+            Some(Item::Placeholder(label, meaning)) => {
+                self.opening = Some(meaning);
+                Ok(Some(Event::Open(label, meaning)))
+            }
+            None => match self.around.pop() {
+                Some(outer) => {
+                    self.items = outer;
+                    Ok(Some(Event::Close))
+                }
+                None => Ok(None),
+            },
+        }
+    }
+}

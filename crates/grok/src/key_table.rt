@@ -1,0 +1,227 @@
+//! The table of keys: which group each key has.
+ghost use Rattle.std.specs.Prelude.{◌≡◌, ℕ, ◌<◌, ◌^◌, List, map, IfOk, OnOk, MatchOption};
+ghost use Rattle.std.specs.String.{string_bytes};
+ghost use Rattle.std.specs.BTreeMap.{get_by};
+ghost use Rattle.std.specs.List.Sorted.{IsStrictlySortedBy};
+ghost use Rattle.std.specs.Map.{keys_of};
+ghost use Rattle.std.specs.Cmp.Lexicographic.{slice_cmp};
+ghost use Rattle.std.specs.Ordering.{nat_cmp};
+ghost use Rattle.grok.specs.Captures.{name_texts};
+ghost use Rattle.grok.specs.GeneratedNames.{generated};
+ghost use Rattle.grok.specs.KeyTable.{meant_key, group_of, group_in, IsKeyTable};
+
+use crate::generated_name::NAME_START;
+use itoa::Buffer;
+use std::alloc::{AllocError, Global};
+use std::cmp::Ordering;
+use std::collections::BTreeMap;
+use std::marker::Model;
+
+/// The number that a generated name was written for.
+fn number_of(name: &str) -> Option<usize>
+    ensures { MatchOption result ((number : ℕ) → number < 2 ^ 64 → name.now ≡ generated number → ⊥)
+        (λ number. name.now ≡ generated number) }
+{
+    let digits = name.strip_prefix(NAME_START)?;
+    let number = digits.parse::<usize>().ok()?;
+    let mut buffer = Buffer::new();
+    if buffer.format(number) == digits {
+        Some(number)
+    } else {
+        None
+    }
+}
+
+/// The key that a group's name means.
+fn meant<'a>(name: &'a str, keys: &'a [String]) -> &'a str
+    ensures { result.now ≡ meant_key (map string_bytes keys.now) name.now }
+{
+    match number_of(name) {
+        Some(number) if number < keys.len() => keys[number].as_str(),
+        _ => name,
+    }
+}
+
+/// The group of each key that some name means, the last one where several names mean it.
+fn groups_by_key<'a>(
+    alloc: Global,
+    names: &'a [Option<String>],
+    keys: &'a [String],
+) -> Result<BTreeMap<&'a str, usize>, AllocError>
+    ensures { IfOk result
+        (λ groups. (key : List ℕ) → get_by (λ k. slice_cmp nat_cmp key k.now) groups
+        ≡ group_of (map string_bytes keys.now) (name_texts names.now) key) }
+{
+    let mut groups = BTreeMap::new(alloc);
+    'names: for (group, name) in names.iter().enumerate() {
+        if let Some(name) = name {
+            groups.insert(meant(name.as_str(), keys), group)?;
+        }
+    }
+    Ok(groups)
+}
+
+/// Where a key stands in the text, and its group.
+#[derive(Clone, Copy)]
+struct Place {
+    start: usize,
+    end: usize,
+    group: usize,
+}
+
+/// The keys and their groups, in byte order of the keys.
+#[derive(Drop)]
+pub(crate) struct KeyTable {
+    text: String,
+    places: Vec<Place>,
+}
+
+// Contracts see the keys with their groups, in byte order.
+impl Model for KeyTable {
+    ghost use Rattle.std.specs.String.{string_bytes};
+    ghost use Rattle.grok.specs.KeyTable.{Entries};
+    ghost use Rattle.grok.specs.KeyPlaces.{entries_at, IsTable};
+
+    ghost Value = { Entries };
+
+    ghost view = { λ table. entries_at (string_bytes table.text) table.places.items };
+
+    ghost invariant = { λ table. IsTable (string_bytes table.text) table.places.items };
+}
+
+ghost use Rattle.grok.specs.KeyPlaces.{key_at, key_or_none, entry_of, IsExtended, IsPlace};
+
+/// The bytes of the key at a place, and none where the text has no such place.
+fn bytes_at(text: &str, place: Place) -> &[u8]
+    ensures { result.now ≡ key_or_none text.now place }
+{
+    match text.as_bytes().get(place.start..place.end) {
+        Some(key) => key,
+        None => &[],
+    }
+}
+
+/// How the key at a place compares to a key.
+fn compare_at(text: &str, place: Place, key: &str) -> Ordering
+    ensures { result ≡ slice_cmp nat_cmp (key_or_none text.now place) key.now }
+{
+    bytes_at(text, place).cmp(key.as_bytes())
+}
+
+/// Puts a key at the end of the text, and its place at the end of the places.
+fn extend(
+    text: &mut String,
+    places: &mut Vec<Place>,
+    key: &str,
+    group: usize,
+) -> Result<(), AllocError>
+    ensures { OnOk result (IsExtended (string_bytes text.old) places.old.items key.now group
+        (string_bytes text.new) places.new.items) }
+{
+    let start = text.len();
+    text.push_str(key)?;
+    places.push(Place {
+        start,
+        end: text.len(),
+        group,
+    })?;
+    Ok(())
+}
+
+impl KeyTable {
+    /// The table of the keys and groups of a map.
+    fn new(alloc: Global, groups: &BTreeMap<&str, usize>) -> Result<KeyTable, AllocError>
+        ensures entries { IfOk result (λ table. table ≡ map entry_of groups.now.entries) }
+        ensures sorted { IfOk result
+            (λ table. IsStrictlySortedBy (slice_cmp nat_cmp) (keys_of table)) }
+    {
+        let mut text = String::new(alloc);
+        let mut places = Vec::with_capacity(alloc, groups.len())?;
+        'groups: for (key, group) in groups {
+            extend(&mut text, &mut places, key, *group)?;
+        }
+        Ok(KeyTable { text, places })
+    }
+
+    /// The table for the names of an engine's groups and the keys by number.
+    pub(crate) fn for_names(
+        alloc: Global,
+        names: &[Option<String>],
+        keys: &[String],
+    ) -> Result<KeyTable, AllocError>
+        ensures { IfOk result (IsKeyTable (map string_bytes keys.now) (name_texts names.now)) }
+    {
+        let groups = groups_by_key(alloc, names, keys)?;
+        KeyTable::new(alloc, &groups)
+    }
+
+    /// The group of a key.
+    pub(crate) fn get(&self, key: &str) -> Option<usize>
+        ensures { result ≡ group_in self.now key.now }
+    {
+        let text = self.text.as_str();
+        match self
+            .places
+            .binary_search_by(|place| compare_at(text, *place, key))
+        {
+            Ok(at) => Some(self.places[at].group),
+            Err(_) => None,
+        }
+    }
+
+    /// The keys with their groups, in byte order of the keys, each once.
+    pub(crate) fn entries(&self) -> KeyEntries<'_>
+        ensures all { result ≡ self.now }
+        ensures sorted { IsStrictlySortedBy (slice_cmp nat_cmp) (keys_of result) }
+    {
+        KeyEntries {
+            text: self.text.as_str(),
+            places: self.places.as_slice(),
+        }
+    }
+}
+
+/// The keys of a table that are left, with their groups.
+#[derive(Drop)]
+pub(crate) struct KeyEntries<'a> {
+    text: &'a str,
+    places: &'a [Place],
+}
+
+// Contracts see the keys that are left, with their groups.
+impl<'a> Model for KeyEntries<'a> {
+    ghost use Rattle.std.specs.List.{AllByRecursion};
+    ghost use Rattle.grok.specs.KeyTable.{Entries};
+    ghost use Rattle.grok.specs.KeyPlaces.{entries_at, IsPlace};
+
+    ghost Value = { Entries };
+
+    ghost view = { λ left. entries_at left.text.now left.places.now };
+
+    ghost invariant = { λ left. AllByRecursion (IsPlace left.text.now) left.places.now };
+}
+
+/// The key at a place of the text.
+fn key_of<'a>(text: &'a str, place: Place) -> &'a str
+    requires { IsPlace text.now place }
+    ensures { result.now ≡ key_at text.now place }
+{
+    &text[place.start..place.end]
+}
+
+impl<'a> Iterator for KeyEntries<'a> {
+    type Item = (&'a str, usize);
+
+    ghost use Rattle.std.specs.Iterator.{YieldsFirstBy, item_count};
+
+    ghost next_gives = { YieldsFirstBy entry_of (λ left. left) };
+
+    ghost remaining = { item_count (λ left. left) };
+
+    fn next(&mut self) -> Option<(&'a str, usize)> {
+        let (first, rest) = self.places.split_first()?;
+        let key = key_of(self.text, *first);
+        self.places = rest;
+        Some((key, first.group))
+    }
+}

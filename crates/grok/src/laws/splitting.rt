@@ -1,0 +1,33 @@
+//! Laws of the definitions that the contracts of the splitter speak of. The function does nothing;
+//! its contract is what is proved.
+ghost use Rattle.std.specs.Prelude.{◌≡◌, ℕ, ◌++◌, List, [], ◌∷◌, length};
+ghost use Rattle.grok.specs.Grammar.{NonePass};
+ghost use Rattle.grok.specs.Joined.{joined, IsClean, AreRegular};
+ghost use Rattle.grok.specs.Pieces.{Piece, Parts, Placeholder, Malformed, pieces, is_brace};
+ghost use Rattle.grok.specs.Tiles.{Tile};
+
+use crate::parser::GrokPatternError;
+
+/// Laws of the pieces of a text.
+///
+/// The ranges tile the text up to a fault, and a fault is the last piece, so there is one at most.
+/// Joining the pieces of a text without a fault gives the text back. A text without braces has
+/// regular pieces only, which join to it, and the definition in a placeholder is such a text. The
+/// text of a placeholder, split by itself, is that placeholder.
+#[tactic(auto, using(crate::proofs::PieceLaws::laws))]
+pub fn pieces()
+    ensures tile { (text : List ℕ) → Tile text 0 (pieces text) }
+    ensures last { (text : List ℕ) (before after : List Piece) (fault : GrokPatternError)
+        → pieces text ≡ before ++ Malformed fault ∷ after → after ≡ [] }
+    ensures join { (text : List ℕ) → IsClean (pieces text) → joined (pieces text) ≡ text }
+    ensures regular { (text : List ℕ) → NonePass is_brace text → AreRegular (pieces text)
+        × (joined (pieces text) ≡ text) }
+    ensures inline { (text : List ℕ) (before after : List Piece) (from to : ℕ) (pattern : List ℕ)
+        (parts : Parts) →
+        pieces text ≡ before ++ Placeholder from to pattern parts ∷ after
+        → NonePass is_brace parts.definition }
+    ensures alone { (text : List ℕ) (before after : List Piece) (from to : ℕ) (pattern : List ℕ)
+        (parts : Parts) →
+        pieces text ≡ before ++ Placeholder from to pattern parts ∷ after → pieces pattern
+        ≡ Placeholder 0 (length pattern) pattern parts ∷ [] }
+{}

@@ -1,0 +1,370 @@
+//! Patterns, and what they answer for a line.
+ghost use Rattle.std.specs.Prelude.{◌≡◌, ℕ, List, Option, length, map, option_map, IfOk, IfSome};
+ghost use Rattle.std.specs.Borrow.{Bor};
+ghost use Rattle.std.specs.BTreeMap.{get_by_text};
+ghost use Rattle.std.specs.FinMap as finite;
+ghost use Rattle.std.specs.String.{string_bytes};
+ghost use Rattle.std.specs.List.Sorted.{IsStrictlySortedBy};
+ghost use Rattle.std.specs.Map.{keys_of};
+ghost use Rattle.std.specs.Cmp.Lexicographic.{slice_cmp};
+ghost use Rattle.std.specs.Ordering.{nat_cmp};
+ghost use Rattle.grok.specs.Captures.{text_of, capture_texts, AreSlicesOf};
+ghost use Rattle.std.specs.Fmt.{DisplaysOnOk};
+ghost use Rattle.grok.specs.Maps.{pair_texts};
+ghost use Rattle.grok.specs.Debugs.{debug_pairs};
+ghost use Rattle.grok.specs.Answers.{extract_texts, capture_at, answer_of, walk};
+
+pub(crate) mod groups;
+pub(crate) mod lent;
+pub(crate) mod matcher;
+pub(crate) mod search;
+
+use crate::debug_map::{write_entry, write_map};
+use crate::engine::Engine;
+use crate::engine::matcher::HasMatcher;
+use crate::key_table::{KeyEntries, KeyTable};
+use crate::matches::groups::{GroupTexts, capture_of};
+use crate::matches::matcher::MatcherOf;
+use std::alloc::{AllocError, Global};
+use std::collections::BTreeMap;
+use std::fmt;
+use std::marker::Model;
+
+/// A compiled pattern: what an engine built, the key of each group, and the extracts. It owns all
+/// that it holds, and serves any number of matches.
+#[derive(Drop)]
+pub struct PatternOf<E> {
+    alloc: Global,
+    engine: E,
+    keys: KeyTable,
+    extracts: BTreeMap<String, String>,
+}
+
+// Contracts see the engine's value, the key table and the extracts.
+impl<E> Model for PatternOf<E> {
+    ghost use Rattle.grok.specs.Answers.{PatternValue, pattern_code, extract_texts};
+
+    ghost Value = { PatternValue E };
+
+    ghost coded = { pattern_code E.code };
+
+    ghost view = { λ pattern. record {
+      engine = pattern.engine;
+      keys = pattern.keys;
+      extracts = extract_texts pattern.extracts.entries;
+    } };
+}
+
+/// A match of a pattern in a line.
+#[derive(Drop)]
+pub struct MatchesOf<'a, E> {
+    pattern: &'a PatternOf<E>,
+    captures: Vec<Option<&'a str>>,
+}
+
+// Contracts see the pattern and the text of each group.
+impl<'a, E> Model for MatchesOf<'a, E> {
+    ghost use Rattle.grok.specs.Answers.{MatchesValue, matches_code};
+    ghost use Rattle.grok.specs.Captures.{capture_texts};
+
+    ghost Value = { MatchesValue E };
+
+    ghost coded = { matches_code E.code };
+
+    ghost view = { λ found. record {
+      pattern = found.pattern.now;
+      captures = capture_texts found.captures.items;
+    } };
+}
+
+impl<E: Engine> PatternOf<E> {
+    /// The pattern of these parts.
+    #[tactic(auto, using(crate::proofs::AnswerLemmas::extract_found))]
+    pub(crate) fn new(
+        alloc: Global,
+        engine: E,
+        keys: KeyTable,
+        extracts: BTreeMap<String, String>,
+    ) -> PatternOf<E>
+        ensures engine { result.engine ≡ engine }
+        ensures keys { result.keys ≡ keys }
+        ensures extracts { (name : List ℕ) → finite.get result.extracts name
+            ≡ option_map string_bytes (get_by_text extracts name) }
+    {
+        PatternOf {
+            alloc,
+            engine,
+            keys,
+            extracts,
+        }
+    }
+
+    /// The text that the engine built.
+    pub fn text(&self) -> &str
+        ensures { result.now ≡ E.source_of self.now.engine }
+    {
+        self.engine.text()
+    }
+
+    /// The first match in the line, or none where the engine finds none. Its error is that of the
+    /// engine, which wanted memory.
+    pub fn match_against<'a>(
+        &'a self,
+        text: &'a str,
+    ) -> Result<Option<MatchesOf<'a, E>>, AllocError>
+        ensures captures { IfOk result (λ found. option_map (λ matches. matches.captures) found
+            ≡ E.answer_to self.now.engine text.now) }
+        ensures pattern { IfOk result
+            (λ found. IfSome found (λ matches. matches.pattern ≡ self.now)) }
+        ensures places { IfOk result (λ found. IfSome found (λ matches. length matches.captures
+            ≡ length (E.group_names self.now.engine))) }
+        ensures slices { IfOk result
+            (λ found. IfSome found (λ matches. AreSlicesOf text.now matches.captures)) }
+    {
+        match self.engine.captures(self.alloc, text)? {
+            Some(captures) => Ok(Some(MatchesOf::new(self, captures))),
+            None => Ok(None),
+        }
+    }
+
+    /// What answers many lines as `match_against` does, one after another, and keeps what the
+    /// engine's search needs. Its error is that of the engine, which wanted memory.
+    pub fn matcher<'p>(&'p self) -> Result<MatcherOf<'p, E>, AllocError>
+    where
+        E: HasMatcher<'p>,
+        ensures { IfOk result (λ matcher. matcher ≡ self.now) }
+    {
+        MatcherOf::new(self.alloc, self, &self.engine)
+    }
+
+    /// The keys in byte order, each once.
+    pub fn capture_names(&self) -> CaptureNames<'_>
+        ensures keys { result ≡ keys_of self.now.keys }
+        ensures sorted { IsStrictlySortedBy (slice_cmp nat_cmp) (result) }
+    {
+        CaptureNames {
+            entries: self.keys.entries(),
+        }
+    }
+
+    /// The extract of a key. Whether the key has a group doesn't matter.
+    #[tactic(auto, using(crate::proofs::AnswerLemmas::extract_found))]
+    pub fn get_extract(&self, name: &str) -> Option<&str>
+        ensures { option_map text_of result ≡ finite.get self.now.extracts name.now }
+    {
+        match self.extracts.get(name) {
+            Some(extract) => Some(extract.as_str()),
+            None => None,
+        }
+    }
+}
+
+impl<'a, E: Engine> MatchesOf<'a, E> {
+    /// A match of the pattern with the texts of its groups.
+    pub(crate) fn new(pattern: &'a PatternOf<E>, captures: Vec<Option<&'a str>>) -> MatchesOf<'a, E>
+        ensures pattern { result.pattern ≡ pattern.now }
+        ensures captures { result.captures ≡ capture_texts captures.entry.items }
+    {
+        MatchesOf { pattern, captures }
+    }
+
+    /// The text of the key's group, and none where there is no such key or that group took no part.
+    pub fn get(&self, name: &str) -> Option<&str>
+        ensures { option_map text_of result
+            ≡ answer_of self.now.pattern.keys self.now.captures name.now }
+    {
+        let pattern = self.pattern;
+        let group = pattern.keys.get(name)?;
+        capture_of(&self.captures, group)
+    }
+
+    /// The keys whose group took part, each with its text, in byte order of the keys.
+    pub fn iter(&self) -> MatchesIter<'_>
+        ensures pairs { result ≡ walk self.now.pattern.keys self.now.captures }
+        ensures sorted { IsStrictlySortedBy (slice_cmp nat_cmp) (keys_of result) }
+    {
+        let pattern = self.pattern;
+        MatchesIter::new(&pattern.keys, GroupTexts::Listed(self.captures.as_slice()))
+    }
+
+    /// The pattern that matched.
+    pub fn pattern(&self) -> &PatternOf<E>
+        ensures { result.now ≡ self.now.pattern }
+    {
+        self.pattern
+    }
+
+    /// The pairs of `iter`, in its order.
+    pub fn collect(&self, alloc: Global) -> Result<Vec<(&str, &str)>, AllocError>
+        ensures { IfOk result
+            (λ pairs. map pair_texts pairs.items ≡ walk self.now.pattern.keys self.now.captures) }
+    {
+        let mut pairs = Vec::new(alloc);
+        'pairs: for pair in self.iter() {
+            pairs.push(pair)?;
+        }
+        Ok(pairs)
+    }
+
+    /// The pairs of `iter`, as a map.
+    pub fn collect_map(&self, alloc: Global) -> Result<BTreeMap<&str, &str>, AllocError>
+        ensures { IfOk result
+            (λ texts. map pair_texts texts.entries ≡ walk self.now.pattern.keys self.now.captures) }
+    {
+        let mut texts = BTreeMap::new(alloc);
+        'pairs: for (name, text) in self.iter() {
+            texts.insert(name, text)?;
+        }
+        Ok(texts)
+    }
+}
+
+/// The keys of a pattern that are left.
+#[derive(Drop)]
+pub struct CaptureNames<'a> {
+    entries: KeyEntries<'a>,
+}
+
+// Contracts see the keys that are left.
+impl<'a> Model for CaptureNames<'a> {
+    ghost use Rattle.std.specs.Prelude.{ℕ, List};
+    ghost use Rattle.std.specs.Map.{keys_of};
+
+    ghost Value = { List (List ℕ) };
+
+    ghost view = { λ names. keys_of names.entries };
+}
+
+impl<'a> Iterator for CaptureNames<'a> {
+    type Item = &'a str;
+
+    ghost use Rattle.std.specs.Iterator.{YieldsFirstBy, item_count};
+
+    ghost next_gives = { YieldsFirstBy text_of (λ left. left) };
+
+    ghost remaining = { item_count (λ left. left) };
+
+    fn next(&mut self) -> Option<&'a str> {
+        let (name, _) = self.entries.next()?;
+        Some(name)
+    }
+}
+
+/// The keys of a match that are left and whose group took part, with their texts.
+#[derive(Drop)]
+pub struct MatchesIter<'a> {
+    entries: KeyEntries<'a>,
+    groups: GroupTexts<'a>,
+}
+
+// Contracts see the pairs that are left.
+impl<'a> Model for MatchesIter<'a> {
+    ghost use Rattle.std.specs.Prelude.{ℕ, List};
+    ghost use Rattle.grok.specs.Answers.{walk};
+    ghost use Rattle.grok.specs.Groups.{group_texts};
+
+    ghost Value = { List (List ℕ × List ℕ) };
+
+    ghost view = { λ left. walk left.entries (group_texts left.groups) };
+}
+
+impl<'a> MatchesIter<'a> {
+    ghost use Rattle.grok.specs.Groups.{group_texts};
+
+    /// The pairs of these groups.
+    pub(crate) fn new(keys: &'a KeyTable, groups: GroupTexts<'a>) -> MatchesIter<'a>
+        ensures pairs { result ≡ walk keys.now (group_texts groups.entry) }
+        ensures sorted { IsStrictlySortedBy (slice_cmp nat_cmp) (keys_of result) }
+    {
+        MatchesIter {
+            entries: keys.entries(),
+            groups,
+        }
+    }
+}
+
+impl<'a> Iterator for MatchesIter<'a> {
+    type Item = (&'a str, &'a str);
+
+    ghost use Rattle.std.specs.Iterator.{YieldsFirstBy, item_count};
+
+    ghost next_gives = { YieldsFirstBy pair_texts (λ left. left) };
+
+    ghost remaining = { item_count (λ left. left) };
+
+    fn next(&mut self) -> Option<(&'a str, &'a str)> {
+        'entries: while let Some((name, group)) = self.entries.next() {
+            if let Some(text) = self.groups.get(group) {
+                return Some((name, text));
+            }
+        }
+        None
+    }
+}
+
+/// Writes pairs between braces, in their order.
+pub(crate) fn write_pairs<W: fmt::Write>(
+    f: &mut fmt::Formatter<W>,
+    pairs: MatchesIter<'_>,
+) -> fmt::Result
+    ensures { DisplaysOnOk W.write_str_gives f.old result (debug_pairs pairs.entry) f.new }
+{
+    f.write_str("{")?;
+    let mut lead = "";
+    'pairs: for (name, text) in pairs {
+        write_entry(f, lead, name, &text)?;
+        lead = ", ";
+    }
+    f.write_str("}")
+}
+
+impl<'m, 'a, E: Engine> IntoIterator for &'m MatchesOf<'a, E> {
+    type Item = (&'m str, &'m str);
+
+    type IntoIter = MatchesIter<'m>;
+
+    ghost into_iter_gives = { λ matches pairs. (pairs
+        ≡ walk matches.now.pattern.keys matches.now.captures)
+        × IsStrictlySortedBy (slice_cmp nat_cmp) (keys_of pairs) };
+
+    fn into_iter(self) -> MatchesIter<'m> {
+        self.iter()
+    }
+}
+
+/// The text and the extracts.
+impl<E: Engine> fmt::Debug for PatternOf<E> {
+    ghost use Rattle.std.specs.Prelude.{codes, Some};
+    ghost use Rattle.std.specs.Fmt.{debug_str, ◌++?◌};
+    ghost use Rattle.grok.specs.Debugs.{debug_texts};
+
+    ghost debug_output = { λ pattern. Some (codes "Pattern { text: ")
+        ++? debug_str (E.source_of pattern.engine) ++? Some (codes ", extracts: ")
+        ++? debug_texts pattern.extracts ++? Some (codes " }") };
+
+    fn fmt<W: fmt::Write>(&self, f: &mut fmt::Formatter<W>) -> fmt::Result {
+        let text = self.text();
+        if f.alternate() {
+            return f
+                .debug_struct("Pattern")
+                .field("text", &text)
+                .field("extracts", &self.extracts)
+                .finish();
+        }
+        write!(f, "Pattern {{ text: {text:?}, extracts: ")?;
+        write_map(f, &self.extracts)?;
+        f.write_str(" }")
+    }
+}
+
+/// The pairs, in the order of `iter`.
+impl<E: Engine> fmt::Debug for MatchesOf<'_, E> {
+    ghost debug_output = { λ matches. debug_pairs (walk matches.pattern.keys matches.captures) };
+
+    fn fmt<W: fmt::Write>(&self, f: &mut fmt::Formatter<W>) -> fmt::Result {
+        if f.alternate() {
+            return f.debug_map().entries(self.iter()).finish();
+        }
+        write_pairs(f, self.iter())
+    }
+}

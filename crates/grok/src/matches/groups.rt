@@ -1,0 +1,74 @@
+//! The texts of a match's groups: in a list, or where they stand in the line.
+ghost use Rattle.std.specs.Prelude.{◌≡◌, IfSome, option_map, slice_index_or};
+ghost use Rattle.grok.specs.Captures.{text_of, capture_texts};
+ghost use Rattle.grok.specs.Locations.{IsLocationIn, AreLocationsIn, located_texts};
+ghost use Rattle.grok.specs.Answers.{capture_at};
+
+/// Where the groups of a match stand in its line.
+#[derive(Clone, Copy)]
+pub(crate) struct Located<'a> {
+    line: &'a str,
+    /// From group 0 on the start and the end of each group that took part, in bytes.
+    locations: &'a [Option<(usize, usize)>],
+    ghost inside: { AreLocationsIn line.now locations.now },
+}
+
+/// The texts of a match's groups.
+#[derive(Clone, Copy)]
+pub(crate) enum GroupTexts<'a> {
+    /// In a list, from group 0 on.
+    Listed(&'a [Option<&'a str>]),
+    /// In the line.
+    Located(Located<'a>),
+}
+
+/// The text of a group in a list, if it took part.
+pub(crate) fn capture_of<'a>(captures: &[Option<&'a str>], group: usize) -> Option<&'a str>
+    ensures { option_map text_of result ≡ capture_at (capture_texts captures.now) group }
+{
+    captures.get(group).copied()?
+}
+
+impl<'a> Located<'a> {
+    /// The places of a match's groups in this line.
+    pub(crate) fn new(line: &'a str, locations: &'a [Option<(usize, usize)>]) -> Located<'a>
+        requires { AreLocationsIn line.now locations.now }
+        ensures line { result.line.now ≡ line.now }
+        ensures locations { result.locations.now ≡ locations.now }
+    {
+        Located { line, locations }
+    }
+
+    /// Where a group stands, if it took part.
+    #[tactic(auto, using(crate::proofs::LocationLemmas::location_in))]
+    fn location(&self, group: usize) -> Option<(usize, usize)>
+        ensures at { result ≡ slice_index_or self.now.locations.now group None }
+        ensures inside { IfSome result (IsLocationIn self.now.line.now) }
+    {
+        self.locations.get(group).copied()?
+    }
+
+    /// The text of a group, if it took part.
+    #[tactic(auto, using(crate::proofs::LocationLemmas::text_located))]
+    pub(crate) fn get(&self, group: usize) -> Option<&'a str>
+        ensures { option_map text_of result
+            ≡ capture_at (located_texts self.now.line.now self.now.locations.now) group }
+    {
+        let (start, end) = self.location(group)?;
+        Some(&self.line[start..end])
+    }
+}
+
+impl<'a> GroupTexts<'a> {
+    ghost use Rattle.grok.specs.Groups.{group_texts};
+
+    /// The text of a group, if it took part.
+    pub(crate) fn get(&self, group: usize) -> Option<&'a str>
+        ensures { option_map text_of result ≡ capture_at (group_texts self.now) group }
+    {
+        match self {
+            GroupTexts::Listed(captures) => capture_of(captures, group),
+            GroupTexts::Located(located) => located.get(group),
+        }
+    }
+}

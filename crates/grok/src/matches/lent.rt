@@ -1,0 +1,84 @@
+//! Matches that a matcher lends until its next line.
+ghost use Rattle.std.specs.Prelude.{◌≡◌, option_map};
+ghost use Rattle.std.specs.List.Sorted.{IsStrictlySortedBy};
+ghost use Rattle.std.specs.Map.{keys_of};
+ghost use Rattle.std.specs.Cmp.Lexicographic.{slice_cmp};
+ghost use Rattle.std.specs.Ordering.{nat_cmp};
+ghost use Rattle.grok.specs.Captures.{text_of};
+ghost use Rattle.grok.specs.Debugs.{debug_pairs};
+ghost use Rattle.grok.specs.Answers.{answer_of, walk};
+
+use crate::key_table::KeyTable;
+use crate::matches::groups::{GroupTexts, Located};
+use crate::matches::{MatchesIter, write_pairs};
+use std::fmt;
+
+/// A match of a pattern in a line, which borrows from the matcher that found it. It answers as a
+/// [`MatchesOf`](crate::MatchesOf) does, and owns nothing.
+#[derive(Clone, Copy)]
+pub struct MatchesRef<'m> {
+    keys: &'m KeyTable,
+    located: Located<'m>,
+}
+
+impl<'m> MatchesRef<'m> {
+    ghost use Rattle.grok.specs.Groups.{texts_in_line};
+    ghost use Rattle.grok.specs.Lent.{lent_keys, lent_captures};
+
+    /// A match with these keys and groups at these places.
+    pub(crate) fn new(keys: &'m KeyTable, located: Located<'m>) -> MatchesRef<'m>
+        ensures keys { lent_keys result ≡ keys.now }
+        ensures captures { lent_captures result ≡ texts_in_line located.entry }
+    {
+        MatchesRef { keys, located }
+    }
+
+    /// The text of the key's group, and none where there is no such key or that group took no part.
+    pub fn get(&self, name: &str) -> Option<&'m str>
+        ensures { option_map text_of result ≡ answer_of (lent_keys self.now)
+            (lent_captures self.now) name.now }
+    {
+        let keys = self.keys;
+        let group = keys.get(name)?;
+        self.located.get(group)
+    }
+
+    /// The keys whose group took part, each with its text, in byte order of the keys.
+    pub fn iter(&self) -> MatchesIter<'m>
+        ensures pairs { result ≡ walk (lent_keys self.now) (lent_captures self.now) }
+        ensures sorted { IsStrictlySortedBy (slice_cmp nat_cmp) (keys_of result) }
+    {
+        MatchesIter::new(self.keys, GroupTexts::Located(self.located))
+    }
+}
+
+impl<'r, 'm> IntoIterator for &'r MatchesRef<'m> {
+    ghost use Rattle.grok.specs.Lent.{lent_keys, lent_captures};
+
+    type Item = (&'m str, &'m str);
+
+    type IntoIter = MatchesIter<'m>;
+
+    ghost into_iter_gives = { λ matches pairs. (pairs ≡ walk (lent_keys matches.now)
+        (lent_captures matches.now))
+        × IsStrictlySortedBy (slice_cmp nat_cmp) (keys_of pairs) };
+
+    fn into_iter(self) -> MatchesIter<'m> {
+        self.iter()
+    }
+}
+
+/// The pairs, in the order of `iter`.
+impl fmt::Debug for MatchesRef<'_> {
+    ghost use Rattle.grok.specs.Lent.{lent_keys, lent_captures};
+
+    ghost debug_output = { λ matches. debug_pairs (walk (lent_keys matches)
+        (lent_captures matches)) };
+
+    fn fmt<W: fmt::Write>(&self, f: &mut fmt::Formatter<W>) -> fmt::Result {
+        if f.alternate() {
+            return f.debug_map().entries(self.iter()).finish();
+        }
+        write_pairs(f, self.iter())
+    }
+}

@@ -1,0 +1,100 @@
+//! A matcher of a pattern that is made once and used for many lines.
+ghost use Rattle.std.specs.Prelude.{◌≡◌, [], length, option_map, IfOk, IfSome};
+ghost use Rattle.std.specs.Borrow.{sem};
+ghost use Rattle.std.specs.Io.BufRead.{Rests};
+ghost use mir.Syntax.{named};
+ghost use Rattle.grok.specs.Captures.{AreSlicesOf};
+
+use crate::engine::matcher::{EngineMatcher, HasMatcher};
+use crate::matches::lent::MatchesRef;
+use crate::matches::search::KeptSearch;
+use crate::matches::{MatchesOf, PatternOf};
+use std::alloc::{AllocError, Global};
+use std::marker::Model;
+
+/// Answers lines as its pattern does, and keeps what a search needs from one line to the next.
+#[derive(Drop)]
+pub struct MatcherOf<'p, E: HasMatcher<'p>> {
+    alloc: Global,
+    search: KeptSearch<'p, E>,
+}
+
+// Contracts see the pattern.
+impl<'p, E: HasMatcher<'p>> Model for MatcherOf<'p, E> {
+    ghost use Rattle.std.specs.Prelude.{◌≡◌, length};
+    ghost use Rattle.grok.specs.Answers.{PatternValue, pattern_code};
+
+    ghost Value = { PatternValue E };
+
+    ghost coded = { pattern_code E.code };
+
+    ghost view = { λ matcher. matcher.search.pattern.now };
+}
+
+impl<'p, E: HasMatcher<'p>> MatcherOf<'p, E> {
+    ghost use Rattle.grok.specs.contracts.matches.matcher.MatcherOf.{the_row};
+    ghost use Rattle.grok.specs.Lent.{lent_keys, lent_captures};
+
+    /// The matcher of a pattern with this engine.
+    pub(crate) fn new(
+        alloc: Global,
+        pattern: &'p PatternOf<E>,
+        engine: &'p E,
+    ) -> Result<MatcherOf<'p, E>, AllocError>
+        requires { engine.now ≡ pattern.now.engine }
+        ensures { IfOk result (λ matcher. matcher ≡ pattern.now) }
+    {
+        let search = KeptSearch::new(alloc, pattern, engine)?;
+        Ok(MatcherOf { alloc, search })
+    }
+
+    /// The first match in the line, as `PatternOf::match_against` answers it.
+    #[inline(always)]
+    pub fn match_against<'a>(
+        &mut self,
+        text: &'a str,
+    ) -> Result<Option<MatchesOf<'a, E>>, AllocError>
+    where
+        'p: 'a,
+        ensures captures { IfOk result (λ found. option_map (λ matches. matches.captures) found
+            ≡ E.answer_to self.old.engine text.now) }
+        ensures pattern { IfOk result
+            (λ found. IfSome found (λ matches. matches.pattern ≡ self.old)) }
+        ensures places { IfOk result (λ found. IfSome found (λ matches. length matches.captures
+            ≡ length (E.group_names self.old.engine))) }
+        ensures slices { IfOk result
+            (λ found. IfSome found (λ matches. AreSlicesOf text.now matches.captures)) }
+        ensures same { self.new ≡ self.old }
+    {
+        match self.search.captures(self.alloc, text)? {
+            Some(captures) => Ok(Some(MatchesOf::new(self.search.pattern, captures))),
+            None => Ok(None),
+        }
+    }
+
+    /// The first match in the line, with the answers of `match_against`. It is lent until the next
+    /// call, so that a line makes no request for memory but the engine's.
+    pub fn find<'m>(&'m mut self, text: &'m str) -> Result<Option<MatchesRef<'m>>, AllocError>
+    where
+        'p: 'm,
+        ensures captures { IfOk result (λ found. option_map lent_captures found
+            ≡ E.answer_to self.old.engine text.now) }
+        ensures keys { IfOk result
+            (λ found. IfSome found (λ matches. lent_keys matches ≡ self.old.keys)) }
+        ensures places { IfOk result
+            (λ found. IfSome found (λ matches. length (lent_captures matches)
+            ≡ length (E.group_names self.old.engine))) }
+        ensures slices { IfOk result
+            (λ found. IfSome found (λ matches. AreSlicesOf text.now (lent_captures matches))) }
+
+        // Once the match is given back, the matcher is what it was.
+        ensures* same { sem 𝓛 (Rests (the_row (record { mir = named 0; lft = [] }) E.row
+            E.Matcher.row E.Engine E.Matcher.EngineMatcher)
+            self.entry (λ last. last ≡ self.entry.now)) }
+    {
+        if !self.search.read(text)? {
+            return Ok(None);
+        }
+        Ok(Some(self.search.lend(text)))
+    }
+}

@@ -1,0 +1,90 @@
+//! A pattern with a search that is kept, and room for what it finds.
+ghost use Rattle.std.specs.Prelude.{◌≡◌, Some, None, vec_len, option_map, length, if◌then◌else◌, IfOk, IfSome, IsTrue};
+ghost use Rattle.grok.specs.Locations.{AreLocationsIn, located_texts};
+ghost use Rattle.grok.specs.Captures.{capture_texts, AreSlicesOf};
+
+use crate::engine::Engine;
+use crate::engine::matcher::{EngineMatcher, HasMatcher};
+use crate::matches::PatternOf;
+use crate::matches::groups::Located;
+use crate::matches::lent::MatchesRef;
+use std::alloc::{AllocError, Global};
+
+/// A pattern, its engine's search, and room for where the groups of a match stand. The search and the
+/// room are kept from line to line.
+#[derive(Drop)]
+pub(crate) struct KeptSearch<'p, E: HasMatcher<'p>> {
+    pub(crate) pattern: &'p PatternOf<E>,
+    pub(crate) matcher: E::Matcher,
+    locations: Vec<Option<(usize, usize)>>,
+    ghost answers: { E.Matcher.finds matcher ≡ E.answer_to pattern.now.engine },
+    ghost count: { E.Matcher.group_count matcher ≡ length (E.group_names pattern.now.engine) },
+}
+
+impl<'p, E: HasMatcher<'p>> KeptSearch<'p, E> {
+    ghost use Rattle.grok.specs.Lent.{lent_keys, lent_captures};
+
+    /// The search of a pattern with this engine.
+    pub(crate) fn new(
+        alloc: Global,
+        pattern: &'p PatternOf<E>,
+        engine: &'p E,
+    ) -> Result<KeptSearch<'p, E>, AllocError>
+        requires { engine.now ≡ pattern.now.engine }
+        ensures { IfOk result (λ search. search.pattern.now ≡ pattern.now) }
+    {
+        let matcher = engine.matcher(alloc)?;
+        let locations = Vec::with_capacity(alloc, engine.names().len())?;
+        Ok(KeptSearch {
+            pattern,
+            matcher,
+            locations,
+        })
+    }
+
+    /// Whether there is a match in the line. Then the places are those of its groups.
+    pub(crate) fn read(&mut self, line: &str) -> Result<bool, AllocError>
+        ensures answer { IfOk result (λ is_match. (if is_match
+            then Some (located_texts line.now self.new.locations.items) else None)
+            ≡ E.answer_to self.old.pattern.now.engine line.now) }
+        ensures places { IfOk result (λ is_match. IsTrue is_match
+            → vec_len self.new.locations ≡ length (E.group_names self.old.pattern.now.engine)) }
+        ensures inside { IfOk result (λ is_match. IsTrue is_match
+            → AreLocationsIn line.now self.new.locations.items) }
+        ensures pattern { self.new.pattern.now ≡ self.old.pattern.now }
+    {
+        self.matcher.captures_read(&mut self.locations, line)
+    }
+
+    /// The texts of the groups of the first match in the line, in a list of their own.
+    pub(crate) fn captures<'t>(
+        &mut self,
+        alloc: Global,
+        line: &'t str,
+    ) -> Result<Option<Vec<Option<&'t str>>>, AllocError>
+        ensures answer { IfOk result
+            (λ found. option_map (λ captures. capture_texts captures.items) found
+            ≡ E.answer_to self.old.pattern.now.engine line.now) }
+        ensures places { IfOk result (λ found. IfSome found (λ captures. vec_len captures
+            ≡ length (E.group_names self.old.pattern.now.engine))) }
+        ensures slices { IfOk result (λ found. IfSome found (λ captures. AreSlicesOf line.now
+            (capture_texts captures.items))) }
+        ensures pattern { self.new.pattern.now ≡ self.old.pattern.now }
+    {
+        self.matcher.captures(alloc, line)
+    }
+
+    /// The last match, which stands in this line.
+    #[tactic(auto, using(crate::proofs::LocationLemmas::slices_located))]
+    pub(crate) fn lend<'m>(&'m self, line: &'m str) -> MatchesRef<'m>
+    where
+        'p: 'm,
+        requires { AreLocationsIn line.now self.now.locations.items }
+        ensures keys { lent_keys result ≡ self.now.pattern.now.keys }
+        ensures captures { lent_captures result ≡ located_texts line.now self.now.locations.items }
+        ensures slices { AreSlicesOf line.now (lent_captures result) }
+    {
+        let pattern = self.pattern;
+        MatchesRef::new(&pattern.keys, Located::new(line, &self.locations))
+    }
+}

@@ -1,0 +1,142 @@
+//! What compiling each row gives over `regex`: the text, the keys and the extracts; or the error.
+
+use crate::library::library;
+use crate::rows::{Compiled, Row, rows};
+use grok::{Engine, Error, Grok, Pattern, PatternOf};
+use std::alloc::{AllocError, Global};
+use std::process::Abort;
+use std::test::Fail;
+
+/// Adds a key at the end.
+fn push_key(all: &mut String, key: &str) -> Result<(), AllocError> {
+    if !all.is_empty() {
+        all.push_str(" ")?;
+    }
+    all.push_str(key)
+}
+
+/// The keys of a pattern, with a space between.
+fn keys_of(alloc: Global, pattern: &Pattern) -> Result<String, AllocError> {
+    let mut all = String::new(alloc);
+    for key in pattern.capture_names() {
+        push_key(&mut all, key)?;
+    }
+    Ok(all)
+}
+
+/// The pattern has these keys.
+pub(crate) fn check_keys(
+    rt: &(impl Abort + AllocGlobal),
+    name: &str,
+    pattern: &Pattern,
+    expected: &str,
+) -> Result<(), Fail> {
+    let given = keys_of(rt.alloc(), pattern)?;
+    assert_eq!(rt; given.as_str(), expected, "{name}");
+    Ok(())
+}
+
+/// The row says that the engine takes the pattern, which has the text and the keys of the row.
+fn check_pattern(
+    rt: &(impl Abort + AllocGlobal),
+    row: &Row,
+    pattern: &Pattern,
+) -> Result<(), Fail> {
+    match row.compiled {
+        Compiled::Pattern(text, keys) => {
+            assert_eq!(rt; pattern.text(), text, "{}", row.name);
+            check_keys(rt, row.name, pattern, keys)
+        }
+        Compiled::Keys(keys) => check_keys(rt, row.name, pattern, keys),
+        _ => {
+            assert!(rt; false, "{}: {}", row.name, pattern.text());
+            Ok(())
+        }
+    }
+}
+
+/// The pattern has the extracts of the row.
+pub(crate) fn check_extracts<E: Engine>(rt: &impl Abort, row: &Row, pattern: &PatternOf<E>) {
+    for (key, expected) in row.extracts {
+        let is_right = pattern.get_extract(key) == *expected;
+        assert!(rt; is_right, "{}: {key}", row.name);
+    }
+}
+
+/// The error has this debug text.
+pub(crate) fn check_debug(
+    rt: &(impl Abort + AllocGlobal),
+    row: &Row,
+    error: &Error,
+    expected: &str,
+) -> Result<(), Fail> {
+    let shown = format!(in rt.alloc(); "{error:?}")?;
+    assert_eq!(rt; shown.as_str(), expected, "{}", row.name);
+    Ok(())
+}
+
+/// The error says that the engine refuses this text.
+pub(crate) fn check_refusal(
+    rt: &(impl Abort + AllocGlobal),
+    row: &Row,
+    error: &Error,
+    text: &str,
+) -> Result<(), Fail> {
+    let words = format!(in rt.alloc(); "Regex compilation failed:\n{text}")?;
+    let is_right = *error == Error::RegexCompilationFailed(words);
+    assert!(rt; is_right, "{}: {error:?}", row.name);
+    Ok(())
+}
+
+/// The error is that of the row.
+fn check_error(rt: &(impl Abort + AllocGlobal), row: &Row, error: &Error) -> Result<(), Fail> {
+    match row.compiled {
+        Compiled::Refused(text) => check_refusal(rt, row, error, text),
+        Compiled::Error(expected) => check_debug(rt, row, error, expected),
+        _ => {
+            assert!(rt; false, "{}: {error:?}", row.name);
+            Ok(())
+        }
+    }
+}
+
+/// Compiling gives what the row says.
+fn check_mode(
+    rt: &(impl Abort + AllocGlobal),
+    row: &Row,
+    grok: &Grok,
+    with_alias_only: bool,
+) -> Result<(), Fail> {
+    match grok.compile(row.pattern, with_alias_only) {
+        Ok(pattern) => {
+            check_extracts(rt, row, &pattern);
+            check_pattern(rt, row, &pattern)
+        }
+        Err(error) => check_error(rt, row, &error),
+    }
+}
+
+/// The row holds in each of its modes.
+fn check_row(rt: &(impl Abort + AllocGlobal), row: &Row) -> Result<(), Fail> {
+    let grok = library(rt.alloc(), row.definitions)?;
+    for with_alias_only in row.modes {
+        check_mode(rt, row, &grok, *with_alias_only)?;
+    }
+    Ok(())
+}
+
+/// Each of these rows holds.
+fn check_rows(rt: &(impl Abort + AllocGlobal), rows: &[Row]) -> Result<(), Fail> {
+    for row in rows {
+        check_row(rt, row)?;
+    }
+    Ok(())
+}
+
+#[test]
+fn compiled_texts(rt: HostRuntime) -> Result<(), Fail> {
+    for part in rows() {
+        check_rows(&rt, part)?;
+    }
+    Ok(())
+}

@@ -1,0 +1,13 @@
+//! Libraries of the default definitions and a few more.
+
+use grok::Grok;
+use std::alloc::{AllocError, Global};
+
+/// The default definitions, and after them these.
+pub(crate) fn library(alloc: Global, definitions: &[(&str, &str)]) -> Result<Grok, AllocError> {
+    let mut grok = Grok::with_default_patterns(alloc)?;
+    for (name, text) in definitions {
+        grok.add_pattern(name, text)?;
+    }
+    Ok(grok)
+}

@@ -1,0 +1,60 @@
+//! The measure of each row, and the looks that it takes.
+
+use crate::library::library;
+use crate::rows::{Measured, Row, rows};
+use grok::{Grok, Looks, Measure};
+use std::process::Abort;
+use std::test::Fail;
+
+/// The measure that the row has.
+fn measure_of(row: &Row) -> Measure<'static> {
+    match row.measured {
+        Measured::Size(length, groups, nesting) => Measure::Size {
+            length,
+            groups,
+            nesting,
+        },
+        Measured::Faulty(fault) => Measure::Fault(fault),
+    }
+}
+
+/// The measure is that of the row.
+fn check_measure(rt: &impl Abort, row: &Row, given: Measure<'_>) {
+    let is_right = given == measure_of(row);
+    assert!(rt; is_right, "{}: {given:?}", row.name);
+}
+
+/// Both calls give the measure, and the looks are as many as the row says.
+fn check_mode(rt: &impl Abort, row: &Row, grok: &Grok, with_alias_only: bool) -> Result<(), Fail> {
+    check_measure(rt, row, grok.measure(row.pattern, with_alias_only)?);
+    let (given, looks) = grok.measure_counted(row.pattern, with_alias_only)?;
+    check_measure(rt, row, given);
+    let (pieces, ends) = row.looks;
+    assert_eq!(rt; looks, Looks { pieces, ends }, "{}", row.name);
+    Ok(())
+}
+
+/// The row holds in each of its modes.
+fn check_row(rt: &(impl Abort + AllocGlobal), row: &Row) -> Result<(), Fail> {
+    let grok = library(rt.alloc(), row.definitions)?;
+    for with_alias_only in row.modes {
+        check_mode(rt, row, &grok, *with_alias_only)?;
+    }
+    Ok(())
+}
+
+/// Each of these rows holds.
+fn check_rows(rt: &(impl Abort + AllocGlobal), rows: &[Row]) -> Result<(), Fail> {
+    for row in rows {
+        check_row(rt, row)?;
+    }
+    Ok(())
+}
+
+#[test]
+fn measures(rt: HostRuntime) -> Result<(), Fail> {
+    for part in rows() {
+        check_rows(&rt, part)?;
+    }
+    Ok(())
+}

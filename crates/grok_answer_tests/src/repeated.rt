@@ -1,0 +1,225 @@
+//! What one pattern answers to line after line, while its search makes its tables and keeps them: the same as a kept matcher
+//! and as a pattern that is compiled for that line alone.
+
+use crate::answers::check_answer;
+use crate::library::library;
+use grok::{Grok, Matcher, Pattern};
+use std::alloc::{AllocError, Global};
+use std::process::Abort;
+use std::test::Fail;
+
+/// How many lines a pattern is asked for, more than twice as many as go by before the tables are made.
+const CALLS: usize = 40;
+
+/// Names with their definitions.
+type Definitions = &'static [(&'static str, &'static str)];
+
+/// A pattern, and what it answers to lines.
+#[derive(Clone, Copy)]
+struct Row {
+    name: &'static str,
+    definitions: Definitions,
+    pattern: &'static str,
+    /// Lines with their pairs, or `no match`.
+    lines: &'static [(&'static str, &'static str)],
+}
+
+/// What is asked for each line.
+#[derive(Drop)]
+struct Asked<'p> {
+    grok: &'p Grok,
+    text: &'p str,
+    pattern: &'p Pattern,
+    kept: Matcher<'p>,
+}
+
+impl Asked<'_> {
+    /// The line has its answer each way.
+    fn check(
+        &mut self,
+        rt: &(impl Abort + AllocGlobal),
+        place: &str,
+        line: &str,
+        expected: &str,
+    ) -> Result<(), Fail> {
+        check_answer(rt, place, self.pattern.match_against(line)?, line, expected)?;
+        check_answer(rt, place, self.kept.match_against(line)?, line, expected)?;
+        let fresh = self.grok.compile(self.text, true)?;
+        check_answer(rt, place, fresh.match_against(line)?, line, expected)
+    }
+}
+
+/// The lines, over and over, have their answers from a new pattern.
+fn check_in_order(
+    rt: &(impl Abort + AllocGlobal),
+    grok: &Grok,
+    name: &str,
+    text: &str,
+    lines: &[(&str, &str)],
+) -> Result<(), Fail> {
+    let pattern = grok.compile(text, true)?;
+    let mut asked = Asked {
+        grok,
+        text,
+        pattern: &pattern,
+        kept: pattern.matcher()?,
+    };
+    for number in 0..CALLS {
+        let at = number.checked_rem(lines.len()).unwrap_or(0);
+        let Some((line, expected)) = lines.get(at) else {
+            return Err("no lines")?;
+        };
+        let place = format!(in rt.alloc(); "{name}, call {number}, {expected}")?;
+        asked.check(rt, place.as_str(), line, expected)?;
+    }
+    Ok(())
+}
+
+/// The lines have their answers in this order and in the other one.
+fn check_both_orders(
+    rt: &(impl Abort + AllocGlobal),
+    definitions: Definitions,
+    name: &str,
+    text: &str,
+    lines: &[(&str, &str)],
+) -> Result<(), Fail> {
+    let grok = library(rt.alloc(), definitions)?;
+    check_in_order(rt, &grok, name, text, lines)?;
+    let mut backwards = Vec::from_slice(rt.alloc(), lines)?;
+    backwards.reverse();
+    check_in_order(rt, &grok, name, text, &backwards)
+}
+
+/// Lines whose answers would show what an earlier line left behind.
+const ROWS: &[Row] = &[
+    Row {
+        name: "a group that takes no part in each line",
+        definitions: &[("NUM", "[0-9]+"), ("WORD", "[a-z]+")],
+        pattern: "^%{NUM:number}%{WORD:word}?;",
+        lines: &[
+            ("12ab;", "number=12, word=ab"),
+            ("3;", "number=3"),
+            ("ab;", "no match"),
+            ("456c; d", "number=456, word=c"),
+            ("", "no match"),
+        ],
+    },
+    Row {
+        name: "one of two groups",
+        definitions: &[("NUM", "[0-9]+"), ("WORD", "[a-z]+")],
+        pattern: "(?:%{NUM:number}|%{WORD:word})$",
+        lines: &[
+            ("-- 7", "number=7"),
+            ("-- seven", "word=seven"),
+            ("--", "no match"),
+        ],
+    },
+    Row {
+        name: "characters of many bytes",
+        definitions: &[("ONE", "[^ ]")],
+        pattern: "%{ONE:left}é%{ONE:right}",
+        lines: &[
+            ("aéb", "left=a, right=b"),
+            ("日é本", "left=日, right=本"),
+            ("é", "no match"),
+            (" ééé", "left=é, right=é"),
+            ("日本", "no match"),
+        ],
+    },
+    Row {
+        name: "empty matches",
+        definitions: &[],
+        pattern: "(?<all>x*)",
+        lines: &[
+            ("xxy", "all=xx"),
+            ("", "all="),
+            ("y", "all="),
+            ("éx", "all="),
+        ],
+    },
+    Row {
+        name: "the first of many matches, and the longest or the shortest of it",
+        definitions: &[],
+        pattern: r"(?<long>a+)(?<short>b+?)(?<rest>b*)",
+        lines: &[
+            ("baab ab", "long=aa, rest=, short=b"),
+            ("aabbb", "long=aa, rest=bb, short=b"),
+            ("ba", "no match"),
+        ],
+    },
+    Row {
+        name: "words and their ends",
+        definitions: &[],
+        pattern: r"^(?<word>\w+)\b(?<rest>.?)$",
+        lines: &[
+            ("ab", "rest=, word=ab"),
+            ("é-", "rest=-, word=é"),
+            ("ab--", "no match"),
+            ("aé", "rest=, word=aé"),
+            ("-ab", "no match"),
+        ],
+    },
+];
+
+#[test]
+fn lines_asked_again_and_again(rt: HostRuntime) -> Result<(), Fail> {
+    for row in ROWS {
+        check_both_orders(&rt, row.definitions, row.name, row.pattern, row.lines)?;
+    }
+    Ok(())
+}
+
+/// Lines about as long as the tables serve: so many times `a`, what stands behind that, and the answer to the pattern
+/// `^a*(?<last>[^a!])?(?<end>z)?$`.
+const LONG_LINES: [(usize, &str, &str); 14] = [
+    // 511 bytes
+    (511, "", ""),
+    (509, "é", "last=é"),
+    (510, "!", "no match"),
+    // 512 bytes
+    (512, "", ""),
+    (510, "é", "last=é"),
+    (508, "日z", "end=z, last=日"),
+    (511, "!", "no match"),
+    // 513 bytes, the last ones with a character across the border
+    (513, "", ""),
+    (512, "!", "no match"),
+    (511, "é", "last=é"),
+    (510, "日", "last=日"),
+    (510, "é!", "no match"),
+    // 514 bytes, with a character across the border
+    (511, "éz", "end=z, last=é"),
+    // A short one, so that the tables are made soon.
+    (2, "b", "last=b"),
+];
+
+/// The text of a line.
+fn long_line(alloc: Global, count: usize, tail: &str) -> Result<String, AllocError> {
+    let mut line = String::new(alloc);
+    for _ in 0..count {
+        line.push_str("a")?;
+    }
+    line.push_str(tail)?;
+    Ok(line)
+}
+
+/// The texts of the long lines.
+fn long_lines(alloc: Global) -> Result<Vec<String>, AllocError> {
+    let mut lines = Vec::new(alloc);
+    for (count, tail, _) in LONG_LINES {
+        lines.push(long_line(alloc, count, tail)?)?;
+    }
+    Ok(lines)
+}
+
+/// A line may be too long for the tables that answered the one before.
+#[test]
+fn lines_about_as_long_as_the_tables_serve(rt: HostRuntime) -> Result<(), Fail> {
+    let texts = long_lines(rt.alloc())?;
+    let mut lines = Vec::new(rt.alloc());
+    for (line, (_, _, expected)) in texts.iter().zip(LONG_LINES) {
+        lines.push((line.as_str(), expected))?;
+    }
+    let text = "^a*(?<last>[^a!])?(?<end>z)?$";
+    check_both_orders(&rt, &[], "long lines", text, &lines)
+}

@@ -1,0 +1,187 @@
+//! The answers to the lines of a log, had in three ways.
+use crate::timed::library;
+use anyhow::{Result, bail};
+use grok::{Matcher, Matches, Pattern};
+use std::alloc::{AllocError, Global};
+use std::time::Instant;
+use std::{fmt, io};
+
+/// What answers a line.
+#[derive(Drop)]
+enum Way<'p> {
+    /// The pattern's own call.
+    Shared(&'p Pattern),
+    /// One matcher for all lines.
+    Kept(Matcher<'p>),
+    /// A new matcher for each line.
+    Fresh(&'p Pattern),
+}
+
+impl<'p> Way<'p> {
+    fn name(&self) -> &'static str {
+        match self {
+            Way::Shared(_) => "match_against",
+            Way::Kept(_) => "kept",
+            Way::Fresh(_) => "fresh",
+        }
+    }
+
+    fn answer<'a>(&mut self, line: &'a str) -> Result<Option<Matches<'a>>, AllocError>
+    where
+        'p: 'a,
+    {
+        match self {
+            Way::Shared(pattern) => ask_pattern(pattern, line),
+            Way::Kept(matcher) => ask_kept(matcher, line),
+            Way::Fresh(pattern) => ask_fresh(pattern, line),
+        }
+    }
+}
+
+// Each has a name of its own in a profile, as `count_matches` has.
+
+#[inline(never)]
+fn ask_pattern<'a>(pattern: &'a Pattern, line: &'a str) -> Result<Option<Matches<'a>>, AllocError> {
+    pattern.match_against(line)
+}
+
+#[inline(never)]
+fn ask_kept<'p, 'a>(
+    matcher: &mut Matcher<'p>,
+    line: &'a str,
+) -> Result<Option<Matches<'a>>, AllocError>
+where
+    'p: 'a,
+{
+    matcher.match_against(line)
+}
+
+#[inline(never)]
+fn ask_fresh<'a>(pattern: &'a Pattern, line: &'a str) -> Result<Option<Matches<'a>>, AllocError> {
+    pattern.matcher()?.match_against(line)
+}
+
+/// How many lines matched, and a sum over the bytes of all keys and values.
+#[derive(Clone, Copy, Default, PartialEq, Eq)]
+struct Answers {
+    matches: u64,
+    checksum: u64,
+}
+
+impl fmt::Display for Answers {
+    fn fmt<W: fmt::Write>(&self, f: &mut fmt::Formatter<W>) -> fmt::Result {
+        let matches = self.matches;
+        let checksum = self.checksum;
+        write!(f, "matches {matches} checksum {checksum}")
+    }
+}
+
+impl Answers {
+    fn add_text(&mut self, text: &str) {
+        for byte in text.bytes() {
+            self.checksum = self.checksum.wrapping_mul(31).wrapping_add(u64::from(byte));
+        }
+    }
+
+    fn add(&mut self, found: &Matches<'_>) {
+        self.matches = self.matches.saturating_add(1);
+        for (key, value) in found {
+            self.add_text(key);
+            self.add_text(value);
+        }
+    }
+}
+
+/// What all lines are answered.
+fn ask_all(way: &mut Way<'_>, lines: &[&str]) -> Result<Answers> {
+    let mut answers = Answers::default();
+    for line in lines {
+        if let Some(found) = way.answer(line)? {
+            answers.add(&found);
+        }
+    }
+    Ok(answers)
+}
+
+/// How many lines match.
+#[inline(never)]
+fn count_matches(way: &mut Way<'_>, lines: &[&str]) -> Result<u64> {
+    let mut matches = 0u64;
+    for line in lines {
+        if way.answer(line)?.is_some() {
+            matches = matches.saturating_add(1);
+        }
+    }
+    Ok(matches)
+}
+
+/// Asks for all answers once, which have to be those expected, and then times the lines.
+fn time_way(rt: &HostRuntime, way: &mut Way<'_>, lines: &[&str], expected: Answers) -> Result<()> {
+    let name = way.name();
+    if ask_all(way, lines)? != expected {
+        bail!("other answers by `{name}`");
+    }
+    let start = Instant::now(rt)?;
+    let matches = count_matches(way, lines)?;
+    let time = start.elapsed(rt)?.as_nanos();
+    let line_time = time.checked_div(lines.len() as u128).unwrap_or(0);
+    eprintln!(rt; "{name} {line_time} ns a line")?;
+    if matches != expected.matches {
+        bail!("other matches by `{name}`");
+    }
+    Ok(())
+}
+
+/// Times each way, by tables that its first round over the lines has filled.
+fn time_ways(rt: &HostRuntime, pattern: &Pattern, lines: &[&str]) -> Result<()> {
+    let expected = ask_all(&mut Way::Fresh(pattern), lines)?;
+    time_way(rt, &mut Way::Shared(pattern), lines, expected)?;
+    time_way(rt, &mut Way::Kept(pattern.matcher()?), lines, expected)?;
+    time_way(rt, &mut Way::Fresh(pattern), lines, expected)?;
+    println!(rt; "{expected}")?;
+    Ok(())
+}
+
+/// Makes so many of the pattern's own calls, over and over the lines.
+fn repeat(pattern: &Pattern, lines: &[&str], calls: usize) -> Result<()> {
+    for number in 0..calls {
+        let place = number.checked_rem(lines.len()).unwrap_or(0);
+        if let Some(line) = lines.get(place) {
+            pattern.match_against(line)?;
+        }
+    }
+    Ok(())
+}
+
+/// The lines of a text.
+fn lines_of(alloc: Global, text: &str) -> Result<Vec<&str>, AllocError> {
+    let mut lines = Vec::new(alloc);
+    for line in text.lines() {
+        lines.push(line)?;
+    }
+    Ok(lines)
+}
+
+/// What is asked for the lines of a log.
+#[derive(Clone, Copy)]
+pub(crate) enum Asked {
+    /// All lines, in the three ways, which are timed.
+    Ways,
+    /// So many calls of the pattern's own.
+    Calls(usize),
+}
+
+/// Compiles the pattern over the definitions on standard input, and asks for the lines that stand there behind an empty
+/// one. As by `match -a`, only placeholders with an alias are recorded.
+pub(crate) fn call(rt: &HostRuntime, pattern: &str, asked: Asked) -> Result<()> {
+    let text = io::read_to_string(rt.alloc(), rt.stdin())?;
+    let Some((definitions, log)) = text.split_once("\n\n") else {
+        bail!("no empty line behind the definitions");
+    };
+    let pattern = library(rt.alloc(), definitions)?.compile(pattern, true)?;
+    let lines = lines_of(rt.alloc(), log)?;
+    match asked {
+        Asked::Ways => time_ways(rt, &pattern, &lines),
+        Asked::Calls(calls) => repeat(&pattern, &lines, calls),
+    }
+}

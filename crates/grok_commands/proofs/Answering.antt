@@ -1,0 +1,82 @@
+-- Answers that have gone out, one after another.
+use Rattle.std.proofs.Common.{◌≡◌, ℕ, List, [], ◌∷◌, ◌++◌, Option, Some, None, refl, sym, ap, map, ◌∙◌, append_assoc, append-nil}
+use Rattle.std.specs.Io.KnownBytes.{Appends, Keeps}
+use Rattle.grok_commands.specs.Answers.{AreAnswers, HasAnswered, HasBegun}
+
+-- `sent` are the first of `all`, their answers have gone out, and `left` are the others
+pub record Answered {A : Type 0} (IsAnswer : A → List ℕ → Type 0) (all left : List A)
+    (old new : Option (List ℕ)) : Type 0 where
+  pub sent : List A
+  pub are : all ≡ sent ++ left
+  pub written : HasAnswered IsAnswer sent old new
+
+pub appends_both : (a b c : Option (List ℕ)) (x y : List ℕ) → Appends a b x → Appends b c y → Appends a c (x ++ y)
+appends_both None b c x y h k = tt
+appends_both (Some xs) None c x y h k = absurd h
+appends_both (Some xs) (Some ys) None x y h k = absurd k
+appends_both (Some xs) (Some ys) (Some zs) x y h k = k ∙ ap (λ v. v ++ y) h ∙ append_assoc xs x y
+
+pub appends_still : (a b c : Option (List ℕ)) (x : List ℕ) → Appends a b x → Keeps b c → Appends a c x
+appends_still None b c x h k = tt
+appends_still (Some xs) None c x h k = absurd h
+appends_still (Some xs) (Some ys) None x h k = absurd k
+appends_still (Some xs) (Some ys) (Some zs) x h k = k ∙ h
+
+pub appends_same : (a : Option (List ℕ)) → Appends a a []
+appends_same None = tt
+appends_same (Some xs) = sym (append-nil xs)
+
+pub appends_none : (a b : Option (List ℕ)) → Keeps a b → Appends a b []
+appends_none None b h = tt
+appends_none (Some xs) None h = absurd h
+appends_none (Some xs) (Some ys) h = h ∙ sym (append-nil xs)
+
+pub answers_more : {A : Type 0} (IsAnswer : A → List ℕ → Type 0) (xs : List A) (x : A) (bytes answer : List ℕ)
+    → AreAnswers IsAnswer xs bytes → IsAnswer x answer → AreAnswers IsAnswer (xs ++ x ∷ []) (bytes ++ answer)
+answers_more IsAnswer [] x bytes answer h is = (answer, [], rw h (sym (append-nil answer)), is, refl)
+answers_more IsAnswer (y ∷ xs) x bytes answer (first, rest, e, is_first, are) is =
+    (first, rest ++ answer, rw e (append_assoc first rest answer), is_first, answers_more IsAnswer xs x rest answer are is)
+
+pub answered_start : {A : Type 0} (IsAnswer : A → List ℕ → Type 0) (all : List A) (old : Option (List ℕ)) → Answered IsAnswer all all old old
+answered_start IsAnswer all old = record { sent = []; are = refl; written = ([], refl, appends_same old) }
+
+pub answered_step : {A : Type 0} (IsAnswer : A → List ℕ → Type 0) (all left next : List A) (x : A) (old now new : Option (List ℕ)) (answer : List ℕ)
+    → Answered IsAnswer all left old now → left ≡ x ∷ next → IsAnswer x answer → Appends now new answer → Answered IsAnswer all next old new
+answered_step IsAnswer all left next x old now new answer h e is w =
+    let wrote = h.written in
+    record {
+      sent = h.sent ++ x ∷ [];
+      are = h.are ∙ ap (λ v. h.sent ++ v) e ∙ sym (append_assoc h.sent (x ∷ []) next);
+      written = (wrote.0 ++ answer, answers_more IsAnswer h.sent x wrote.0 answer wrote.1 is, appends_both old now new wrote.0 answer wrote.2 w);
+    }
+
+pub answered_end : {A : Type 0} (IsAnswer : A → List ℕ → Type 0) (all left : List A) (old now new : Option (List ℕ))
+    → Answered IsAnswer all left old now → left ≡ [] → Keeps now new → HasAnswered IsAnswer all old new
+answered_end IsAnswer all left old now new h e k =
+    let wrote = h.written in
+    let whole : all ≡ h.sent = h.are ∙ ap (λ v. h.sent ++ v) e ∙ append-nil h.sent in
+    (wrote.0, rw whole wrote.1, appends_still old now new wrote.0 wrote.2 k)
+
+pub answered_some : {A : Type 0} (IsAnswer : A → List ℕ → Type 0) (all left : List A) (old now : Option (List ℕ))
+    → Answered IsAnswer all left old now → HasBegun IsAnswer all old now
+answered_some IsAnswer all left old now h = (h.sent, left, h.are, h.written)
+
+-- ---- answers of another list
+
+are_mapped : {A B : Type 0} (IsAnswer : B → List ℕ → Type 0) (f : A → B) (xs : List A) (bytes : List ℕ)
+    → AreAnswers (λ x. IsAnswer (f x)) xs bytes → AreAnswers IsAnswer (map f xs) bytes
+are_mapped IsAnswer f [] bytes are = are
+are_mapped IsAnswer f (x ∷ xs) bytes (answer, rest, e, is, are) = (answer, rest, e, is, are_mapped IsAnswer f xs rest are)
+
+pub answered_mapped : {A B : Type 0} (IsAnswer : B → List ℕ → Type 0) (f : A → B) (xs : List A) (old new : Option (List ℕ))
+    → HasAnswered (λ x. IsAnswer (f x)) xs old new → HasAnswered IsAnswer (map f xs) old new
+answered_mapped IsAnswer f xs old new (bytes, are, appends) = (bytes, are_mapped IsAnswer f xs bytes are, appends)
+
+map_append : {A B : Type 0} (f : A → B) (xs ys : List A) → map f (xs ++ ys) ≡ map f xs ++ map f ys
+map_append f [] ys = refl
+map_append f (x ∷ xs) ys = ap (λ zs. f x ∷ zs) (map_append f xs ys)
+
+pub begun_mapped : {A B : Type 0} (IsAnswer : B → List ℕ → Type 0) (f : A → B) (xs : List A) (old new : Option (List ℕ))
+    → HasBegun (λ x. IsAnswer (f x)) xs old new → HasBegun IsAnswer (map f xs) old new
+begun_mapped IsAnswer f xs old new (sent, unsent, are, answered) =
+    (map f sent, map f unsent, ap (map f) are ∙ map_append f sent unsent, answered_mapped IsAnswer f sent old new answered)

@@ -1,0 +1,26 @@
+-- What has gone out, answer by answer.
+use Rattle.std.specs.Prelude.{◌≡◌, ℕ, List, [], ◌∷◌, ◌++◌, Option, Some, None}
+use Rattle.std.specs.Io.KnownBytes.{Appends}
+
+-- a text as it is printed: an exact one is these bytes, and None leaves the words open
+abbrev pub Prints : Option (List ℕ) → List ℕ → Type 0
+Prints None printed = Unit {0}
+Prints (Some text) printed = printed ≡ text
+
+-- the bytes are an answer to each of these, one after another
+abbrev pub AreAnswers : {A : Type 0} → (A → List ℕ → Type 0) → List A → List ℕ → Type 0
+AreAnswers IsAnswer [] bytes = bytes ≡ []
+AreAnswers IsAnswer (x ∷ xs) bytes =
+    (answer rest : List ℕ) × (bytes ≡ answer ++ rest) × IsAnswer x answer × AreAnswers IsAnswer xs rest
+
+-- the answers to all of these have gone out, and nothing else
+abbrev pub HasAnswered : {A : Type 0} → (A → List ℕ → Type 0) → List A
+    → Option (List ℕ) → Option (List ℕ) → Type 0
+HasAnswered IsAnswer items old new =
+    (bytes : List ℕ) × AreAnswers IsAnswer items bytes × Appends old new bytes
+
+-- the answers to some first ones of these have gone out, each whole, and nothing else
+abbrev pub HasBegun : {A : Type 0} → (A → List ℕ → Type 0) → List A
+    → Option (List ℕ) → Option (List ℕ) → Type 0
+HasBegun {A} IsAnswer items old new =
+    (sent unsent : List A) × (items ≡ sent ++ unsent) × HasAnswered IsAnswer sent old new

@@ -1,0 +1,13 @@
+-- The text of each fault of a run.
+use Rattle.std.specs.Prelude.{ℕ, List, codes}
+use Rattle.grok.specs.Errors.{error_value, error_text}
+use Rattle.grok_commands.specs.Commands.{usage_text}
+use Rattle.grok_commands.specs.declared.fault.ToolFault.{ToolFault}
+use Rattle.grok_commands.specs.declared.fault.ToolFault.TheVariants.{Pattern, Usage, Memory, Read, Write}
+
+abbrev pub fault_text : ToolFault → List ℕ
+fault_text (Pattern error) = error_text (error_value error)
+fault_text Usage = usage_text
+fault_text Memory = codes "Out of memory"
+fault_text Read = codes "read failed"
+fault_text Write = codes "write failed"

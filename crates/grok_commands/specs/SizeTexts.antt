@@ -1,0 +1,58 @@
+-- What is printed of a measure_of pattern.
+use Rattle.std.specs.Prelude.{◌≡◌, ℕ, Bool, List, [], ◌∷◌, ◌++◌, Option, Some, None, codes, decimal}
+use Rattle.grok.specs.Maps.{Texts}
+use Rattle.grok.specs.Measured.{Measured, Faulty, Sized, TooLong, tree_of, measured_tree}
+use Rattle.grok.specs.Errors.{ErrorValue, error_text}
+use Rattle.grok.specs.Compiled.{IsFaultError}
+use Rattle.grok_commands.specs.Commands.{RequestValue}
+use Rattle.grok_commands.specs.Library.{library_of}
+
+abbrev pub size_text : ℕ → ℕ → ℕ → List ℕ
+size_text length groups nesting = codes "length " ++ decimal length ++ codes " groups " ++ decimal groups
+    ++ codes " nesting " ++ decimal nesting
+
+-- what is printed where no fault was found
+abbrev pub text_of_size : Measured → Option (List ℕ)
+text_of_size (Faulty fault) = None
+text_of_size (Sized length groups nesting) = Some (size_text length groups nesting)
+text_of_size TooLong = Some (codes "too long")
+
+-- the answer of a pattern, where these texts are defined
+abbrev pub measured_in : Texts → Bool → List ℕ → Measured
+measured_in texts alias_only pattern = measured_tree alias_only (tree_of texts pattern)
+
+-- ---- measure
+
+-- the answer of a request's pattern
+abbrev pub measure_of : RequestValue → Measured
+measure_of request = measured_in (library_of request.definitions) request.alias_only request.pattern
+
+-- the error is that of the fault
+abbrev pub IsFaulty : Measured → ErrorValue → Type 0
+IsFaulty (Faulty fault) error = IsFaultError fault error
+IsFaulty (Sized length groups nesting) error = ⊥
+IsFaulty TooLong error = ⊥
+
+-- ---- check
+
+-- The size, or the text of the error of the fault: that of a malformed piece is known as far as the words of
+-- its fault are.
+abbrev pub IsMeasuredText : Measured → List ℕ → Type 0
+IsMeasuredText (Faulty fault) text = (error : ErrorValue) × IsFaultError fault error
+    × (text ≡ error_text error)
+IsMeasuredText (Sized length groups nesting) text = text ≡ size_text length groups nesting
+IsMeasuredText TooLong text = text ≡ codes "too long"
+
+-- `%{NAME}`
+abbrev pub placeholder_of : List ℕ → List ℕ
+placeholder_of name = codes "%{" ++ name ++ codes "}"
+
+-- a name, `: `, what was measure_of, and a line feed
+abbrev pub IsMeasuredLine : Measured → List ℕ → List ℕ → Type 0
+IsMeasuredLine size name line = (text : List ℕ) × IsMeasuredText size text
+    × (line ≡ name ++ codes ": " ++ text ++ codes "\n")
+
+-- the line of a definition: its name, and what measuring its placeholder answers
+abbrev pub IsCheckLine : Texts → Bool → List ℕ → List ℕ → Type 0
+IsCheckLine texts alias_only name line = IsMeasuredLine (measured_in texts alias_only
+    (placeholder_of name)) name line

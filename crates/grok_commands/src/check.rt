@@ -1,0 +1,103 @@
+//! The answers of `check`.
+ghost use Rattle.std.specs.Prelude.{◌≡◌, ◌⊎◌, map, OnOk, IfOk, IfErr, IsErrOf, string_bytes};
+ghost use Rattle.std.specs.FinMap as finite;
+ghost use Rattle.grok_commands.specs.Answers.{HasAnswered, HasBegun};
+ghost use Rattle.grok.specs.Met.{measure_view};
+ghost use Rattle.grok_commands.specs.Library.{library_of};
+ghost use Rattle.grok_commands.specs.Commands.{texts};
+ghost use Rattle.grok_commands.specs.SizeTexts.{placeholder_of, IsMeasuredText, IsMeasuredLine, IsCheckLine};
+
+use crate::definitions::Definitions;
+use crate::fault::ToolFault;
+use crate::measure::write_measure;
+use crate::output::{end, send};
+use grok::Measure;
+use std::alloc::{AllocError, Global};
+use std::io::Write;
+
+/// A measure, as a text.
+fn text_of(alloc: Global, measure: Measure<'_>) -> Result<String, AllocError>
+    ensures { IfOk result
+        (λ text. IsMeasuredText (measure_view measure.entry) (string_bytes text)) }
+{
+    let mut text = String::new(alloc);
+    match write_measure(&mut text, measure)? {
+        None => Ok(text),
+        Some(fault) => fault.to_error(alloc)?.to_string(alloc),
+    }
+}
+
+/// The placeholder of each name.
+fn placeholders(alloc: Global, names: &[&str]) -> Result<Vec<String>, AllocError>
+    ensures { IfOk result
+        (λ patterns. map string_bytes patterns.items ≡ map placeholder_of (texts names.now)) }
+{
+    let mut patterns = Vec::new(alloc);
+    'names: for name in names {
+        let pattern = format!(in alloc; "%{{{name}}}")?;
+        patterns.push(pattern)?;
+    }
+    Ok(patterns)
+}
+
+/// The texts of these strings.
+fn texts_in<'a>(alloc: Global, strings: &'a [String]) -> Result<Vec<&'a str>, AllocError>
+    ensures { IfOk result (λ all. texts all.items ≡ map string_bytes strings.now) }
+{
+    let mut all = Vec::new(alloc);
+    'strings: for string in strings {
+        all.push(string.as_str())?;
+    }
+    Ok(all)
+}
+
+/// Puts the line of a name and what its definition measures into `line`, in place of what it holds.
+fn write_line(
+    alloc: Global,
+    line: &mut String,
+    name: &str,
+    measure: Measure<'_>,
+) -> Result<(), AllocError>
+    ensures { OnOk result (IsMeasuredLine (measure_view measure.entry) name.now
+        (string_bytes line.new)) }
+{
+    let text = text_of(alloc, measure)?;
+    line.clear();
+    write!(line, "{name}: {text}\n")
+}
+
+/// Sends a line for each definition of the library, the ten too, in byte order of the names and
+/// each by one `write_all`: the name, `: `, and the size of `%{NAME}` as `measure` tells it, or the
+/// text of its error. A fault is a line as any other and ends nothing.
+///
+/// # Errors
+///
+/// - `Memory`, after the lines of some first names, each whole.
+/// - `Write` where the output failed, of which nothing more is said.
+pub fn check_definitions<W: Write>(
+    alloc: Global,
+    alias_only: bool,
+    definitions: &Definitions<'_>,
+    output: &mut W,
+) -> Result<(), ToolFault>
+    ensures ok { OnOk result (HasAnswered (IsCheckLine (library_of definitions.now) alias_only)
+        (finite.keys (library_of definitions.now))
+        (W.contents output.old) (W.contents output.new)) }
+    ensures memory { IsErrOf result ToolFault.Memory → HasBegun
+        (IsCheckLine (library_of definitions.now) alias_only)
+        (finite.keys (library_of definitions.now))
+        (W.contents output.old) (W.contents output.new) }
+    ensures kind { IfErr result (λ fault. (fault ≡ ToolFault.Memory) ⊎ (fault ≡ ToolFault.Write)) }
+{
+    let grok = definitions.library(alloc)?;
+    let names = definitions.names(alloc)?;
+    let patterns = placeholders(alloc, &names)?;
+    let texts = texts_in(alloc, &patterns)?;
+    let measures = grok.measure_all(&texts, alias_only)?;
+    let mut line = String::new(alloc);
+    'names: for (index, name) in names.iter().enumerate() {
+        write_line(alloc, &mut line, name, measures[index])?;
+        send(output, line.as_bytes())?;
+    }
+    end(output)
+}

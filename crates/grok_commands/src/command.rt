@@ -1,0 +1,90 @@
+//! The words of a command line.
+ghost use Rattle.std.specs.Prelude.{◌≡◌};
+ghost use Rattle.std.specs.Option.{option_map};
+ghost use Rattle.grok_commands.specs.Commands.{texts, mode_of, request_of, check_of, command_of};
+ghost use Rattle.grok_commands.specs.Views.{request_view, command_view};
+
+use crate::definitions::Definitions;
+
+/// What is told to words that are no command.
+pub const USAGE: &str = "usage: grok_tool split PATTERN | measure [-a] PATTERN [NAME=DEF].. \
+    | match [-a] PATTERN [NAME=DEF].. | json [-a] PATTERN [NAME=DEF].. \
+    | check [-a] [NAME=DEF]..";
+
+/// A pattern, with the mode and the definitions to read it by.
+#[derive(Drop)]
+pub struct Request<'a> {
+    pub alias_only: bool,
+    pub pattern: &'a str,
+    pub definitions: Definitions<'a>,
+}
+
+/// What the program is asked to do.
+#[derive(Drop)]
+pub enum Command<'a> {
+    /// To print the pieces of a pattern.
+    Split(&'a str),
+    /// To print the size of a pattern's text.
+    Measure(Request<'a>),
+    /// To match each line of the input, and to print the pairs.
+    Match(Request<'a>),
+    /// To match each line of the input, and to print the pairs as JSON.
+    Json(Request<'a>),
+    /// To print the size of each definition.
+    Check {
+        alias_only: bool,
+        definitions: Definitions<'a>,
+    },
+}
+
+/// The mode that words begin with, and the words after it.
+fn read_mode<'a>(words: &'a [&'a str]) -> (bool, &'a [&'a str])
+    ensures { (result.0, texts result.1.now) ≡ mode_of (texts words.now) }
+{
+    match words {
+        [word, rest @ ..] if *word == "-a" => (true, rest),
+        _ => (false, words),
+    }
+}
+
+/// The mode, the pattern and the definitions.
+fn read_request<'a>(words: &'a [&'a str]) -> Option<Request<'a>>
+    ensures { option_map request_view result ≡ request_of (texts words.now) }
+{
+    let (alias_only, rest) = read_mode(words);
+    let (pattern, rest) = rest.split_first()?;
+    Some(Request {
+        alias_only,
+        pattern,
+        definitions: Definitions::new(rest)?,
+    })
+}
+
+/// The mode and the definitions to check.
+fn read_check<'a>(words: &'a [&'a str]) -> Option<Command<'a>>
+    ensures { option_map command_view result ≡ check_of (texts words.now) }
+{
+    let (alias_only, rest) = read_mode(words);
+    Some(Command::Check {
+        alias_only,
+        definitions: Definitions::new(rest)?,
+    })
+}
+
+/// The command that the words are, if they are one.
+pub fn read_command<'a>(words: &'a [&'a str]) -> Option<Command<'a>>
+    ensures { option_map command_view result ≡ command_of (texts words.now) }
+{
+    let (name, rest) = words.split_first()?;
+    match *name {
+        "split" => match rest {
+            [pattern] => Some(Command::Split(pattern)),
+            _ => None,
+        },
+        "measure" => read_request(rest).map(Command::Measure),
+        "match" => read_request(rest).map(Command::Match),
+        "json" => read_request(rest).map(Command::Json),
+        "check" => read_check(rest),
+        _ => None,
+    }
+}

@@ -1,0 +1,48 @@
+//! The pairs of a match as a JSON object, which `serde_json` writes.
+ghost use Rattle.std.specs.Prelude.{◌≡◌, ◌++◌, OnOk};
+ghost use Rattle.grok_commands.specs.JsonEvents.{SendsObject};
+ghost use Rattle.grok_commands.specs.JsonObjects.{object_text, ReadsBack};
+ghost use Rattle.grok.specs.Answers.{walk};
+ghost use Rattle.grok.specs.Lent.{lent_keys, lent_captures};
+
+use grok::MatchesRef;
+use serde::{Described, Serialize, Serializer};
+use std::alloc::{AllocError, Global};
+
+/// The object of a match: a member for each pair, whose value is a string.
+#[derive(Clone, Copy)]
+struct MatchObject<'m>(MatchesRef<'m>);
+
+impl<'m> Described for MatchObject<'m> {
+    ghost writes = { λ object. SendsObject (walk (lent_keys object.0) (lent_captures object.0)) };
+}
+
+impl<'m> Serialize for MatchObject<'m> {
+    fn serialize<S: Serializer>(&self, out: &mut S) -> Result<(), S::Error> {
+        out.begin_map(None)?;
+        'pairs: for (key, value) in self.0.iter() {
+            out.key(key)?;
+            out.str(value)?;
+        }
+        out.end_map()
+    }
+}
+
+/// Appends the object of a match, with no space in it. What an error leaves in `text` is not said.
+pub fn write_object(
+    alloc: Global,
+    text: &mut Vec<u8>,
+    matches: MatchesRef<'_>,
+) -> Result<(), AllocError>
+    ensures object { OnOk result (text.new.items ≡ text.old.items
+        ++ object_text (walk (lent_keys matches.entry) (lent_captures matches.entry))) }
+    ensures reads_back { OnOk result (ReadsBack (walk (lent_keys matches.entry)
+        (lent_captures matches.entry))
+        (object_text (walk (lent_keys matches.entry) (lent_captures matches.entry)))) }
+{
+    // No step above is refused for another reason than memory.
+    match serde_json::to_vec(alloc, &MatchObject(matches)) {
+        Ok(object) => text.extend_from_slice(&object),
+        Err(_) => Err(AllocError),
+    }
+}

@@ -1,0 +1,139 @@
+//! The answers of `match` and of `json` to a line.
+ghost use Rattle.std.specs.Prelude.{◌≡◌, ◌++◌, OnOk, IfErr, Some, None, option_map, if◌then◌else◌, flat_map};
+ghost use Rattle.std.specs.Io.KnownBytes.{Appends};
+ghost use Rattle.std.specs.Str.{is_utf8};
+ghost use Rattle.grok_commands.specs.LineTexts.{pair_line, not_utf8_text, no_match_text, match_text};
+ghost use Rattle.grok.specs.Answers.{walk};
+ghost use Rattle.grok.specs.Lent.{lent_keys, lent_captures};
+
+use crate::fault::ToolFault;
+use crate::json_object::write_object;
+use crate::output::send;
+use crate::stream::LineAnswers;
+use grok::{HasMatcher, MatcherOf, MatchesRef};
+use std::alloc::{AllocError, Global};
+use std::io::Write;
+
+/// How the answer to a line is written.
+#[derive(Clone, Copy)]
+pub enum LineFormat {
+    /// As lines `KEY=VALUE` and an empty line, which is what `match` does.
+    Pairs,
+    /// As a JSON object, which is what `json` does.
+    Object,
+}
+
+/// The line as a text, if it is UTF-8.
+#[tactic(auto, using(crate::proofs::Utf8Lines::text_of_line, crate::proofs::Utf8Lines::no_text_of_line))]
+fn text_of(line: &[u8]) -> Option<&str>
+    ensures { option_map (λ text. text.now) result
+        ≡ (if is_utf8 line.now then Some line.now else None) }
+{
+    match str::from_utf8(line) {
+        Ok(text) => Some(text),
+        Err(_) => None,
+    }
+}
+
+/// Appends `KEY=VALUE` and a line feed.
+fn write_pair(text: &mut Vec<u8>, key: &str, value: &str) -> Result<(), AllocError>
+    ensures { OnOk result (text.new.items ≡ text.old.items ++ pair_line (key.now, value.now)) }
+{
+    text.extend_from_slice(key.as_bytes())?;
+    text.extend_from_slice(b"=")?;
+    text.extend_from_slice(value.as_bytes())?;
+    text.extend_from_slice(b"\n")
+}
+
+/// Appends the pairs of a match.
+fn write_pairs(text: &mut Vec<u8>, matches: MatchesRef<'_>) -> Result<(), AllocError>
+    ensures { OnOk result (text.new.items ≡ text.old.items
+        ++ flat_map pair_line (walk (lent_keys matches.entry) (lent_captures matches.entry))) }
+{
+    'pairs: for (key, value) in matches.iter() {
+        write_pair(text, key, value)?;
+    }
+    Ok(())
+}
+
+impl LineFormat {
+    /// Sends the answer to a line that is not UTF-8.
+    fn send_not_utf8<W: Write>(self, output: &mut W) -> Result<(), ToolFault>
+        ensures ok { OnOk result (Appends (W.contents output.old) (W.contents output.new)
+            (not_utf8_text self)) }
+        ensures kind { IfErr result (λ fault. fault ≡ ToolFault.Write) }
+    {
+        match self {
+            LineFormat::Pairs => send(output, b"not UTF-8\n\n"),
+            LineFormat::Object => send(output, b"false\n"),
+        }
+    }
+
+    /// Sends the answer to a line in which nothing matches.
+    #[inline(always)]
+    fn send_no_match<W: Write>(self, output: &mut W) -> Result<(), ToolFault>
+        ensures ok { OnOk result (Appends (W.contents output.old) (W.contents output.new)
+            (no_match_text self)) }
+        ensures kind { IfErr result (λ fault. fault ≡ ToolFault.Write) }
+    {
+        match self {
+            LineFormat::Pairs => send(output, b"no match\n\n"),
+            LineFormat::Object => send(output, b"null\n"),
+        }
+    }
+
+    /// Appends the answer to a match.
+    fn write_match(
+        self,
+        alloc: Global,
+        text: &mut Vec<u8>,
+        matches: MatchesRef<'_>,
+    ) -> Result<(), AllocError>
+        ensures { OnOk result (text.new.items ≡ text.old.items
+            ++ match_text self (walk (lent_keys matches.entry) (lent_captures matches.entry))) }
+    {
+        match self {
+            LineFormat::Pairs => write_pairs(text, matches)?,
+            LineFormat::Object => write_object(alloc, text, matches)?,
+        }
+        text.extend_from_slice(b"\n")
+    }
+}
+
+/// Answers lines by a matcher.
+#[derive(Drop)]
+pub struct MatchAnswers<'p, E: HasMatcher<'p>> {
+    pub alloc: Global,
+    pub format: LineFormat,
+    pub matcher: MatcherOf<'p, E>,
+    /// Where the answer to a match is put together. What it holds from the line before is lost.
+    pub text: Vec<u8>,
+}
+
+impl<'p, E: HasMatcher<'p>> LineAnswers for MatchAnswers<'p, E> {
+    ghost use Rattle.grok_commands.specs.LineTexts.{line_answer};
+
+    ghost answer = { λ answers. line_answer answers.format
+        (E.answer_to answers.matcher.engine) answers.matcher.keys };
+
+    #[inline(never)]
+    fn answer_line<W: Write>(&mut self, output: &mut W, line: &[u8]) -> Result<(), ToolFault> {
+        match text_of(line) {
+            Some(line) => self.answer_str(output, line),
+            None => self.format.send_not_utf8(output),
+        }
+    }
+
+    // With all that it calls for a line that doesn't match this is a part of the loop over lines, which is faster so.
+    #[inline(always)]
+    #[tactic(auto, using(crate::proofs::Utf8Lines::text_of_line))]
+    fn answer_str<W: Write>(&mut self, output: &mut W, line: &str) -> Result<(), ToolFault> {
+        let Some(matches) = self.matcher.find(line)? else {
+            return self.format.send_no_match(output);
+        };
+        self.text.clear();
+        self.format
+            .write_match(self.alloc, &mut self.text, matches)?;
+        send(output, &self.text)
+    }
+}

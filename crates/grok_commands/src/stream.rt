@@ -1,0 +1,189 @@
+//! Reads lines and sends the answer to each.
+ghost use Rattle.std.specs.Prelude.{◌≡◌, ◌++◌, ◌∷◌, [], ◌⊎◌, MatchOption, OnOk, IfOk, IfErr, IsErrOf, vec_len, flat_map};
+ghost use Rattle.std.specs.Io.KnownBytes.{Appends, Keeps};
+ghost use Rattle.grok_commands.specs.Lines.{IsLine, ended_lines_of, unended_of, last_line};
+ghost use Rattle.grok_commands.specs.Traffic.{traffic};
+ghost use Rattle.grok_commands.specs.Streams.{HasBegunLines, HasAnsweredInput, HasAnsweredEnded, HasAnsweredSome};
+
+use crate::fault::ToolFault;
+use crate::output::end;
+use memchr::{memchr, memchr_iter, memrchr};
+use simdutf8::basic::from_utf8;
+use std::alloc::{AllocError, Global};
+use std::io::{ErrorKind, Read, Write};
+
+/// How many bytes are read at once.
+const READ_SIZE: usize = 64 * 1024;
+
+/// What answers lines.
+pub trait LineAnswers {
+    ghost use Rattle.std.specs.Prelude.{ℕ, List};
+
+    // The answer to a line.
+    ghost answer: { Self → List ℕ → List ℕ };
+
+    /// Sends the answer to a line by one `write_all`.
+    fn answer_line<W: Write>(&mut self, output: &mut W, line: &[u8]) -> Result<(), ToolFault>
+        ensures ok { OnOk result (Appends (W.contents output.old) (W.contents output.new)
+            (answer self.old line.now)) }
+        ensures memory { IsErrOf result ToolFault.Memory
+            → Keeps (W.contents output.old) (W.contents output.new) }
+        ensures same { answer self.new ≡ answer self.old }
+        ensures kind { IfErr result
+            (λ fault. (fault ≡ ToolFault.Memory) ⊎ (fault ≡ ToolFault.Write)) };
+
+    /// The same for a line that is UTF-8.
+    fn answer_str<W: Write>(&mut self, output: &mut W, line: &str) -> Result<(), ToolFault>
+        ensures ok { OnOk result (Appends (W.contents output.old) (W.contents output.new)
+            (answer self.old line.now)) }
+        ensures memory { IsErrOf result ToolFault.Memory
+            → Keeps (W.contents output.old) (W.contents output.new) }
+        ensures same { answer self.new ≡ answer self.old }
+        ensures kind { IfErr result
+            (λ fault. (fault ≡ ToolFault.Memory) ⊎ (fault ≡ ToolFault.Write)) };
+}
+
+/// The first line that a line feed ends, and what stands after that line feed.
+#[tactic(auto, using(crate::proofs::Cuts::line_none, crate::proofs::Cuts::line_cut))]
+fn first_line(bytes: &[u8]) -> Option<(&[u8], &[u8])>
+    ensures { MatchOption result (IsLine bytes.now)
+        (λ parts. IsLine parts.0.now × (bytes.now ≡ parts.0.now ++ 10 ∷ parts.1.now)) }
+{
+    match memchr(b'\n', bytes) {
+        None => None,
+        Some(at) => Some((&bytes[..at], &bytes[at + 1..])),
+    }
+}
+
+/// Answers each of these lines, which line feeds end.
+fn answer_ended<A: LineAnswers, W: Write>(
+    answers: &mut A,
+    output: &mut W,
+    lines: &[u8],
+) -> Result<(), ToolFault>
+    ensures ok { OnOk result (Appends (W.contents output.old) (W.contents output.new)
+        (flat_map (A.answer answers.old) (ended_lines_of lines.now))) }
+    ensures memory { IsErrOf result ToolFault.Memory → HasBegunLines (A.answer answers.old)
+        (ended_lines_of lines.now) (W.contents output.old) (W.contents output.new) }
+    ensures same { A.answer answers.new ≡ A.answer answers.old }
+    ensures kind { IfErr result (λ fault. (fault ≡ ToolFault.Memory) ⊎ (fault ≡ ToolFault.Write)) }
+{
+    // Where all the lines together are UTF-8, so is each of them.
+    let utf8 = from_utf8(lines).ok();
+    let mut start = 0;
+    'lines: for end in memchr_iter(b'\n', lines) {
+        match utf8 {
+            Some(utf8) => answers.answer_str(output, &utf8[start..end])?,
+            None => answers.answer_line(output, &lines[start..end])?,
+        }
+        start = end + 1;
+    }
+    Ok(())
+}
+
+/// The lines that line feeds end, and what stands after them.
+fn split_ended(bytes: &[u8]) -> (&[u8], &[u8])
+    ensures ended { ended_lines_of result.0.now ≡ ended_lines_of bytes.now }
+    ensures rest { result.1.now ≡ unended_of bytes.now }
+{
+    match memrchr(b'\n', bytes) {
+        None => bytes.split_at(0),
+        Some(at) => bytes.split_at(at + 1),
+    }
+}
+
+/// Answers the lines that end in this block, of which the first begins with `partial_line`, and keeps what stands after
+/// them.
+fn feed<A: LineAnswers, W: Write>(
+    answers: &mut A,
+    output: &mut W,
+    partial_line: &mut Vec<u8>,
+    block: &[u8],
+) -> Result<(), ToolFault>
+    requires { IsLine partial_line.old.items }
+    ensures ok { OnOk result (Appends (W.contents output.old) (W.contents output.new)
+        (flat_map (A.answer answers.old) (ended_lines_of (partial_line.old.items ++ block.now)))) }
+    ensures partial_line { OnOk result (partial_line.new.items
+        ≡ unended_of (partial_line.old.items ++ block.now)) }
+    ensures is_line { OnOk result (IsLine partial_line.new.items) }
+    ensures memory { IsErrOf result ToolFault.Memory → HasBegunLines (A.answer answers.old)
+        (ended_lines_of (partial_line.old.items ++ block.now)) (W.contents output.old)
+        (W.contents output.new) }
+    ensures same { A.answer answers.new ≡ A.answer answers.old }
+    ensures kind { IfErr result (λ fault. (fault ≡ ToolFault.Memory) ⊎ (fault ≡ ToolFault.Write)) }
+{
+    let Some((line, after)) = first_line(block) else {
+        partial_line.extend_from_slice(block)?;
+        return Ok(());
+    };
+    partial_line.extend_from_slice(line)?;
+    answers.answer_line(output, partial_line)?;
+    partial_line.clear();
+    let (ended, rest) = split_ended(after);
+    answer_ended(answers, output, ended)?;
+    partial_line.extend_from_slice(rest)?;
+    Ok(())
+}
+
+/// Answers the line that no line feed ended, if there is one, and flushes.
+fn finish<A: LineAnswers, W: Write>(
+    answers: &mut A,
+    output: &mut W,
+    partial_line: &[u8],
+) -> Result<(), ToolFault>
+    ensures ok { OnOk result (Appends (W.contents output.old) (W.contents output.new)
+        (flat_map (A.answer answers.old) (last_line partial_line.now))) }
+    ensures memory { IsErrOf result ToolFault.Memory → Keeps (W.contents output.old)
+        (W.contents output.new) }
+    ensures kind { IfErr result (λ fault. (fault ≡ ToolFault.Memory) ⊎ (fault ≡ ToolFault.Write)) }
+{
+    if !partial_line.is_empty() {
+        answers.answer_line(output, partial_line)?;
+    }
+    end(output)
+}
+
+/// So many zeros. It is a function of its own so that no proof meets a list of 65,536 items.
+fn zeros(alloc: Global, count: usize) -> Result<Vec<u8>, AllocError>
+    ensures { IfOk result (λ zeros. vec_len zeros ≡ count) }
+{
+    vec![in alloc; 0u8; count]
+}
+
+/// Answers each line of the input, to its end, and flushes.
+pub fn answer_lines<A: LineAnswers, R: Read, W: Write>(
+    alloc: Global,
+    answers: &mut A,
+    input: &mut R,
+    output: &mut W,
+) -> Result<(), ToolFault>
+    ensures ok { OnOk result (HasAnsweredInput (A.answer answers.old)
+        (traffic (R.remaining input.old) (R.remaining input.new)
+        (W.contents output.old) (W.contents output.new))) }
+    ensures read { IsErrOf result ToolFault.Read → HasAnsweredEnded (A.answer answers.old)
+        (traffic (R.remaining input.old) (R.remaining input.new)
+        (W.contents output.old) (W.contents output.new)) }
+    ensures memory { IsErrOf result ToolFault.Memory → HasAnsweredSome (A.answer answers.old)
+        (traffic (R.remaining input.old) (R.remaining input.new)
+        (W.contents output.old) (W.contents output.new)) }
+    ensures kind { IfErr result
+        (λ fault. (fault ≡ ToolFault.Memory) ⊎ ((fault ≡ ToolFault.Read)
+        ⊎ (fault ≡ ToolFault.Write))) }
+{
+    let mut room = zeros(alloc, READ_SIZE)?;
+    let block = room.as_mut_slice();
+    let mut partial_line = Vec::new(alloc);
+    // No run comes to this many reads: the bound is for the proof that the loop ends.
+    'reads: for _ in 0..u64::MAX {
+        match input.read(block) {
+            Ok(0) => return finish(answers, output, &partial_line),
+            Ok(n) => feed(answers, output, &mut partial_line, &block[..n])?,
+            Err(error) => {
+                if error.kind() != ErrorKind::Interrupted {
+                    return Err(ToolFault::Read);
+                }
+            }
+        }
+    }
+    Err(ToolFault::Read)
+}

@@ -1,0 +1,338 @@
+//! The table of long chains and doubled definitions: what a pattern over them measures and compiles into.
+
+use crate::libraries::{add_chain, add_doublings};
+use grok::Fault::{Malformed, Missing, TooDeep};
+use grok::Measure::{Fault, Size, TooLong};
+use grok::parser::GrokPatternError::{InvalidCharacter, InvalidPattern};
+use grok::{Grok, Measure};
+use std::alloc::{AllocError, Global};
+
+/// A pattern, and what it gives.
+#[derive(Clone, Copy)]
+pub struct Row {
+    /// What the row shows.
+    pub name: &'static str,
+    /// Names with their definitions.
+    pub definitions: &'static [(&'static str, &'static str)],
+    /// The letter of each chain, the number of its links, and what the last one stands for.
+    pub chains: &'static [(&'static str, u32, &'static str)],
+    pub has_doublings: bool,
+    pub pattern: &'static str,
+    /// The measure where each placeholder is recorded.
+    pub every: Measure<'static>,
+    /// The measure where those with an alias are, and no others.
+    pub aliased: Measure<'static>,
+    /// How many pieces and ends `measure_counted` looks at, or at most where there is a fault.
+    pub looks: Option<(u64, u64)>,
+    /// The debug text of the error of compiling in either mode, if there is one.
+    pub error: Option<&'static str>,
+}
+
+/// What a row has where it says nothing else: nothing that is long.
+const BLANK: Row = Row {
+    name: "the empty pattern",
+    definitions: &[],
+    chains: &[],
+    has_doublings: false,
+    pattern: "",
+    every: Size {
+        length: 0,
+        groups: 0,
+        nesting: 0,
+    },
+    aliased: Size {
+        length: 0,
+        groups: 0,
+        nesting: 0,
+    },
+    looks: Some((0, 1)),
+    error: Some("CompiledPatternIsEmpty(\"\")"),
+};
+
+/// As many placeholders in one another as are allowed: 8 bytes each and 10 + 180 + 2,700 + 92 places of their numbers
+/// where they are recorded, 4 bytes each where they are not, and the one letter.
+pub const DEEPEST: Row = Row {
+    name: "1,023 placeholders in one another",
+    chains: &[("C", 1023, "x")],
+    pattern: "%{C1}",
+    every: Size {
+        length: 11167,
+        groups: 1023,
+        nesting: 1023,
+    },
+    aliased: Size {
+        length: 4093,
+        groups: 0,
+        nesting: 1023,
+    },
+    looks: Some((1024, 1024)),
+    error: None,
+    ..BLANK
+};
+
+/// What opens one placeholder too many in another.
+const DEEPER: Row = Row {
+    name: "1,024 placeholders in one another",
+    every: Fault(TooDeep),
+    aliased: Fault(TooDeep),
+    looks: None,
+    error: Some("RecursionTooDeep"),
+    ..BLANK
+};
+
+/// 500 links, and 600 above them.
+const TWO_CHAINS: &[(&str, u32, &str)] = &[("H", 500, "x"), ("C", 600, "%{H1}")];
+
+/// What has a text far too long.
+const LONGER: Row = Row {
+    name: "a text that is far too long",
+    has_doublings: true,
+    pattern: "%{D70}",
+    every: TooLong,
+    aliased: TooLong,
+    looks: Some((142, 72)),
+    error: Some("Memory"),
+    ..BLANK
+};
+
+const ROWS: &[Row] = &[
+    DEEPEST,
+    Row {
+        chains: &[("C", 1024, "x")],
+        pattern: "%{C1}",
+        ..DEEPER
+    },
+    Row {
+        name: "1,023 of 1,024 links",
+        chains: &[("C", 1024, "x")],
+        pattern: "%{C2}",
+        ..DEEPEST
+    },
+    Row {
+        name: "a definition in the text takes the last level",
+        chains: &[("C", 1022, "%{W=x}")],
+        looks: Some((1023, 1023)),
+        ..DEEPEST
+    },
+    Row {
+        name: "a definition in the text takes a level too many",
+        chains: &[("C", 1023, "%{W=x}")],
+        pattern: "%{C1}",
+        ..DEEPER
+    },
+    Row {
+        name: "a missing definition comes before the depth",
+        chains: &[("C", 1023, "%{nope}")],
+        pattern: "%{C1}",
+        every: Fault(Missing("nope")),
+        aliased: Fault(Missing("nope")),
+        looks: None,
+        error: Some("DefinitionNotFound(\"nope\")"),
+        ..BLANK
+    },
+    Row {
+        name: "a malformed placeholder comes before the depth",
+        chains: &[("C", 1023, "%{")],
+        pattern: "%{C1}",
+        every: Fault(Malformed(InvalidPattern)),
+        aliased: Fault(Malformed(InvalidPattern)),
+        looks: None,
+        error: Some("GenericCompilationFailure(\"InvalidPattern\")"),
+        ..BLANK
+    },
+    Row {
+        name: "a clash comes before the depth",
+        definitions: &[("A", "a")],
+        chains: &[("C", 1023, "%{A:x}")],
+        pattern: "%{A:x[1]}%{A:x}%{C1}",
+        error: Some("GenericCompilationFailure(\"Alias x[1] already exists\")"),
+        ..DEEPER
+    },
+    Row {
+        name: "an alias with a number that is not reached is no clash",
+        definitions: &[("A", "a")],
+        chains: &[("C", 1023, "%{A:x}")],
+        pattern: "%{A:x[2]}%{A:x}%{C1}",
+        ..DEEPER
+    },
+    // How deep a name stands counts anew wherever it is used.
+    Row {
+        name: "a chain alone and then below another one",
+        chains: TWO_CHAINS,
+        pattern: "%{H1}%{C1}",
+        ..DEEPER
+    },
+    Row {
+        name: "a chain below another one",
+        chains: TWO_CHAINS,
+        pattern: "%{C1}",
+        ..DEEPER
+    },
+    Row {
+        // 500 groups: 8 bytes each, 10 + 180 + 1,200 places of their numbers, and the one letter.
+        name: "a chain alone",
+        chains: TWO_CHAINS,
+        pattern: "%{H1}",
+        every: Size {
+            length: 5391,
+            groups: 500,
+            nesting: 500,
+        },
+        aliased: Size {
+            length: 2001,
+            groups: 0,
+            nesting: 500,
+        },
+        looks: Some((501, 501)),
+        error: None,
+        ..BLANK
+    },
+    Row {
+        name: "a chain below 523 links, which are as many as are allowed",
+        chains: TWO_CHAINS,
+        pattern: "%{H1}%{C78}",
+        every: Size {
+            length: 17168,
+            groups: 1523,
+            nesting: 1023,
+        },
+        aliased: Size {
+            length: 6094,
+            groups: 0,
+            nesting: 1023,
+        },
+        looks: Some((1025, 1024)),
+        error: None,
+        ..BLANK
+    },
+    Row {
+        name: "a chain below 524 links",
+        chains: TWO_CHAINS,
+        pattern: "%{H1}%{C77}",
+        ..DEEPER
+    },
+    Row {
+        name: "a circle behind a long chain",
+        definitions: &[("A", "%{B1}%{A}%{missing}")],
+        chains: &[("B", 600, "x")],
+        pattern: "%{A}",
+        looks: Some((604, 602)),
+        ..DEEPER
+    },
+    // Texts that double ten times and more.
+    Row {
+        name: "a text that doubles ten times",
+        has_doublings: true,
+        pattern: "%{D10}",
+        every: Size {
+            length: 24478,
+            groups: 2047,
+            nesting: 11,
+        },
+        // 2,047 placeholders of 4 bytes each, and 1,024 letters.
+        aliased: Size {
+            length: 9212,
+            groups: 0,
+            nesting: 11,
+        },
+        looks: Some((22, 12)),
+        error: None,
+        ..BLANK
+    },
+    Row {
+        name: "a text that is too long with its groups, and larger than the memory without",
+        pattern: "%{D60}",
+        aliased: Size {
+            length: 10376293541461622780,
+            groups: 0,
+            nesting: 61,
+        },
+        looks: Some((122, 62)),
+        ..LONGER
+    },
+    Row {
+        name: "a text that is too long without its groups",
+        pattern: "%{D61}",
+        looks: Some((124, 63)),
+        ..LONGER
+    },
+    LONGER,
+    Row {
+        name: "a clash before a text that is far too long",
+        definitions: &[("A", "a")],
+        pattern: "%{A:x[1]}%{A:x}%{A:x}%{D70}",
+        looks: Some((146, 73)),
+        ..LONGER
+    },
+    Row {
+        name: "a missing definition behind a text that is far too long",
+        pattern: "%{D70}%{missing}",
+        every: Fault(Missing("missing")),
+        aliased: Fault(Missing("missing")),
+        looks: Some((143, 71)),
+        error: Some("DefinitionNotFound(\"missing\")"),
+        ..LONGER
+    },
+    Row {
+        name: "a space in a name behind a text that is far too long",
+        pattern: "%{D70}%{a b}",
+        every: Fault(Malformed(InvalidCharacter(' '))),
+        aliased: Fault(Malformed(InvalidCharacter(' '))),
+        looks: Some((143, 71)),
+        error: Some("GenericCompilationFailure(\"InvalidCharacter(' ')\")"),
+        ..LONGER
+    },
+    Row {
+        name: "a placeholder that is not closed behind a text that is far too long",
+        pattern: "%{D70}%{",
+        every: Fault(Malformed(InvalidPattern)),
+        aliased: Fault(Malformed(InvalidPattern)),
+        looks: Some((143, 71)),
+        error: Some("GenericCompilationFailure(\"InvalidPattern\")"),
+        ..LONGER
+    },
+    Row {
+        name: "a clash, a text that is far too long, and a missing definition",
+        definitions: &[("A", "a")],
+        pattern: "%{A:x[1]}%{A:x}%{A:x}%{D70}%{missing}",
+        every: Fault(Missing("missing")),
+        aliased: Fault(Missing("missing")),
+        looks: Some((147, 72)),
+        error: Some("GenericCompilationFailure(\"Alias x[1] already exists\")"),
+        ..LONGER
+    },
+    Row {
+        name: "a text that is far too long, and again below 952 links",
+        chains: &[("K", 952, "%{D70}")],
+        pattern: "%{D70}%{K1}",
+        looks: Some((1095, 1024)),
+        ..LONGER
+    },
+    Row {
+        name: "a text that is far too long, and again below 953 links",
+        chains: &[("K", 953, "%{D70}")],
+        has_doublings: true,
+        pattern: "%{D70}%{K1}",
+        looks: Some((1096, 1025)),
+        ..DEEPER
+    },
+];
+
+/// All rows.
+pub(crate) fn rows() -> &'static [Row] {
+    ROWS
+}
+
+impl Row {
+    /// The library of the row.
+    pub(crate) fn library(&self, alloc: Global) -> Result<Grok, AllocError> {
+        let mut grok = Grok::from_iter(alloc, self.definitions)?;
+        for (letter, count, last) in self.chains {
+            add_chain(alloc, &mut grok, letter, *count, last)?;
+        }
+        if self.has_doublings {
+            add_doublings(alloc, &mut grok)?;
+        }
+        Ok(grok)
+    }
+}

@@ -1,9 +1,0 @@
-pub mod SameText
-pub mod Numerals
-pub mod Captured
-pub mod MeantKeys
-pub mod Extending
-pub mod Halving
-pub mod AnswerLemmas
-pub mod WalkLaws
-pub mod GreatestGroups

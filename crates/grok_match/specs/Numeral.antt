@@ -1,8 +1,0 @@
--- Numbers in decimal.
-use Rattle.std.specs.Prelude.{ℕ, zero, suc, ◌+◌, List, codes, map}
-use Rattle.std.specs.Int.Digits.{digits_of}
-
--- A number in decimal, of any length. (std's `decimal` has at most 64 digits, and a tree may have more opens than that can count.)
-abbrev pub numeral : ℕ → List ℕ
-numeral zero = codes "0"
-numeral (suc n) = map (λ digit. 48 + digit) (digits_of 10 (suc n))

@@ -1,0 +1,28 @@
+//! A filter by extracts: of a match, only the values of one kind.
+ghost use Rattle.std.specs.Prelude.{◌≡◌, IfOk, map, string_bytes};
+ghost use Rattle.grok_uses.specs.Uses.{pairs_in, values_of_kind};
+
+use grok::{Engine, PatternOf};
+use std::alloc::{AllocError, Global};
+
+/// The values of this kind, by the extract of their key, that the pattern finds in the line, in
+/// byte order of their keys. The only error is want of memory.
+pub(crate) fn values_of_kind<E: Engine>(
+    alloc: Global,
+    pattern: &PatternOf<E>,
+    kind: &str,
+    line: &str,
+) -> Result<Vec<String>, AllocError>
+    ensures { IfOk result (λ values. map string_bytes values.items
+        ≡ values_of_kind pattern.now kind.now (pairs_in E.answer_to pattern.now line.now)) }
+{
+    let mut values = Vec::new(alloc);
+    if let Some(matches) = pattern.match_against(line)? {
+        'pairs: for (key, value) in &matches {
+            if pattern.get_extract(key) == Some(kind) {
+                values.push(String::from_str(alloc, value)?)?;
+            }
+        }
+    }
+    Ok(values)
+}

@@ -1,0 +1,42 @@
+//! An importer: one matcher for many lines, and a count of a key.
+ghost use Rattle.std.specs.Prelude.{◌≡◌, IfOk, count_by};
+ghost use Rattle.grok_uses.specs.Uses.{has_key};
+
+use grok::{HasMatcher, MatcherOf, PatternOf};
+use std::alloc::AllocError;
+
+/// Whether the line gives the key a text.
+fn gives_key<'p, E: HasMatcher<'p>>(
+    matcher: &mut MatcherOf<'p, E>,
+    key: &str,
+    line: &str,
+) -> Result<bool, AllocError>
+    ensures answer { IfOk result (λ gives.
+        gives ≡ has_key E.answer_to matcher.old key.now line.now) }
+    ensures same { matcher.new ≡ matcher.old }
+{
+    match matcher.find(line)? {
+        Some(matches) => Ok(matches.iter().any(|(name, _)| name == key)),
+        None => Ok(false),
+    }
+}
+
+/// How many of the lines give the key a text. The only error is want of memory.
+#[tactic(auto, using(std::proofs::lemmas::List::Sums::count_by_more_yes, std::proofs::lemmas::List::Sums::count_by_more_no))]
+pub(crate) fn count_of_key<'p, E: HasMatcher<'p>>(
+    pattern: &'p PatternOf<E>,
+    key: &str,
+    lines: &[&str],
+) -> Result<usize, AllocError>
+    ensures { IfOk result (λ count.
+        count ≡ count_by (λ line. has_key E.answer_to pattern.now key.now line.now) lines.now) }
+{
+    let mut matcher = pattern.matcher()?;
+    let mut count = 0;
+    for line in lines {
+        if gives_key(&mut matcher, key, line)? {
+            count += 1;
+        }
+    }
+    Ok(count)
+}

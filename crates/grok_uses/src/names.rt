@@ -1,0 +1,24 @@
+//! A user of the splitter: the names that a pattern asks for.
+ghost use Rattle.std.specs.Prelude.{◌≡◌, IfOk, filter_map, map};
+ghost use Rattle.grok.specs.{pieces, text_of};
+ghost use Rattle.grok_uses.specs.Uses.{name_of};
+
+use grok::parser::{GrokComponent, grok_split};
+use std::alloc::{AllocError, Global};
+
+/// The names of the placeholders of a pattern, in its order. The only error is want of memory.
+pub(crate) fn placeholder_names<'a>(
+    alloc: Global,
+    pattern: &'a str,
+) -> Result<Vec<&'a str>, AllocError>
+    ensures { IfOk result (λ names.
+        map text_of names.items ≡ filter_map name_of (pieces pattern.now)) }
+{
+    let mut names = Vec::new(alloc);
+    for piece in grok_split(pattern) {
+        if let GrokComponent::GrokPattern { name, .. } = piece {
+            names.push(name)?;
+        }
+    }
+    Ok(names)
+}

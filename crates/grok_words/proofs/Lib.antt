@@ -1,2 +1,0 @@
-pub mod Equals
-pub mod Named

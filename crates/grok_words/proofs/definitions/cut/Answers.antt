@@ -1,5 +1,0 @@
-use Rattle.grok_words.proofs.Equals.{is_cut}
-use Rattle.grok_words.proofs.definitions.cut.Goals as goal
-
-pub unwrap-requires : goal.unwrap-requires
-unwrap-requires c = is_cut c.args.word.now c.split_once.result c.split_once.ensures.cases c.requires

@@ -1,9 +1,0 @@
--- The definitions that a command works with.
-use Rattle.std.specs.Prelude.{ℕ, List}
-use Rattle.std.specs.FinMap as finite
-use Rattle.grok_match.specs.Maps.{Texts, set_all}
-use Rattle.grok.specs.Ten.{ten}
-
--- the ten, and then those of the words, one after another
-abbrev pub library_of : List (List ℕ × List ℕ) → Texts
-library_of definitions = set_all (set_all finite.empty ten) definitions
