@@ -30,6 +30,8 @@ pub(crate) struct OwnSearch {
     tagged: Tagged,
     /// From group 1 on, a start and an end for each group: a position plus one, or 0 for none.
     cells: Vec<usize>,
+    /// Whether the line before matched from its start on: the next one is likely to do so, too.
+    matched_at_start: bool,
     ghost read: { ∥ IsTreeOf (string_bytes source) hir ∥₁ },
     ghost implements: { ∥ Implements dfa.nfa (meaning hir) ∥₁ },
     ghost own: { IsFor tagged dfa },
@@ -63,6 +65,7 @@ impl OwnSearch {
             dfa,
             tagged,
             cells,
+            matched_at_start: true,
         })
     }
 
@@ -125,17 +128,27 @@ impl OwnSearch {
             (λ m. self.new.cells.items ≡ group_cells m (vec_len self.old.cells))) }
         ensures width { vec_len self.new.cells ≡ vec_len self.old.cells }
     {
-        leftmost(&self.dfa, &mut self.tagged, hay, &mut self.cells)
+        let tries_start = self.matched_at_start;
+        let found = leftmost(
+            &self.dfa,
+            &mut self.tagged,
+            hay,
+            &mut self.cells,
+            tries_start,
+        )?;
+        self.matched_at_start = matches!(found, Some((0, _)));
+        Ok(found)
     }
 }
 
 /// The span of the first match in bytes, where a match may start at each. The cells are those of
-/// its groups. Lines mostly match from their start on, so that is tried first.
+/// its groups. A match from the start on may be tried first: where there is one, that is quicker.
 fn leftmost(
     dfa: &Dfa,
     tagged: &mut Tagged,
     hay: &[u8],
     cells: &mut [usize],
+    tries_start: bool,
 ) -> Result<Option<(usize, usize)>, Declined>
     requires { IsFor tagged.old dfa.now }
     ensures span { IfOk result (λ found. found
@@ -144,9 +157,11 @@ fn leftmost(
         (length hay.now)) (λ m. cells.new ≡ group_cells m (length cells.old))) }
     ensures own { IsFor tagged.new dfa.now }
 {
-    let at_start = tagged.find_at(dfa, hay, 0, hay.len(), cells)?;
-    if at_start.is_some() {
-        return Ok(at_start);
+    if tries_start {
+        let at_start = tagged.find_at(dfa, hay, 0, hay.len(), cells)?;
+        if at_start.is_some() {
+            return Ok(at_start);
+        }
     }
     match tagged.find_near(dfa, hay, 0, hay.len(), cells)? {
         Near::Done(found) => Ok(found),
