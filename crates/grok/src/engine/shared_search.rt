@@ -15,7 +15,7 @@ const LONGEST: usize = 400;
 
 /// The longest one that isn't ASCII, where the text asks for ends of words: the tables are slow to
 /// find those there.
-const LONGEST_WITH_WORDS: usize = 64;
+const LONGEST_WITH_WORDS: usize = 100;
 
 /// What asks for the start or the end of a word, or for neither.
 const WORD_ESCAPES: [&str; 4] = ["\\b", "\\B", "\\<", "\\>"];
