@@ -21,6 +21,13 @@ use std::alloc::Global;
 /// The bytes that the tables of the NFA may take.
 const LIMIT: usize = 1 << 20;
 
+/// The longest line that isn't ASCII, where the text asks for ends of words: such a line's words are
+/// slow to find.
+const LONGEST_WITH_WORDS: usize = 100;
+
+/// What asks for the start or the end of a word, or for neither.
+const WORD_ESCAPES: [&str; 4] = ["\\b", "\\B", "\\<", "\\>"];
+
 /// An automaton of a text, and the tables that its searches fill.
 #[derive(Drop)]
 pub(crate) struct OwnSearch {
@@ -32,6 +39,8 @@ pub(crate) struct OwnSearch {
     cells: Vec<usize>,
     /// Whether the line before matched from its start on: the next one is likely to do so, too.
     matched_at_start: bool,
+    /// Whether the text asks where words start or end.
+    asks_for_words: bool,
     ghost read: { ∥ IsTreeOf (string_bytes source) hir ∥₁ },
     ghost implements: { ∥ Implements dfa.nfa (meaning hir) ∥₁ },
     ghost own: { IsFor tagged dfa },
@@ -66,7 +75,13 @@ impl OwnSearch {
             tagged,
             cells,
             matched_at_start: true,
+            asks_for_words: asks_for_words(text),
         })
+    }
+
+    /// Whether a search that is made for this line alone may be sooner done with it.
+    pub(crate) fn is_slow_with(&self, line: &str) -> bool {
+        self.asks_for_words && line.len() > LONGEST_WITH_WORDS && !line.is_ascii()
     }
 
     /// The text of each group of the first match in the line, or none where nothing matches, as the
@@ -139,6 +154,11 @@ impl OwnSearch {
         self.matched_at_start = matches!(found, Some((0, _)));
         Ok(found)
     }
+}
+
+/// Whether the text asks where words start or end.
+fn asks_for_words(text: &str) -> bool {
+    WORD_ESCAPES.iter().any(|escape| text.contains(*escape))
 }
 
 /// The span of the first match in bytes, where a match may start at each. The cells are those of

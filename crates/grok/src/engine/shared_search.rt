@@ -13,31 +13,11 @@ use std::sync::Mutex;
 /// The longest line that is searched here.
 const LONGEST: usize = 400;
 
-/// The longest one that isn't ASCII, where the text asks for ends of words: the tables are slow to
-/// find those there.
-const LONGEST_WITH_WORDS: usize = 100;
-
-/// What asks for the start or the end of a word, or for neither.
-const WORD_ESCAPES: [&str; 4] = ["\\b", "\\B", "\\<", "\\>"];
-
 /// How many lines go by before the tables are made.
 const SOON: u32 = 16;
 
 /// How many go by before they are made again, after they gave up.
 const LATER: u32 = 4096;
-
-/// Whether a search that is made for the line alone may be sooner done with it.
-fn is_left_out(text: &str, line: &str) -> bool {
-    if line.len() > LONGEST_WITH_WORDS && !line.is_ascii() && asks_for_words(text) {
-        return true;
-    }
-    line.len() > LONGEST
-}
-
-/// Whether the text asks where words start or end.
-fn asks_for_words(text: &str) -> bool {
-    WORD_ESCAPES.iter().any(|escape| text.contains(*escape))
-}
 
 /// The tables, or how many lines go by before they are made.
 #[derive(Drop)]
@@ -77,7 +57,7 @@ impl SharedSearch {
         ensures slices { IfOk result (λ found. IfSome found (λ captures. AreSlicesOf line.now
             (capture_texts captures.items))) }
     {
-        if is_left_out(regex.as_str(), line) {
+        if line.len() > LONGEST {
             return Err(Declined);
         }
         match self.tables.try_lock() {
@@ -113,6 +93,7 @@ impl Tables {
             (capture_texts captures.items))) }
     {
         match self {
+            Tables::Ready(search) if search.is_slow_with(line) => {}
             Tables::Ready(search) => {
                 let answer = search.captures(alloc, regex, line);
                 if answer.is_err() {
