@@ -33,6 +33,7 @@ pub mod Events
 pub mod Errors
 pub mod OpensSoFar
 pub mod FirstFault
+pub mod Wanted
 pub mod Walks
 pub mod Writes
 pub mod Compiled

@@ -4,4 +4,5 @@ pub(crate) mod events;
 pub(crate) mod key_assigner;
 pub(crate) mod numbered;
 pub(crate) mod walk;
+pub(crate) mod wanted;
 pub(crate) mod write;
