@@ -44,6 +44,7 @@ pub mod WriteSteps
 pub mod Bracketing
 pub mod Flagging
 pub mod Sound
+pub mod Tallying
 pub mod Defined
 pub mod Whole
 pub mod Places

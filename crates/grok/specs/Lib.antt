@@ -34,6 +34,7 @@ pub mod Errors
 pub mod OpensSoFar
 pub mod FirstFault
 pub mod Wanted
+pub mod Tallied
 pub mod Walks
 pub mod Writes
 pub mod Compiled

@@ -3,6 +3,7 @@
 pub(crate) mod events;
 pub(crate) mod key_assigner;
 pub(crate) mod numbered;
+pub(crate) mod tallies;
 pub(crate) mod walk;
 pub(crate) mod wanted;
 pub(crate) mod write;
