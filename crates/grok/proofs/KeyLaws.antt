@@ -64,15 +64,19 @@ same_digits (x ∷ xs) (y ∷ ys) e =
 same_numeral : (a b : ℕ) → numeral (suc a) ≡ numeral (suc b) → suc a ≡ suc b
 same_numeral a b e = same_from_digits_of 10 (suc a) (suc b) (omega arith) (same_digits (digits_of 10 (suc a)) (digits_of 10 (suc b)) e)
 
--- a numbered key says which key was wanted, and how often before
+-- a key with a number says which key was wanted, and how often before
+pub numbered_both : (k l : List ℕ) (c d : ℕ) → numbered k (suc c) ≡ numbered l (suc d) → (k ≡ l) × (suc c ≡ suc d)
+numbered_both k l c d e =
+    let regroup : (key : List ℕ) (n : ℕ) → numbered key (suc n) ≡ key ++ (91 ∷ (numeral (suc n) ++ 93 ∷ [])) = λ key n. simp append_assoc in
+    let both = last_bracket k l (numeral (suc c) ++ 93 ∷ []) (numeral (suc d) ++ 93 ∷ []) (numeral_plain c) (numeral_plain d) (sym (regroup k c) ∙ e ∙ regroup l d) in
+    (both.0, same_numeral c d (append_cancel_right (numeral (suc c)) (numeral (suc d)) (93 ∷ []) both.1))
+
+-- where the wanted keys don't end so, each numbered key says that
 pub numbered_same : (k l : List ℕ) (c d : ℕ) → ends_in_number k ≡ false → ends_in_number l ≡ false → numbered k c ≡ numbered l d → (k ≡ l) × (c ≡ d)
 numbered_same k l zero zero p q e = (e, refl)
 numbered_same k l zero (suc d) p q e = absurd (true≢false (sym (numbered_ends l d) ∙ ap ends_in_number (sym e) ∙ p))
 numbered_same k l (suc c) zero p q e = absurd (true≢false (sym (numbered_ends k c) ∙ ap ends_in_number e ∙ q))
-numbered_same k l (suc c) (suc d) p q e =
-    let regroup : (key : List ℕ) (n : ℕ) → numbered key (suc n) ≡ key ++ (91 ∷ (numeral (suc n) ++ 93 ∷ [])) = λ key n. simp append_assoc in
-    let both = last_bracket k l (numeral (suc c) ++ 93 ∷ []) (numeral (suc d) ++ 93 ∷ []) (numeral_plain c) (numeral_plain d) (sym (regroup k c) ∙ e ∙ regroup l d) in
-    (both.0, same_numeral c d (append_cancel_right (numeral (suc c)) (numeral (suc d)) (93 ∷ []) both.1))
+numbered_same k l (suc c) (suc d) p q e = numbered_both k l c d e
 
 -- ---- no clash without a number in brackets
 pub how_often_more : (label : Label) (before : List Label) (key : List ℕ) → how_often (label ∷ before) key ≡ cond (bytes_eq (wanted label) key) 1 0 + how_often before key
