@@ -1,11 +1,11 @@
 -- Where two keys clash, said by how often each key is wanted.
-use Rattle.std.proofs.Common.{◌≡◌, ℕ, zero, suc, ◌+◌, ◌<◌, ◌≤◌, Bool, true, false, cond, List, [], ◌∷◌, ◌++◌, length, Option, Some, None, refl, sym, ◌∙◌, ap, subst, inl, inr, arith, append_assoc, length-append}
+use Rattle.std.proofs.Common.{◌≡◌, ℕ, zero, suc, ◌+◌, ◌<◌, ◌≤◌, Bool, true, false, cond, List, [], ◌∷◌, ◌++◌, length, None, refl, sym, ◌∙◌, ap, subst, inl, inr, arith, append_assoc, length-append}
 use Rattle.std.specs.Str.{bytes_eq}
-use Rattle.std.proofs.lemmas.Bool.{true≢false, cases_Bool, cases_eq, false_from_ne_true}
-use Rattle.grok.specs.Tree.{Label, Meaning, Event, Text, Open, Close, FaultEvent, Fault, first_structural}
-use Rattle.grok.specs.Keys.{is_recorded, recorded, wanted, numbered, how_often, key_after, is_among, Finding, Clash}
+use Rattle.std.proofs.lemmas.Bool.{true≢false, cases_Bool, cases_eq, cases_lt, false_from_ne_true}
+use Rattle.grok.specs.Tree.{Label, Event, Text, Open, Close, FaultEvent, first_structural}
+use Rattle.grok.specs.Keys.{is_recorded, recorded, wanted, numbered, how_often, key_after, is_among}
 use Rattle.grok.specs.Numeral.{numeral}
-use Rattle.grok.specs.OpensSoFar.{taken_of, faults, after}
+use Rattle.grok.specs.OpensSoFar.{onto, taken_of, faults, after}
 use Rattle.grok.specs.Wanted.{IsFree}
 use Rattle.grok.proofs.SameText.{same_text, text_same}
 use Rattle.grok.proofs.KeyLaws.{numbered_both, how_often_more}
@@ -111,7 +111,12 @@ module _ (before : List Label) (label : Label) where
   ]
     where
       named : wanted label ≡ numbered base (suc count) → (own : ℕ) → own ≡ how_often before (wanted label) → bytes_eq (wanted label) base ≡ false → how_often (label ∷ before) base ≤ suc count
-      named is zero often foreign = ?
+      named is zero often foreign = elim (cases_lt (suc count) (how_often before base)) [
+        | inl over ↦
+            let key : key_after before label ≡ numbered base (suc count) = ap (numbered (wanted label)) (sym often) ∙ is in
+            absurd (true≢false (sym (is_taken before base (suc count) over) ∙ ap (λ k. is_among k (taken_of before)) (sym key) ∙ untaken))
+        | inr most ↦ omega (arith, most, how_often_other label before base foreign)
+      ]
       named is (suc own) often foreign = omega (arith, free base count (omega (arith, often, ap (how_often before) is)), how_often_other label before base foreign)
 
 -- ---- more events
@@ -126,8 +131,13 @@ module _ (alias_only : Bool) where
   free_events before (Text text ∷ events) clean free = free_events before events clean free
   free_events before (Close ∷ events) clean free = free_events before events clean free
   free_events before (FaultEvent fault ∷ events) clean free = cc
-  free_events before (Open label meaning ∷ events) clean free = go (is_recorded alias_only label) refl
-    where
-      go : (b : Bool) → is_recorded alias_only label ≡ b → faults alias_only before (Open label meaning ∷ events) ≡ None
-      go true is = ?
-      go false is = ?
+  free_events before (Open label meaning ∷ events) clean free = elim (cases_Bool (is_recorded alias_only label)) [
+    | inl is ↦
+        let later : IsFree (how_often (after alias_only (label ∷ before) events)) = subst (λ b. IsFree (how_often (onto before (cond b (label ∷ recorded alias_only events) (recorded alias_only events))))) is free in
+        let own : IsFree (how_often (label ∷ before)) = free_below (how_often (after alias_only (label ∷ before) events)) (how_often (label ∷ before)) (λ key. omega (arith, how_often-after alias_only (label ∷ before) events key)) later in
+        let untaken : is_among (key_after before label) (taken_of before) ≡ false = false_from_ne_true (is_among (key_after before label) (taken_of before)) (λ taken. clash_is_not_free before label taken own) in
+        rw (is, untaken) (free_events (label ∷ before) events clean later)
+    | inr is ↦
+        let later : IsFree (how_often (after alias_only before events)) = subst (λ b. IsFree (how_often (onto before (cond b (label ∷ recorded alias_only events) (recorded alias_only events))))) is free in
+        rw is (free_events before events clean later)
+  ]
