@@ -20,16 +20,16 @@ use Rattle.grok.proofs.SameText.{same_text, text_same}
 use Rattle.grok.proofs.Adequate.{pieces_are}
 
 -- ---- the last bracket
-opens_bracket : List ℕ → Bool
+unfoldable pub opens_bracket : List ℕ → Bool
 opens_bracket [] = false
 opens_bracket (c ∷ cs) = cond (c == 91) true (opens_bracket cs)
 
-in_middle : (xs ys : List ℕ) → opens_bracket (xs ++ 91 ∷ ys) ≡ true
+pub in_middle : (xs ys : List ℕ) → opens_bracket (xs ++ 91 ∷ ys) ≡ true
 unfolding opens_bracket
 in_middle [] ys = refl
 in_middle (x ∷ xs) ys = elim (x == 91) as (λ b. cond b true (opens_bracket (xs ++ 91 ∷ ys)) ≡ true) [ true ↦ refl | false ↦ in_middle xs ys ]
 
-last_bracket : (a b x y : List ℕ) → opens_bracket x ≡ false → opens_bracket y ≡ false → a ++ (91 ∷ x) ≡ b ++ (91 ∷ y) → (a ≡ b) × (x ≡ y)
+pub last_bracket : (a b x y : List ℕ) → opens_bracket x ≡ false → opens_bracket y ≡ false → a ++ (91 ∷ x) ≡ b ++ (91 ∷ y) → (a ≡ b) × (x ≡ y)
 last_bracket [] [] x y p q e = (refl, cc)
 last_bracket [] (c ∷ b) x y p q e = let t : x ≡ b ++ (91 ∷ y) = cc in absurd (true≢false (sym (in_middle b y) ∙ ap opens_bracket (sym t) ∙ p))
 last_bracket (c ∷ a) [] x y p q e = let t : a ++ (91 ∷ x) ≡ y = cc in absurd (true≢false (sym (in_middle a x) ∙ ap opens_bracket t ∙ q))
@@ -48,7 +48,7 @@ digits_plain (d ∷ ds) h =
     let other : ((48 + d) == 91) ≡ false = ne_eqb (48 + d) 91 (λ e. omega arith) in
     rw other (digits_plain ds h.1)
 
-numeral_plain : (n : ℕ) → opens_bracket (numeral (suc n) ++ 93 ∷ []) ≡ false
+pub numeral_plain : (n : ℕ) → opens_bracket (numeral (suc n) ++ 93 ∷ []) ≡ false
 numeral_plain n = digits_plain (digits_of 10 (suc n)) (all_below_base_digits_of 10 (suc n) (omega arith))
 
 same_digits : (xs ys : List ℕ) → map (λ digit. 48 + digit) xs ≡ map (λ digit. 48 + digit) ys → xs ≡ ys

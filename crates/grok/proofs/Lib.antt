@@ -32,6 +32,7 @@ pub mod NumberedKeys
 pub mod KeyLaws
 pub mod Cuts
 pub mod Clashing
+pub mod Unnumbering
 pub mod GivenSteps
 pub mod Walking
 pub mod SizeLaws
