@@ -31,6 +31,8 @@ pub mod Stacking
 pub mod NumberedKeys
 pub mod KeyLaws
 pub mod Cuts
+pub mod Clashing
+pub mod Unnumbering
 pub mod GivenSteps
 pub mod Walking
 pub mod SizeLaws
