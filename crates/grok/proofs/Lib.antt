@@ -47,6 +47,7 @@ pub mod Bracketing
 pub mod Flagging
 pub mod Sound
 pub mod Tallying
+pub mod Passing
 pub mod Defined
 pub mod Whole
 pub mod Places

@@ -13,6 +13,7 @@ use Rattle.grok.specs.declared.expand.tallies.Tallies.{Tallies}
 use Rattle.std.proofs.lemmas.Bool.{cases_Bool}
 use Rattle.grok.proofs.SameText.{same_text}
 use Rattle.grok.proofs.KeyLaws.{how_often_more}
+use Rattle.grok.proofs.Clashing.{how_often-append}
 use Rattle.grok.proofs.Cuts.{recorded-append}
 use Rattle.grok.proofs.TreeSizes.{or_else, first_structural-append}
 use Rattle.grok.proofs.Flat.{AreBytes, IsFlat, AreSound}
@@ -41,10 +42,6 @@ sound_first mode (PlaceholderItem label (Inline text)) items h = record {
 sound_first mode (PlaceholderItem label (Stored text)) items h = h.0
 
 -- ---- counts
-
-pub how_often-append : (xs ys : List Label) (key : List ℕ) → how_often (xs ++ ys) key ≡ how_often xs key + how_often ys key
-how_often-append [] ys key = omega arith
-how_often-append (x ∷ xs) ys key = omega (arith, how_often-append xs ys key, how_often_more x (xs ++ ys) key, how_often_more x xs key)
 
 pub counts_same : (counts : WantedCounts) (wants others : List ℕ → ℕ) → ((key : List ℕ) → wants key ≡ others key) → Counts counts wants → Counts counts others
 counts_same counts wants others same = subst (Counts counts) (λ i key. same key i)

@@ -36,6 +36,7 @@ pub mod FirstFault
 pub mod Wanted
 pub mod Tallied
 pub mod Walks
+pub mod Passing
 pub mod Writes
 pub mod Compiled
 pub mod Named
