@@ -1,13 +1,14 @@
 -- Counts of wanted keys, from one to the next.
-use Rattle.std.proofs.Common.{◌≡◌, ◌↔◌, Decides, ℕ, zero, suc, ◌+◌, ◌-◌, ◌<◌, ◌≤◌, ◌^◌, min, Bool, true, false, cond, List, [], ◌∷◌, Option, Some, None, MatchOption, Bor, unwrap_or, refl, sym, ◌∙◌, ap, subst, ◌⊎◌, inl, inr, arith, Less}
+use Rattle.std.proofs.Common.{◌≡◌, ◌↔◌, Decides, ℕ, zero, suc, ◌+◌, ◌-◌, ◌<◌, ◌≤◌, ◌^◌, min, nat_le, Bool, true, false, cond, List, [], ◌∷◌, Option, Some, None, Bor, unwrap_or, refl, sym, ◌∙◌, ap, subst, inl, inr, arith, Less}
 use Rattle.std.specs.Str.{bytes_eq}
 use Rattle.std.specs.List.{AllByRecursion}
 use Rattle.std.specs.List.Sorted.{IsStrictlySortedBy}
 use Rattle.std.specs.Map.{keys_of, lookup}
-use Rattle.std.specs.BTreeMap.{BTreeMap, is_at}
+use Rattle.std.specs.BTreeMap.{is_at}
 use Rattle.std.specs.Cmp.Lexicographic.{slice_cmp}
-use Rattle.std.specs.Ordering.{nat_cmp, is_eq}
+use Rattle.std.specs.Ordering.{nat_cmp}
 use Rattle.std.proofs.lemmas.Bool.{true≢false, cases_Bool, cases_lt, false_from_ne_true}
+use Rattle.std.proofs.lemmas.Bool.Decides.{leb_tells}
 use Rattle.std.proofs.lemmas.Map.Text.{is_eq-slice_cmp}
 use Rattle.grok.specs.Keys.{numbered}
 use Rattle.grok.specs.Wanted.{MayBeWanted, IsFree, no_count, count_of, joined, Joins, Counts}
@@ -268,6 +269,12 @@ joins_fit key more before after joins fits other low = elim (cases_Bool (bytes_e
 ]
 
 -- ---- whether keys are free
+
+pub decides_le : (a b : ℕ) → Decides (nat_le a b) (a ≤ b)
+decides_le a b = elim (leb_tells a b) [
+  | inl (is, le) ↦ (λ e. le, λ h. is)
+  | inr (other, lt) ↦ (λ e. absurd (true≢false (sym e ∙ other)), λ le. absurd (omega (arith, le, lt)))
+]
 
 pub decides_free : (before more : WantedCounts) (wanted others : List ℕ → ℕ) (key : List ℕ) (times : ℕ) (free : Bool) → Counts before wanted → Counts more others → times ≡ (count_of more.counts key).times + (count_of before.counts key).times → times < 2 ^ 64
     → Decides free ((times ≤ (count_of before.counts key).most) × (times ≤ (count_of more.counts key).most)) → Decides free (MayBeWanted (together others wanted) key (others key + wanted key))

@@ -137,7 +137,11 @@ impl<'a> WantedCounts<'a> {
     }
 
     /// Whether the key may be wanted as often as it is in both counts together.
-    fn is_free_at(&self, more: &WantedCounts<'a>, key: &'a str) -> Result<bool, AllocError> {
+    fn is_free_at(&self, more: &WantedCounts<'a>, key: &'a str) -> Result<bool, AllocError>
+        ensures { IfOk result (λ free. (wanted others : List ℕ → ℕ) → Counts self.now wanted
+            → Counts more.now others → Decides free (MayBeWanted (λ other. others other + wanted other)
+            key.now (others key.now + wanted key.now))) }
+    {
         let own = self.count_of(key);
         let other = more.count_of(key);
         match other.times.checked_add(own.times) {
