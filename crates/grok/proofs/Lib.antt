@@ -33,6 +33,7 @@ pub mod KeyLaws
 pub mod Cuts
 pub mod Clashing
 pub mod Unnumbering
+pub mod Wanting
 pub mod GivenSteps
 pub mod Walking
 pub mod SizeLaws

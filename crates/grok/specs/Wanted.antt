@@ -1,5 +1,6 @@
 -- How often keys are wanted, and where two of the keys that are assigned for them clash.
-use Rattle.std.specs.Prelude.{◌≡◌, ◌↔◌, ℕ, suc, ◌-◌, ◌<◌, ◌≤◌, ◌^◌, List, unwrap_or}
+use Rattle.std.specs.Prelude.{◌≡◌, ◌↔◌, ℕ, suc, ◌+◌, ◌-◌, ◌<◌, ◌≤◌, ◌^◌, List, min, if◌then◌else◌, unwrap_or}
+use Rattle.std.specs.Str.{bytes_eq}
 use Rattle.std.specs.BTreeMap.{BTreeMap, get_by}
 use Rattle.std.specs.Borrow.{Bor}
 use Rattle.std.specs.Cmp.Lexicographic.{slice_cmp}
@@ -27,8 +28,18 @@ no_count = record { times = 0; most = 2 ^ 64 - 1 }
 abbrev pub count_of : BTreeMap (Bor (List ℕ)) Count → List ℕ → Count
 count_of counts key = unwrap_or (get_by (λ (k : Bor (List ℕ)). slice_cmp nat_cmp key k.now) counts) no_count
 
+-- both counts of a key
+abbrev pub joined : Count → Count → Count
+joined more count = record { times = more.times + count.times; most = min more.most count.most }
+
+-- the counts are those before with this count of a key
+abbrev pub Joins : List ℕ → Count → WantedCounts → WantedCounts → Type 0
+Joins key more before after = (other : List ℕ) → count_of after.counts other
+    ≡ (if bytes_eq key other then joined more (count_of before.counts other) else count_of before.counts other)
+
 -- the counts say how often each key is wanted, and of the numbers that fit a `usize` how often it may be
 pub record Counts (counts : WantedCounts) (wanted : List ℕ → ℕ) : Type 0 where
   pub times : (key : List ℕ) → (count_of counts.counts key).times ≡ wanted key
+  pub fits : (key : List ℕ) → wanted key < 2 ^ 64
   pub most : (key : List ℕ) (times : ℕ) → times < 2 ^ 64
       → (times ≤ (count_of counts.counts key).most) ↔ MayBeWanted wanted key times

@@ -3,7 +3,7 @@ ghost use Rattle.std.specs.Prelude.{◌≡◌, ℕ, suc, ◌+◌, ◌<◌, ◌�
 ghost use Rattle.std.specs.Str.{bytes_eq};
 ghost use Rattle.grok.specs.Numeral.{numeral};
 ghost use Rattle.grok.specs.Keys.{numbered};
-ghost use Rattle.grok.specs.Wanted.{IsFree, no_count, count_of, Counts};
+ghost use Rattle.grok.specs.Wanted.{MayBeWanted, IsFree, count_of, Joins, Counts};
 
 use itoa::Buffer;
 use std::alloc::{AllocError, Global};
@@ -88,33 +88,10 @@ impl<'a> WantedCounts<'a> {
         Ok(())
     }
 
-    /// Counts a key that is wanted once more. More than the greatest `usize` is answered as want of memory.
-    pub fn add(&mut self, key: &'a str) -> Result<(), AllocError>
-        ensures { OnOk result ((wanted : List ℕ → ℕ) → Counts self.old wanted → Counts self.new
-            (λ other. (if bytes_eq key.now other then 1 else 0) + wanted other)) }
-    {
-        let Count { times, most } = self.count_of(key);
-        let Some(times) = times.checked_add(1) else {
-            return Err(AllocError);
-        };
-        self.set(key, Count { times, most })?;
-        if let Some((base, number)) = parts_of_numbered(key) {
-            let Count { times, most } = self.count_of(base);
-            let most = most.min(number);
-            self.set(base, Count { times, most })?;
-        }
-        Ok(())
-    }
-
-    /// Counts what more counts say of a key.
+    /// Adds a count of a key. A sum past the greatest `usize` is answered as want of memory.
     fn add_count(&mut self, key: &'a str, more: Count) -> Result<(), AllocError>
-        ensures { OnOk result ((other : List ℕ) → count_of self.new.counts other ≡
-            (if bytes_eq key.now other
-            then record {
-              times = more.times + (count_of self.old.counts other).times;
-              most = min more.most (count_of self.old.counts other).most;
-            }
-            else count_of self.old.counts other)) }
+        ensures joins { OnOk result (Joins key.now more self.old self.new) }
+        ensures fits { OnOk result (more.times + (count_of self.old.counts key.now).times < 2 ^ 64) }
     {
         let count = self.count_of(key);
         let Some(times) = more.times.checked_add(count.times) else {
@@ -122,6 +99,30 @@ impl<'a> WantedCounts<'a> {
         };
         let most = more.most.min(count.most);
         self.set(key, Count { times, most })
+    }
+
+    /// Counts a key that is wanted once more. More than the greatest `usize` is answered as want of memory.
+    pub fn add(&mut self, key: &'a str) -> Result<(), AllocError>
+        ensures { OnOk result ((wanted : List ℕ → ℕ) → Counts self.old wanted → Counts self.new
+            (λ other. (if bytes_eq key.now other then 1 else 0) + wanted other)) }
+    {
+        self.add_count(
+            key,
+            Count {
+                times: 1,
+                most: usize::MAX,
+            },
+        )?;
+        if let Some((base, number)) = parts_of_numbered(key) {
+            self.add_count(
+                base,
+                Count {
+                    times: 0,
+                    most: number,
+                },
+            )?;
+        }
+        Ok(())
     }
 
     /// Counts all keys of more counts. A sum past the greatest `usize` is answered as want of memory.
@@ -136,7 +137,11 @@ impl<'a> WantedCounts<'a> {
     }
 
     /// Whether the key may be wanted as often as it is in both counts together.
-    fn is_free_at(&self, more: &WantedCounts<'a>, key: &'a str) -> Result<bool, AllocError> {
+    fn is_free_at(&self, more: &WantedCounts<'a>, key: &'a str) -> Result<bool, AllocError>
+        ensures { IfOk result (λ free. (wanted others : List ℕ → ℕ) → Counts self.now wanted
+            → Counts more.now others → Decides free (MayBeWanted (λ other. others other + wanted other)
+            key.now (others key.now + wanted key.now))) }
+    {
         let own = self.count_of(key);
         let other = more.count_of(key);
         match other.times.checked_add(own.times) {
