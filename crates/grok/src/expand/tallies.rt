@@ -155,14 +155,15 @@ impl<'a> Tallies<'a> {
         Ok(())
     }
 
-    /// The tallies of these names, each of which stands behind those that its text opens.
-    pub fn of_names(mode: Mode<'a>, names: &[&'a str]) -> Result<Tallies<'a>, AllocError>
+    /// The tallies of these names, of which each stands behind those that its text opens: one that
+    /// doesn't gets none.
+    pub fn of_names(mode: Mode<'a>, names: &[(usize, &'a str)]) -> Result<Tallies<'a>, AllocError>
         ensures { IfOk result (λ tallies. AreTallied mode.entry tallies) }
     {
         let mut tallies = Tallies {
             by_name: BTreeMap::new(mode.grok.alloc()),
         };
-        'names: for &name in names {
+        'names: for &(_, name) in names {
             tallies.add_name(mode, name)?;
         }
         Ok(tallies)
