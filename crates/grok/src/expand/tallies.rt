@@ -19,11 +19,16 @@ use crate::expand::wanted::WantedCounts;
 use std::alloc::{AllocError, Global};
 use std::collections::BTreeMap;
 
+/// More recorded opens than this aren't counted, so that no count of a tally is too large.
+const MOST_OPENS: usize = 1 << 62;
+
 /// What a text comes to where more levels than its height may be opened, itself among them: it has
 /// no structural fault, and its recorded opens want these keys.
 #[derive(Drop)]
 pub(crate) struct Tally<'a> {
     pub height: usize,
+    /// How many recorded opens were counted.
+    opens: usize,
     pub wanted: WantedCounts<'a>,
 }
 
@@ -48,6 +53,7 @@ impl<'a> Tally<'a> {
     {
         Tally {
             height: 0,
+            opens: 0,
             wanted: WantedCounts::new(alloc),
         }
     }
@@ -61,12 +67,13 @@ impl<'a> Tally<'a> {
             + wanted key)) }
     {
         if label.is_recorded(with_alias_only) {
+            self.opens = self.opens.saturating_add(1);
             self.wanted.add(wanted_key(label))?;
         }
         Ok(())
     }
 
-    /// Counts what an open holds, if the levels may be enough for it.
+    /// Counts what an open holds, if the levels may be enough for it and it isn't too much.
     fn add_opened(&mut self, inner: &Tally<'a>) -> Result<bool, AllocError>
         ensures height { IfOk result (λ added. IsTrue added →
             (inner.now.height < self.new.height) × (self.old.height ≤ self.new.height)) }
@@ -74,9 +81,11 @@ impl<'a> Tally<'a> {
             → Counts self.old.wanted wanted → Counts inner.now.wanted others →
             Counts self.new.wanted (λ key. others key + wanted key)) }
     {
-        if inner.height >= LEVELS {
+        let opens = self.opens.saturating_add(inner.opens);
+        if inner.height >= LEVELS || opens > MOST_OPENS {
             return Ok(false);
         }
+        self.opens = opens;
         self.height = self.height.max(inner.height + 1);
         self.wanted.add_all(&inner.wanted)?;
         Ok(true)
