@@ -63,7 +63,7 @@ module _ (alias_only : Bool) where
 
 -- ---- the nearest first, or in the order of reading
 
-how_often_onto : (before labels : List Label) (key : List ℕ) → how_often (onto before labels) key ≡ how_often before key + how_often labels key
+pub how_often_onto : (before labels : List Label) (key : List ℕ) → how_often (onto before labels) key ≡ how_often before key + how_often labels key
 how_often_onto before [] key = omega arith
 how_often_onto before (label ∷ labels) key = omega (arith, how_often_onto (label ∷ before) labels key, how_often_more label before key, how_often_more label labels key)
 

@@ -20,16 +20,16 @@ use Rattle.grok.proofs.SameText.{same_text, text_same}
 use Rattle.grok.proofs.Adequate.{pieces_are}
 
 -- ---- the last bracket
-opens_bracket : List ℕ → Bool
+unfoldable pub opens_bracket : List ℕ → Bool
 opens_bracket [] = false
 opens_bracket (c ∷ cs) = cond (c == 91) true (opens_bracket cs)
 
-in_middle : (xs ys : List ℕ) → opens_bracket (xs ++ 91 ∷ ys) ≡ true
+pub in_middle : (xs ys : List ℕ) → opens_bracket (xs ++ 91 ∷ ys) ≡ true
 unfolding opens_bracket
 in_middle [] ys = refl
 in_middle (x ∷ xs) ys = elim (x == 91) as (λ b. cond b true (opens_bracket (xs ++ 91 ∷ ys)) ≡ true) [ true ↦ refl | false ↦ in_middle xs ys ]
 
-last_bracket : (a b x y : List ℕ) → opens_bracket x ≡ false → opens_bracket y ≡ false → a ++ (91 ∷ x) ≡ b ++ (91 ∷ y) → (a ≡ b) × (x ≡ y)
+pub last_bracket : (a b x y : List ℕ) → opens_bracket x ≡ false → opens_bracket y ≡ false → a ++ (91 ∷ x) ≡ b ++ (91 ∷ y) → (a ≡ b) × (x ≡ y)
 last_bracket [] [] x y p q e = (refl, cc)
 last_bracket [] (c ∷ b) x y p q e = let t : x ≡ b ++ (91 ∷ y) = cc in absurd (true≢false (sym (in_middle b y) ∙ ap opens_bracket (sym t) ∙ p))
 last_bracket (c ∷ a) [] x y p q e = let t : a ++ (91 ∷ x) ≡ y = cc in absurd (true≢false (sym (in_middle a x) ∙ ap opens_bracket t ∙ q))
@@ -48,7 +48,7 @@ digits_plain (d ∷ ds) h =
     let other : ((48 + d) == 91) ≡ false = ne_eqb (48 + d) 91 (λ e. omega arith) in
     rw other (digits_plain ds h.1)
 
-numeral_plain : (n : ℕ) → opens_bracket (numeral (suc n) ++ 93 ∷ []) ≡ false
+pub numeral_plain : (n : ℕ) → opens_bracket (numeral (suc n) ++ 93 ∷ []) ≡ false
 numeral_plain n = digits_plain (digits_of 10 (suc n)) (all_below_base_digits_of 10 (suc n) (omega arith))
 
 same_digits : (xs ys : List ℕ) → map (λ digit. 48 + digit) xs ≡ map (λ digit. 48 + digit) ys → xs ≡ ys
@@ -64,15 +64,19 @@ same_digits (x ∷ xs) (y ∷ ys) e =
 same_numeral : (a b : ℕ) → numeral (suc a) ≡ numeral (suc b) → suc a ≡ suc b
 same_numeral a b e = same_from_digits_of 10 (suc a) (suc b) (omega arith) (same_digits (digits_of 10 (suc a)) (digits_of 10 (suc b)) e)
 
--- a numbered key says which key was wanted, and how often before
+-- a key with a number says which key was wanted, and how often before
+pub numbered_both : (k l : List ℕ) (c d : ℕ) → numbered k (suc c) ≡ numbered l (suc d) → (k ≡ l) × (suc c ≡ suc d)
+numbered_both k l c d e =
+    let regroup : (key : List ℕ) (n : ℕ) → numbered key (suc n) ≡ key ++ (91 ∷ (numeral (suc n) ++ 93 ∷ [])) = λ key n. simp append_assoc in
+    let both = last_bracket k l (numeral (suc c) ++ 93 ∷ []) (numeral (suc d) ++ 93 ∷ []) (numeral_plain c) (numeral_plain d) (sym (regroup k c) ∙ e ∙ regroup l d) in
+    (both.0, same_numeral c d (append_cancel_right (numeral (suc c)) (numeral (suc d)) (93 ∷ []) both.1))
+
+-- where the wanted keys don't end so, each numbered key says that
 pub numbered_same : (k l : List ℕ) (c d : ℕ) → ends_in_number k ≡ false → ends_in_number l ≡ false → numbered k c ≡ numbered l d → (k ≡ l) × (c ≡ d)
 numbered_same k l zero zero p q e = (e, refl)
 numbered_same k l zero (suc d) p q e = absurd (true≢false (sym (numbered_ends l d) ∙ ap ends_in_number (sym e) ∙ p))
 numbered_same k l (suc c) zero p q e = absurd (true≢false (sym (numbered_ends k c) ∙ ap ends_in_number e ∙ q))
-numbered_same k l (suc c) (suc d) p q e =
-    let regroup : (key : List ℕ) (n : ℕ) → numbered key (suc n) ≡ key ++ (91 ∷ (numeral (suc n) ++ 93 ∷ [])) = λ key n. simp append_assoc in
-    let both = last_bracket k l (numeral (suc c) ++ 93 ∷ []) (numeral (suc d) ++ 93 ∷ []) (numeral_plain c) (numeral_plain d) (sym (regroup k c) ∙ e ∙ regroup l d) in
-    (both.0, same_numeral c d (append_cancel_right (numeral (suc c)) (numeral (suc d)) (93 ∷ []) both.1))
+numbered_same k l (suc c) (suc d) p q e = numbered_both k l c d e
 
 -- ---- no clash without a number in brackets
 pub how_often_more : (label : Label) (before : List Label) (key : List ℕ) → how_often (label ∷ before) key ≡ cond (bytes_eq (wanted label) key) 1 0 + how_often before key

@@ -31,6 +31,9 @@ pub mod Stacking
 pub mod NumberedKeys
 pub mod KeyLaws
 pub mod Cuts
+pub mod Clashing
+pub mod Unnumbering
+pub mod Wanting
 pub mod GivenSteps
 pub mod Walking
 pub mod SizeLaws
@@ -44,6 +47,8 @@ pub mod WriteSteps
 pub mod Bracketing
 pub mod Flagging
 pub mod Sound
+pub mod Tallying
+pub mod Passing
 pub mod Defined
 pub mod Whole
 pub mod Places

@@ -10,19 +10,19 @@ use Rattle.grok.specs.declared.expand.events.Events.TheInside.{Inside}
 
 module _ (items : List ℕ → List Item) where
   -- a step in the innermost text
-  left_step : (levels_left : ℕ) (around : List (List Item)) (old new : List Item) (opening : Option Meaning) (event : Event)
+  pub left_step : (levels_left : ℕ) (around : List (List Item)) (old new : List Item) (opening : Option Meaning) (event : Event)
       → ((n : ℕ) → events (inside items n) old ≡ event ∷ (behind items n opening ++ events (inside items n) new))
       → events_left items levels_left around None old ≡ event ∷ events_left items levels_left around opening new
   left_step levels_left [] old new opening event h = h levels_left
   left_step levels_left (outer ∷ around) old new opening event h = ap (λ es. es ++ Close ∷ events (inside items levels_left) outer) (left_step (levels_left - 1) around old new opening event h)
 
   -- the end of the innermost text
-  left_close : (levels_left : ℕ) (around : List (List Item)) (outer : List Item) → events_left items levels_left (around ++ outer ∷ []) None [] ≡ Close ∷ events_left items levels_left around None outer
+  pub left_close : (levels_left : ℕ) (around : List (List Item)) (outer : List Item) → events_left items levels_left (around ++ outer ∷ []) None [] ≡ Close ∷ events_left items levels_left around None outer
   left_close levels_left [] outer = refl
   left_close levels_left (first ∷ around) outer = ap (λ es. es ++ Close ∷ events (inside items levels_left) first) (left_close (levels_left - 1) around outer)
 
   -- a text is opened in the innermost one
-  left_open : (levels_left : ℕ) (around : List (List Item)) (left : List Item) (meaning : Meaning) → length around < levels_left
+  pub left_open : (levels_left : ℕ) (around : List (List Item)) (left : List Item) (meaning : Meaning) → length around < levels_left
       → events_left items levels_left around (Some meaning) left ≡ events_left items levels_left (around ++ left ∷ []) None (items (meaning_text meaning))
   left_open zero [] left meaning low = absurd (omega arith)
   left_open (suc levels_left) [] left meaning low =

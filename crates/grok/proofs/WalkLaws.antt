@@ -27,7 +27,7 @@ Above key keys = AllByRecursion (λ y. slice_cmp nat_cmp key y ≡ Less) keys
 below_differs : (key other : List ℕ) → slice_cmp nat_cmp key other ≡ Less → bytes_eq key other ≡ false
 below_differs key other below = sym (is_eq-slice_cmp key other) ∙ ap is_eq below
 
-above_differs : (key other : List ℕ) → slice_cmp nat_cmp key other ≡ Less → bytes_eq other key ≡ false
+pub above_differs : (key other : List ℕ) → slice_cmp nat_cmp key other ≡ Less → bytes_eq other key ≡ false
 above_differs key other below = sym (is_eq-slice_cmp other key) ∙ ap is_eq (nat_list_cmp_total.antisymm other key ∙ ap ordering_reverse below)
 
 absent : {X : Type 0} (key : List ℕ) (es : List (List ℕ × X)) → Above key (keys_of es) → lookup (bytes_eq key) es ≡ None

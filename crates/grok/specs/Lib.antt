@@ -33,7 +33,10 @@ pub mod Events
 pub mod Errors
 pub mod OpensSoFar
 pub mod FirstFault
+pub mod Wanted
+pub mod Tallied
 pub mod Walks
+pub mod Passing
 pub mod Writes
 pub mod Compiled
 pub mod Named

@@ -20,7 +20,9 @@ use crate::defs::Grok;
 use crate::engine::regex_engine::RegexEngine;
 use crate::engine::{Engine, Refusal};
 use crate::errors::Error;
+use crate::expand::first_fault::first_finding;
 use crate::expand::key_assigner::KeyAssigner;
+use crate::expand::tallies::{Mode, Tallies};
 use crate::expand::walk::{Finding, walk};
 use crate::expand::write::write;
 use crate::key_table::KeyTable;
@@ -79,16 +81,26 @@ fn build<E: Engine>(alloc: Global, text: &str, given: KeyAssigner) -> Result<Pat
 }
 
 impl Grok {
-    /// The error of a pattern whose tree has a structural fault: that of the first one, or of a clash before it.
-    fn first_error(&self, pattern: &str, with_alias_only: bool) -> Result<Error, AllocError>
+    /// The error of a pattern whose tree has a structural fault: that of the first one, or of a clash before it. The names are those whose texts can be counted.
+    fn first_error<'a>(
+        &'a self,
+        pattern: &'a str,
+        with_alias_only: bool,
+        names: &[(usize, &'a str)],
+    ) -> Result<Error, AllocError>
         requires { first_structural (tree_of (finite.get self.now) pattern.now) ≢ None }
         ensures { IfOk result
             (λ error. IsFirstError with_alias_only (tree_of (finite.get self.now) pattern.now)
             (error_value error)) }
     {
-        match walk(self, pattern, with_alias_only)? {
-            Ok(_) => unreachable!(),
-            Err(finding) => finding.to_error(self.alloc()),
+        let mode = Mode {
+            grok: self,
+            with_alias_only,
+        };
+        let tallies = Tallies::of_names(mode, names)?;
+        match first_finding(mode, &tallies, pattern)? {
+            None => unreachable!(),
+            Some(finding) => finding.to_error(self.alloc()),
         }
     }
 
@@ -144,7 +156,8 @@ impl Grok {
         match found.measure {
             Measure::TooLong => Err(Error::Memory),
             Measure::Fault(_) if found.has_numbered_alias => {
-                Err(self.first_error(pattern, with_alias_only)?)
+                let names = found.read_names(self.alloc())?;
+                Err(self.first_error(pattern, with_alias_only, &names)?)
             }
             Measure::Fault(fault) => Err(fault.to_error(self.alloc())?),
             Measure::Size { length, .. } => self.compile_clean(pattern, with_alias_only, length),

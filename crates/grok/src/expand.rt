@@ -1,7 +1,10 @@
 //! The expansion of a pattern: its keys, its extracts and its text, or the first fault.
 
 pub(crate) mod events;
+pub(crate) mod first_fault;
 pub(crate) mod key_assigner;
 pub(crate) mod numbered;
+pub(crate) mod tallies;
 pub(crate) mod walk;
+pub(crate) mod wanted;
 pub(crate) mod write;

@@ -42,12 +42,14 @@ pub struct Looks {
 }
 
 /// What measuring finds out.
-#[derive(Clone, Copy)]
+#[derive(Drop)]
 pub(crate) struct Findings<'a> {
     pub measure: Measure<'a>,
     pub looks: Looks,
     /// Whether an alias that ends in a number in brackets is reached.
     pub has_numbered_alias: bool,
+    /// What is known of the names that were met.
+    marks: BTreeMap<&'a str, Mark<'a>>,
 }
 
 /// The bytes without the numbers of groups, the groups, and how deep the opens go. A sum past the
@@ -537,6 +539,21 @@ fn measure_next<'a>(
     }
 }
 
+impl<'a> Findings<'a> {
+    /// The names whose texts were read to their ends, each with how deep the opens in its text go:
+    /// a name stands behind those that its text opens.
+    pub fn read_names(&self, alloc: Global) -> Result<Vec<(usize, &'a str)>, AllocError> {
+        let mut names = Vec::new(alloc);
+        for (name, mark) in &self.marks {
+            if let Mark::Done(sum) = mark {
+                names.push((sum.height, *name))?;
+            }
+        }
+        names.sort()?;
+        Ok(names)
+    }
+}
+
 impl Grok {
     /// Measures a pattern, and finds out how much was read for it and whether an alias that ends in a
     /// number in brackets is reached.
@@ -577,6 +594,7 @@ impl Grok {
             measure: measure_of(answer),
             looks: met.looks,
             has_numbered_alias: met.has_numbered_alias,
+            marks: met.marks,
         })
     }
 

@@ -29,7 +29,7 @@ pub(crate) struct KeyAssigner {
 }
 
 /// The key of an open that wants this key, after so many that wanted it.
-fn numbered_key(alloc: Global, wanted: &str, count: usize) -> Result<String, AllocError>
+pub(crate) fn numbered_key(alloc: Global, wanted: &str, count: usize) -> Result<String, AllocError>
     ensures { IfOk result (λ key. string_bytes key ≡ numbered wanted.now count) }
 {
     if count == 0 {
@@ -104,7 +104,7 @@ fn keep_key(
 }
 
 /// The key that an open wants: its alias, or its name where it has none.
-fn wanted_key<'a>(label: Label<'a>) -> &'a str
+pub(crate) fn wanted_key<'a>(label: Label<'a>) -> &'a str
     ensures { result.now ≡ wanted_by (label_view label.entry) }
 {
     if label.alias.is_empty() {

@@ -32,8 +32,8 @@ returns-in_err-to_error-in-Fault-2 g c =
 pub returns-in-TooLong : goal.returns-in-TooLong
 returns-in-TooLong g c = NoMemory (some_bytes c.args.pattern.now (sym c.is_empty.ensures ∙ c.if-is_empty.false))
 
-pub returns-in_ok-first_error-in-Fault : goal.returns-in_ok-first_error-in-Fault
-returns-in_ok-first_error-in-Fault g c =
+pub returns-in-Fault : goal.returns-in-Fault
+returns-in-Fault g c =
     let events : List Event = tree (finite.get c.args.self.now) c.args.pattern.now in
     first_answer g.E.Engine.source_of g.E.Engine.group_names g.E.Engine.may_refuse (expansion_of c.args.self.now c.args.with_alias_only c.args.pattern.now)
     (some_bytes c.args.pattern.now (sym c.is_empty.ensures ∙ c.if-is_empty.false)) (error_value c.in_ok-first_error-in-Fault.field-0) c.in_ok-first_error-in-Fault.ensures
@@ -42,8 +42,8 @@ returns-in_ok-first_error-in-Fault g c =
     let both : None ≡ Some (fault_view c.in-Fault.field-0) = sym clean ∙ faulty in
     cc)
 
-pub returns-in_ok-to_error-in-Fault-2 : goal.returns-in_ok-to_error-in-Fault-2
-returns-in_ok-to_error-in-Fault-2 g c =
+pub returns-in-Fault-2 : goal.returns-in-Fault-2
+returns-in-Fault-2 g c =
     let stored = finite.get c.args.self.now in
     let events : List Event = tree stored c.args.pattern.now in
     let error = error_value c.in_ok-to_error-in-Fault-2.field-0 in
@@ -54,3 +54,8 @@ returns-in_ok-to_error-in-Fault-2 g c =
     (some_bytes c.args.pattern.now (sym c.is_empty.ensures ∙ c.if-is_empty.false)) error
     (quiet_fault c.args.with_alias_only stored c.args.pattern.now fault error quiet faulty c.in_ok-to_error-in-Fault-2.ensures)
     (λ clean. let both : None ≡ Some fault = sym clean ∙ faulty in cc)
+
+pub returns-in_err-names-in-Fault : goal.returns-in_err-names-in-Fault
+returns-in_err-names-in-Fault g c =
+    no_memory g.E.Engine.source_of g.E.Engine.group_names g.E.Engine.may_refuse (expansion_of c.args.self.now c.args.with_alias_only c.args.pattern.now)
+    (some_bytes c.args.pattern.now (sym c.is_empty.ensures ∙ c.if-is_empty.false)) c.from_residual-in_err-names-in-Fault.result c.from_residual-in_err-names-in-Fault.ensures.1

@@ -1,0 +1,112 @@
+use Rattle.std.proofs.Common.{◌≡◌, ◌-◌, ◌<◌, length, List, [], ◌∷◌, ◌++◌, Some, refl, sym, ◌∙◌, ap, subst, arith}
+use Rattle.std.specs.FinMap as finite
+use Rattle.grok.specs.Tree.{tree, Item, Event, deepest}
+use Rattle.grok.specs.Keys.{first_fault}
+use Rattle.grok.specs.Items.{item_view}
+use Rattle.grok.specs.Tallied.{resolve, opened}
+use Rattle.grok.specs.Walks.{finding_view}
+use Rattle.grok.specs.Passing.{Passed, Entered, Enters}
+use Rattle.grok.specs.declared.expand.first_fault.Step.{Step}
+use Rattle.std.proofs.lemmas.List.{nil_from_length}
+use Rattle.grok.proofs.Passing.{left_of, IsWalking, walked, walked_keeps, walk_starts, walk_ends, walk_closes, close_smaller, item_sound, walk_steps, walk_passes, pass_smaller, walk_finds, walk_enters, enter_smaller}
+use Rattle.grok.proofs.expand.first_fault.first_finding.Goals as goal
+
+pub items-init : goal.items-init
+items-init c =
+    walk_starts c.args.mode (left_of c.args.mode [] (resolve c.args.mode c.args.pattern.now)) c.args.pattern.now c.new-around.result.items c.of_text-items.result c.new-total.result
+    c.new-around.ensures.items c.of_text-items.ensures refl c.new-total.ensures
+
+pub items-preserved-in-Passes : goal.items-preserved-in-Passes
+items-preserved-in-Passes c =
+    let mode = c.args.mode in
+    let all = left_of mode [] (resolve mode c.args.pattern.now) in
+    let around = c.items.around.items in
+    let item = item_view c.in-Some.item in
+    let cut : c.items.items ≡ item ∷ c.next.new.self = rw c.in-Some.is at c.in_ok-item.ensures in
+    let w : IsWalking mode all around c.items.items c.items.total = c.items.invariant in
+    let room : 1023 - c.len.result ≡ deepest - length around = omega arith in
+    let stepped : Enters mode (deepest - length around) item (walked mode all around c.items.items c.items.total w) c.enter.new.total c.in_ok-enter-in-Some.field-0 =
+    walk_steps mode all around c.items.items c.items.total w item c.next.new.self cut (1023 - c.len.result) room c.enter.new.total c.in_ok-enter-in-Some.field-0 c.in_ok-enter-in-Some.ensures in
+    walk_passes mode all around c.items.items c.items.total w item c.next.new.self cut c.enter.new.total
+    (subst (Enters mode (deepest - length around) item (walked mode all around c.items.items c.items.total w) c.enter.new.total) c.in-Passes.is stepped)
+
+pub items-smaller-in-Passes : goal.items-smaller-in-Passes
+items-smaller-in-Passes c =
+    let mode = c.args.mode in
+    let all = left_of mode [] (resolve mode c.args.pattern.now) in
+    let item = item_view c.in-Some.item in
+    let cut : c.items.items ≡ item ∷ c.next.new.self = rw c.in-Some.is at c.in_ok-item.ensures in
+    pass_smaller mode all c.items.around.items c.items.items c.items.total c.items.invariant item c.next.new.self cut
+
+pub items-preserved-in-Continue-branch-5 : goal.items-preserved-in-Continue-branch-5
+items-preserved-in-Continue-branch-5 c =
+    let mode = c.args.mode in
+    let all = left_of mode [] (resolve mode c.args.pattern.now) in
+    let around = c.items.around.items in
+    let item = item_view c.in-Some.item in
+    let rest = c.next.new.self in
+    let cut : c.items.items ≡ item ∷ rest = rw c.in-Some.is at c.in_ok-item.ensures in
+    let w : IsWalking mode all around c.items.items c.items.total = c.items.invariant in
+    let room : 1023 - c.len.result ≡ deepest - length around = omega arith in
+    let stepped : Enters mode (deepest - length around) item (walked mode all around c.items.items c.items.total w) c.enter.new.total c.in_ok-enter-in-Some.field-0 =
+    walk_steps mode all around c.items.items c.items.total w item rest cut (1023 - c.len.result) room c.enter.new.total c.in_ok-enter-in-Some.field-0 c.in_ok-enter-in-Some.ensures in
+    let entered : Entered mode (deepest - length around) item c.in-Opens.inner (walked mode all around c.items.items c.items.total w) c.enter.new.total =
+    subst (Enters mode (deepest - length around) item (walked mode all around c.items.items c.items.total w) c.enter.new.total) c.in-Opens.is stepped in
+    let deeper : c.push.new.self.items ≡ around ++ rest ∷ [] = c.in_ok-push-in-Opens.ensures.items ∙ ap (λ (items : List Item). around ++ items ∷ []) c.replace.ensures.value in
+    subst (λ items. IsWalking mode all c.push.new.self.items items c.enter.new.total) (sym c.replace.ensures.after)
+    (walk_enters mode all around c.items.items c.items.total w item rest cut c.in-Opens.inner c.enter.new.total entered c.push.new.self.items deeper)
+
+pub items-smaller-in-Continue-branch-5 : goal.items-smaller-in-Continue-branch-5
+items-smaller-in-Continue-branch-5 c =
+    let mode = c.args.mode in
+    let all = left_of mode [] (resolve mode c.args.pattern.now) in
+    let around = c.items.around.items in
+    let item = item_view c.in-Some.item in
+    let rest = c.next.new.self in
+    let cut : c.items.items ≡ item ∷ rest = rw c.in-Some.is at c.in_ok-item.ensures in
+    let w : IsWalking mode all around c.items.items c.items.total = c.items.invariant in
+    let room : 1023 - c.len.result ≡ deepest - length around = omega arith in
+    let stepped : Enters mode (deepest - length around) item (walked mode all around c.items.items c.items.total w) c.enter.new.total c.in_ok-enter-in-Some.field-0 =
+    walk_steps mode all around c.items.items c.items.total w item rest cut (1023 - c.len.result) room c.enter.new.total c.in_ok-enter-in-Some.field-0 c.in_ok-enter-in-Some.ensures in
+    let entered : Entered mode (deepest - length around) item c.in-Opens.inner (walked mode all around c.items.items c.items.total w) c.enter.new.total =
+    subst (Enters mode (deepest - length around) item (walked mode all around c.items.items c.items.total w) c.enter.new.total) c.in-Opens.is stepped in
+    let deeper : c.push.new.self.items ≡ around ++ rest ∷ [] = c.in_ok-push-in-Opens.ensures.items ∙ ap (λ (items : List Item). around ++ items ∷ []) c.replace.ensures.value in
+    subst (λ items. length (left_of mode c.push.new.self.items items) < length (left_of mode around c.items.items)) (sym c.replace.ensures.after)
+    (enter_smaller mode all around c.items.items c.items.total w item rest cut c.in-Opens.inner c.enter.new.total entered c.push.new.self.items deeper)
+
+pub returns-in-Finds : goal.returns-in-Finds
+unfolding tree
+returns-in-Finds c =
+    let mode = c.args.mode in
+    let all = left_of mode [] (resolve mode c.args.pattern.now) in
+    let around = c.items.around.items in
+    let item = item_view c.in-Some.item in
+    let cut : c.items.items ≡ item ∷ c.next.new.self = rw c.in-Some.is at c.in_ok-item.ensures in
+    let w : IsWalking mode all around c.items.items c.items.total = c.items.invariant in
+    let room : 1023 - c.len.result ≡ deepest - length around = omega arith in
+    let stepped : Enters mode (deepest - length around) item (walked mode all around c.items.items c.items.total w) c.enter.new.total c.in_ok-enter-in-Some.field-0 =
+    walk_steps mode all around c.items.items c.items.total w item c.next.new.self cut (1023 - c.len.result) room c.enter.new.total c.in_ok-enter-in-Some.field-0 c.in_ok-enter-in-Some.ensures in
+    sym (walk_finds mode all around c.items.items c.items.total w item c.next.new.self cut c.in-Finds.finding
+    (subst (Enters mode (deepest - length around) item (walked mode all around c.items.items c.items.total w) c.enter.new.total) c.in-Finds.is stepped))
+
+pub items-preserved : goal.items-preserved
+items-preserved c =
+    let mode = c.args.mode in
+    let all = left_of mode [] (resolve mode c.args.pattern.now) in
+    let over = rw c.in-None.is at c.in_ok-item.ensures in
+    walk_closes mode all c.items.around.items c.items.items c.items.total c.items.invariant c.in-Some-pop.outer c.pop.new.self.items over.0 c.in-Some-pop.ensures.items
+
+pub items-smaller : goal.items-smaller
+items-smaller c =
+    let mode = c.args.mode in
+    let all = left_of mode [] (resolve mode c.args.pattern.now) in
+    let over = rw c.in-None.is at c.in_ok-item.ensures in
+    close_smaller mode all c.items.around.items c.items.items c.items.total c.items.invariant c.in-Some-pop.outer c.pop.new.self.items over.0 c.in-Some-pop.ensures.items
+
+pub returns-in-None-pop : goal.returns-in-None-pop
+unfolding tree
+returns-in-None-pop c =
+    let mode = c.args.mode in
+    let all = left_of mode [] (resolve mode c.args.pattern.now) in
+    let over = rw c.in-None.is at c.in_ok-item.ensures in
+    sym (walk_ends mode all c.items.around.items c.items.items c.items.total c.items.invariant over.0 (nil_from_length c.items.around.items (omega (arith, c.in-None-pop.ensures.cases.0))))

@@ -1,0 +1,159 @@
+//! The walk through a tree up to its first fault. It leaves out what stays without a fault: what a
+//! name opens whose text was counted, where no two of the keys clash that are wanted there and
+//! before.
+ghost use Rattle.std.specs.Prelude.{◌≡◌, ℕ, ◌≤◌, List, [], ◌∷◌, IfOk, MatchOption, option_map};
+ghost use Rattle.std.specs.FinMap as finite;
+ghost use Rattle.grok.specs.Tree as tree;
+ghost use Rattle.grok.specs.Tree.{tree as tree_of, deepest};
+ghost use Rattle.grok.specs.Keys.{first_fault};
+ghost use Rattle.grok.specs.Items.{label_view, meaning_view, item_view};
+ghost use Rattle.grok.specs.Walks.{finding_view, Clashes};
+ghost use Rattle.grok.specs.Tallied.{AreTallied, IsTallyOf, IsSoundItem};
+ghost use Rattle.grok.specs.Passing.{Keeps, Wants, Skips, Goes, Enters};
+
+use crate::defs::items::{Item, Items, Label, Meaning};
+use crate::errors::fault::{Fault, LEVELS};
+use crate::expand::key_assigner::{numbered_key, wanted_key};
+use crate::expand::tallies::{Mode, Tallies, Tally};
+use crate::expand::walk::Finding;
+use crate::expand::wanted::WantedCounts;
+use std::alloc::AllocError;
+use std::mem;
+
+/// What an item does to the walk.
+#[derive(Drop)]
+enum Step<'a> {
+    /// Neither it nor what it opens has a fault.
+    Passes,
+    /// It has no fault, and opens a text with these items.
+    Opens(Items<'a>),
+    /// It has the first fault, or what it opens.
+    Finds(Finding<'a>),
+}
+
+/// Counts the key that a recorded open wants, or answers its key if an earlier one has it.
+fn want<'a>(
+    mode: Mode<'a>,
+    total: &mut WantedCounts<'a>,
+    label: Label<'a>,
+) -> Result<Option<String>, AllocError>
+    ensures { IfOk result (λ clash. (before : List tree.Label) → Keeps total.old before →
+        Wants before (label_view label.entry) total.new clash) }
+{
+    let alloc = mode.grok.alloc();
+    let wanted = wanted_key(label);
+    let mut own = WantedCounts::new(alloc);
+    own.add(wanted)?;
+    if total.is_free_with(&own)? {
+        total.add_all(&own)?;
+        return Ok(None);
+    }
+    let key = numbered_key(alloc, wanted, total.times_of(wanted))?;
+    Ok(Some(key))
+}
+
+/// Counts all that a text wants at once, if so many levels are enough for it and no two keys clash
+/// then.
+fn pass<'a>(
+    total: &mut WantedCounts<'a>,
+    tally: &Tally<'a>,
+    levels: usize,
+) -> Result<bool, AllocError>
+    ensures { IfOk result (λ passed. (mode : Mode) (text : List ℕ) → IsTallyOf mode text tally.now
+        → (before : List tree.Label) → Keeps total.old before →
+        Skips mode text levels before total.old total.new passed) }
+{
+    if tally.height >= levels || !total.is_free_with(&tally.wanted)? {
+        return Ok(false);
+    }
+    total.add_all(&tally.wanted)?;
+    Ok(true)
+}
+
+/// Goes into what a placeholder opens, where so many levels may be opened, or past it.
+fn open<'a>(
+    mode: Mode<'a>,
+    tallies: &Tallies<'a>,
+    total: &mut WantedCounts<'a>,
+    label: Label<'a>,
+    meaning: Meaning<'a>,
+    levels: usize,
+) -> Result<Step<'a>, AllocError>
+    requires { AreTallied mode tallies.now }
+    ensures { IfOk result (λ step. IsSoundItem mode.entry (tree.PlaceholderItem
+        (label_view label.entry) (meaning_view meaning.entry)) → (before : List tree.Label) →
+        Keeps total.old before → Goes mode.entry levels (meaning_view meaning.entry) before
+        total.new step) }
+{
+    let alloc = mode.grok.alloc();
+    if levels == 0 {
+        return Ok(Step::Finds(Finding::Structural(Fault::TooDeep)));
+    }
+    match meaning {
+        Meaning::Inline(text) => Ok(Step::Opens(Items::of_text(alloc, mode.grok, text))),
+        Meaning::Stored(stored) => {
+            if let Some(tally) = tallies.of_name(label.name) {
+                if pass(total, tally, levels)? {
+                    return Ok(Step::Passes);
+                }
+            }
+            Ok(Step::Opens(Items::of_stored(alloc, mode.grok, stored)))
+        }
+    }
+}
+
+/// Reads an item, where so many levels may be opened.
+fn enter<'a>(
+    mode: Mode<'a>,
+    tallies: &Tallies<'a>,
+    total: &mut WantedCounts<'a>,
+    item: Item<'a>,
+    levels: usize,
+) -> Result<Step<'a>, AllocError>
+    requires { AreTallied mode tallies.now }
+    ensures { IfOk result (λ step. IsSoundItem mode.entry (item_view item.entry) →
+        (before : List tree.Label) → Keeps total.old before →
+        Enters mode.entry levels (item_view item.entry) before total.new step) }
+{
+    match item {
+        Item::Text(_) => Ok(Step::Passes),
+        Item::Fault(fault) => Ok(Step::Finds(Finding::Structural(fault))),
+        Item::Placeholder(label, meaning) => {
+            if label.is_recorded(mode.with_alias_only) {
+                if let Some(key) = want(mode, total, label)? {
+                    return Ok(Step::Finds(Finding::Clash(key)));
+                }
+            }
+            open(mode, tallies, total, label, meaning, levels)
+        }
+    }
+}
+
+/// The first fault of a pattern's tree, if it has one.
+pub(crate) fn first_finding<'a>(
+    mode: Mode<'a>,
+    tallies: &Tallies<'a>,
+    pattern: &'a str,
+) -> Result<Option<Finding<'a>>, AllocError>
+    requires { AreTallied mode tallies.now }
+    ensures { IfOk result (λ found. option_map finding_view found ≡ first_fault
+        mode.entry.with_alias_only (tree_of (finite.get mode.entry.grok.now) pattern.now)) }
+{
+    let alloc = mode.grok.alloc();
+    let mut total = WantedCounts::new(alloc);
+    let mut around = Vec::new(alloc);
+    let mut items = Items::of_text(alloc, mode.grok, pattern);
+    'items: loop {
+        match items.next()? {
+            Some(item) => match enter(mode, tallies, &mut total, item, LEVELS - around.len())? {
+                Step::Passes => {}
+                Step::Opens(inner) => around.push(mem::replace(&mut items, inner))?,
+                Step::Finds(finding) => return Ok(Some(finding)),
+            },
+            None => match around.pop() {
+                Some(outer) => items = outer,
+                None => return Ok(None),
+            },
+        }
+    }
+}

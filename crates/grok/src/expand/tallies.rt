@@ -1,0 +1,180 @@
+//! What the texts of names come to that have no fault: how deep their opens go, and which keys
+//! these want. Each text is read once, and then never again.
+ghost use Rattle.std.specs.Prelude.{◌≡◌, ℕ, ◌+◌, ◌<◌, ◌≤◌, List, ◌∷◌, if◌then◌else◌, IsTrue, IsSome, IfOk, OnOk, IfSome, MatchOption, Some};
+ghost use Rattle.std.specs.Str.{bytes_eq};
+ghost use Rattle.std.specs.FinMap as finite;
+ghost use Rattle.grok.specs.Tree as tree;
+ghost use Rattle.grok.specs.Tree.{items_of};
+ghost use Rattle.grok.specs.Keys.{is_recorded, wanted as wanted_by};
+ghost use Rattle.grok.specs.Items.{label_view, item_view};
+ghost use Rattle.grok.specs.Wanted.{Counts};
+ghost use Rattle.grok.specs.Tallied.{IsTallyOf, HasTallied, AreTallied, IsSoundItem};
+
+use crate::defs::Grok;
+use crate::defs::definition::Definition;
+use crate::defs::items::{Item, Items, Label, Meaning};
+use crate::errors::fault::LEVELS;
+use crate::expand::key_assigner::wanted_key;
+use crate::expand::wanted::WantedCounts;
+use std::alloc::{AllocError, Global};
+use std::collections::BTreeMap;
+
+/// More recorded opens than this aren't counted, so that no count of a tally is too large.
+const MOST_OPENS: usize = 1 << 62;
+
+/// What a text comes to where more levels than its height may be opened, itself among them: it has
+/// no structural fault, and its recorded opens want these keys.
+#[derive(Drop)]
+pub(crate) struct Tally<'a> {
+    pub height: usize,
+    /// How many recorded opens were counted.
+    opens: usize,
+    pub wanted: WantedCounts<'a>,
+}
+
+/// The definitions, and whether placeholders without an alias are left unrecorded.
+#[derive(Clone, Copy)]
+pub(crate) struct Mode<'a> {
+    pub grok: &'a Grok,
+    pub with_alias_only: bool,
+}
+
+/// The tallies of names.
+#[derive(Drop)]
+pub(crate) struct Tallies<'a> {
+    by_name: BTreeMap<&'a str, Tally<'a>>,
+}
+
+impl<'a> Tally<'a> {
+    /// That of a text that holds no placeholder.
+    pub fn new(alloc: Global) -> Tally<'a>
+        ensures height { result.height ≡ 0 }
+        ensures counts { Counts result.wanted (λ key. 0) }
+    {
+        Tally {
+            height: 0,
+            opens: 0,
+            wanted: WantedCounts::new(alloc),
+        }
+    }
+
+    /// Counts the key that an open wants, if it is recorded.
+    fn add_open(&mut self, label: Label<'a>, with_alias_only: bool) -> Result<(), AllocError>
+        ensures height { OnOk result (self.new.height ≡ self.old.height) }
+        ensures counts { OnOk result ((wanted : List ℕ → ℕ) → Counts self.old.wanted wanted →
+            Counts self.new.wanted (λ key. (if is_recorded with_alias_only (label_view label.entry)
+            then (if bytes_eq (wanted_by (label_view label.entry)) key then 1 else 0) else 0)
+            + wanted key)) }
+    {
+        if label.is_recorded(with_alias_only) {
+            self.opens = self.opens.saturating_add(1);
+            self.wanted.add(wanted_key(label))?;
+        }
+        Ok(())
+    }
+
+    /// Counts what an open holds, if the levels may be enough for it and it isn't too much.
+    fn add_opened(&mut self, inner: &Tally<'a>) -> Result<bool, AllocError>
+        ensures height { IfOk result (λ added. IsTrue added →
+            (inner.now.height < self.new.height) × (self.old.height ≤ self.new.height)) }
+        ensures counts { IfOk result (λ added. IsTrue added → (wanted others : List ℕ → ℕ)
+            → Counts self.old.wanted wanted → Counts inner.now.wanted others →
+            Counts self.new.wanted (λ key. others key + wanted key)) }
+    {
+        let opens = self.opens.saturating_add(inner.opens);
+        if inner.height >= LEVELS || opens > MOST_OPENS {
+            return Ok(false);
+        }
+        self.opens = opens;
+        self.height = self.height.max(inner.height + 1);
+        self.wanted.add_all(&inner.wanted)?;
+        Ok(true)
+    }
+}
+
+impl<'a> Tallies<'a> {
+    /// The tally of a name, if it has one.
+    pub fn of_name(&self, name: &'a str) -> Option<&Tally<'a>>
+        ensures { IfSome result (λ tally. (mode : Mode) → AreTallied mode self.now → (text : List ℕ)
+            → finite.get mode.grok.now name.now ≡ Some text → IsTallyOf mode text tally.now) }
+    {
+        self.by_name.get(&name)
+    }
+
+    /// Counts an item of a text, with all that it opens. Answers whether that is known, and no fault.
+    fn count_item(
+        &self,
+        mode: Mode<'a>,
+        item: Item<'a>,
+        tally: &mut Tally<'a>,
+    ) -> Result<bool, AllocError>
+        requires { AreTallied mode self.now }
+        ensures { IfOk result (λ known. IsTrue known → IsSoundItem mode.entry (item_view item.entry)
+            → (all rest : List tree.Item) →
+            HasTallied mode.entry all (item_view item.entry ∷ rest) tally.old →
+            HasTallied mode.entry all rest tally.new) }
+    {
+        match item {
+            Item::Text(_) => Ok(true),
+            Item::Fault(_) => Ok(false),
+            Item::Placeholder(label, meaning) => {
+                tally.add_open(label, mode.with_alias_only)?;
+                match meaning {
+                    Meaning::Inline(_) => tally.add_opened(&Tally::new(mode.grok.alloc())),
+                    Meaning::Stored(_) => match self.of_name(label.name) {
+                        Some(inner) => tally.add_opened(inner),
+                        None => Ok(false),
+                    },
+                }
+            }
+        }
+    }
+
+    /// The tally of a stored text, if those of the names that it opens are known.
+    fn count_text(
+        &self,
+        mode: Mode<'a>,
+        stored: &'a Definition,
+    ) -> Result<Option<Tally<'a>>, AllocError>
+        requires { AreTallied mode self.now }
+        ensures { IfOk result (λ found. IfSome found
+            (λ tally. IsTallyOf mode.entry stored.now tally)) }
+    {
+        let alloc = mode.grok.alloc();
+        let mut tally = Tally::new(alloc);
+        let mut items = Items::of_stored(alloc, mode.grok, stored);
+        'items: while let Some(item) = items.next()? {
+            if !self.count_item(mode, item, &mut tally)? {
+                return Ok(None);
+            }
+        }
+        Ok(Some(tally))
+    }
+
+    /// Counts the text of a name, if those of the names that it opens were counted.
+    fn add_name(&mut self, mode: Mode<'a>, name: &'a str) -> Result<(), AllocError>
+        requires { AreTallied mode self.old }
+        ensures { OnOk result (AreTallied mode.entry self.new) }
+    {
+        if let Some(stored) = mode.grok.definition(name) {
+            if let Some(tally) = self.count_text(mode, stored)? {
+                self.by_name.insert(name, tally)?;
+            }
+        }
+        Ok(())
+    }
+
+    /// The tallies of these names, of which each stands behind those that its text opens: one that
+    /// doesn't gets none.
+    pub fn of_names(mode: Mode<'a>, names: &[(usize, &'a str)]) -> Result<Tallies<'a>, AllocError>
+        ensures { IfOk result (λ tallies. AreTallied mode.entry tallies) }
+    {
+        let mut tallies = Tallies {
+            by_name: BTreeMap::new(mode.grok.alloc()),
+        };
+        'names: for &(_, name) in names {
+            tallies.add_name(mode, name)?;
+        }
+        Ok(tallies)
+    }
+}

@@ -1,0 +1,167 @@
+//! How often keys are wanted: enough to know whether two of the keys that are assigned for them clash.
+ghost use Rattle.std.specs.Prelude.{◌≡◌, ℕ, suc, ◌+◌, ◌<◌, ◌≤◌, ◌^◌, List, ◌++◌, codes, min, if◌then◌else◌, IfOk, OnOk, MatchOption, Decides};
+ghost use Rattle.std.specs.Str.{bytes_eq};
+ghost use Rattle.grok.specs.Numeral.{numeral};
+ghost use Rattle.grok.specs.Keys.{numbered};
+ghost use Rattle.grok.specs.Wanted.{MayBeWanted, IsFree, count_of, Joins, Counts};
+
+use itoa::Buffer;
+use std::alloc::{AllocError, Global};
+use std::collections::BTreeMap;
+
+/// How often a key is wanted, and how often it may be: so that no numbered key that it is assigned is one that is wanted itself.
+#[derive(Clone, Copy)]
+struct Count {
+    times: usize,
+    most: usize,
+}
+
+/// How often each key is wanted.
+#[derive(Drop)]
+pub(crate) struct WantedCounts<'a> {
+    counts: BTreeMap<&'a str, Count>,
+}
+
+/// The number that the digits say, if they are those of one that fits.
+fn number_of(digits: &str) -> Option<usize>
+    ensures { MatchOption result ((number : ℕ) → number < 2 ^ 64 → digits.now ≡ numeral number → ⊥)
+        (λ number. digits.now ≡ numeral number) }
+{
+    let number = digits.parse::<usize>().ok()?;
+    let mut buffer = Buffer::new();
+    if buffer.format(number) == digits {
+        Some(number)
+    } else {
+        None
+    }
+}
+
+/// The key that this one is a numbered one of, and its number, if that fits.
+fn parts_of_numbered(key: &str) -> Option<(&str, usize)>
+    ensures { MatchOption result
+        ((base : List ℕ) (count : ℕ) → suc count < 2 ^ 64 → key.now ≡ numbered base (suc count) → ⊥)
+        (λ parts. (0 < parts.1) × (key.now ≡ numbered parts.0.now parts.1)) }
+{
+    let inside = key.strip_suffix(']')?;
+    let (base, digits) = inside.rsplit_once('[')?;
+    let number = number_of(digits)?;
+    if number == 0 {
+        None
+    } else {
+        Some((base, number))
+    }
+}
+
+impl<'a> WantedCounts<'a> {
+    /// No key is wanted.
+    pub fn new(alloc: Global) -> WantedCounts<'a>
+        ensures { Counts result (λ key. 0) }
+    {
+        WantedCounts {
+            counts: BTreeMap::new(alloc),
+        }
+    }
+
+    /// What is counted of a key.
+    fn count_of(&self, key: &'a str) -> Count
+        ensures { result ≡ count_of self.now.counts key.now }
+    {
+        self.counts.get(&key).copied().unwrap_or(Count {
+            times: 0,
+            most: usize::MAX,
+        })
+    }
+
+    /// How often the key is wanted.
+    pub fn times_of(&self, key: &'a str) -> usize
+        ensures { (wanted : List ℕ → ℕ) → Counts self.now wanted → result ≡ wanted key.now }
+    {
+        self.count_of(key).times
+    }
+
+    /// Sets what is counted of a key.
+    fn set(&mut self, key: &'a str, count: Count) -> Result<(), AllocError>
+        ensures { OnOk result ((other : List ℕ) → count_of self.new.counts other
+            ≡ (if bytes_eq key.now other then count else count_of self.old.counts other)) }
+    {
+        self.counts.insert(key, count)?;
+        Ok(())
+    }
+
+    /// Adds a count of a key. A sum past the greatest `usize` is answered as want of memory.
+    fn add_count(&mut self, key: &'a str, more: Count) -> Result<(), AllocError>
+        ensures joins { OnOk result (Joins key.now more self.old self.new) }
+        ensures fits { OnOk result (more.times + (count_of self.old.counts key.now).times < 2 ^ 64) }
+    {
+        let count = self.count_of(key);
+        let Some(times) = more.times.checked_add(count.times) else {
+            return Err(AllocError);
+        };
+        let most = more.most.min(count.most);
+        self.set(key, Count { times, most })
+    }
+
+    /// Counts a key that is wanted once more. More than the greatest `usize` is answered as want of memory.
+    pub fn add(&mut self, key: &'a str) -> Result<(), AllocError>
+        ensures { OnOk result ((wanted : List ℕ → ℕ) → Counts self.old wanted → Counts self.new
+            (λ other. (if bytes_eq key.now other then 1 else 0) + wanted other)) }
+    {
+        self.add_count(
+            key,
+            Count {
+                times: 1,
+                most: usize::MAX,
+            },
+        )?;
+        if let Some((base, number)) = parts_of_numbered(key) {
+            self.add_count(
+                base,
+                Count {
+                    times: 0,
+                    most: number,
+                },
+            )?;
+        }
+        Ok(())
+    }
+
+    /// Counts all keys of more counts. A sum past the greatest `usize` is answered as want of memory.
+    pub fn add_all(&mut self, more: &WantedCounts<'a>) -> Result<(), AllocError>
+        ensures { OnOk result ((wanted others : List ℕ → ℕ) → Counts self.old wanted
+            → Counts more.now others → Counts self.new (λ key. others key + wanted key)) }
+    {
+        'keys: for (key, count) in &more.counts {
+            self.add_count(key, *count)?;
+        }
+        Ok(())
+    }
+
+    /// Whether the key may be wanted as often as it is in both counts together.
+    fn is_free_at(&self, more: &WantedCounts<'a>, key: &'a str) -> Result<bool, AllocError>
+        ensures { IfOk result (λ free. (wanted others : List ℕ → ℕ) → Counts self.now wanted
+            → Counts more.now others → Decides free (MayBeWanted (λ other. others other + wanted other)
+            key.now (others key.now + wanted key.now))) }
+    {
+        let own = self.count_of(key);
+        let other = more.count_of(key);
+        match other.times.checked_add(own.times) {
+            Some(times) => Ok(times <= own.most && times <= other.most),
+            None => Err(AllocError),
+        }
+    }
+
+    /// Whether no two keys clash where those of more counts are wanted, too, and none clash without them. A sum past the greatest `usize` is answered as want of
+    /// memory.
+    pub fn is_free_with(&self, more: &WantedCounts<'a>) -> Result<bool, AllocError>
+        ensures { IfOk result (λ free. (wanted others : List ℕ → ℕ) → Counts self.now wanted
+            → Counts more.now others → IsFree wanted
+            → Decides free (IsFree (λ key. others key + wanted key))) }
+    {
+        'keys: for (key, _) in &more.counts {
+            if !self.is_free_at(more, key)? {
+                return Ok(false);
+            }
+        }
+        Ok(true)
+    }
+}
