@@ -35,8 +35,9 @@ joined more count = record { times = more.times + count.times; most = min more.m
 
 -- the counts after are those before, with one more count of this key
 abbrev pub Joins : List ℕ → Count → WantedCounts → WantedCounts → Type 0
-Joins key more before after = (other : List ℕ) → count_of after.counts other
-    ≡ (if bytes_eq key other then joined more (count_of before.counts other) else count_of before.counts other)
+Joins key more before after = (other : List ℕ) → count_of after.counts other ≡
+    (if bytes_eq key other then joined more (count_of before.counts other)
+    else count_of before.counts other)
 
 -- the counts say how often each key is wanted, and of the numbers that fit a `usize` how often it may be
 pub record Counts (counts : WantedCounts) (wanted : List ℕ → ℕ) : Type 0 where

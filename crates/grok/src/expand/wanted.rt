@@ -1,4 +1,4 @@
-//! How often keys are wanted: enough to know whether two of the keys that are assigned for them clash.
+//! How often keys are wanted: enough to know whether two of the keys that are assigned clash.
 ghost use Rattle.std.specs.Prelude.{◌≡◌, ℕ, ◌+◌, ◌<◌, ◌^◌, List, if◌then◌else◌, IfOk, OnOk, Decides};
 ghost use Rattle.std.specs.Str.{bytes_eq};
 ghost use Rattle.grok.specs.Wanted.{MayBeWanted, IsFree, count_of, Joins, Counts};
@@ -60,7 +60,8 @@ impl<'a> WantedCounts<'a> {
     /// Adds a count of a key. A sum past the greatest `usize` is answered as want of memory.
     fn add_count(&mut self, key: &'a str, more: Count) -> Result<(), AllocError>
         ensures joins { OnOk result (Joins key.now more self.old self.new) }
-        ensures fits { OnOk result (more.times + (count_of self.old.counts key.now).times < 2 ^ 64) }
+        ensures fits { OnOk result
+            (more.times + (count_of self.old.counts key.now).times < 2 ^ 64) }
     {
         let count = self.count_of(key);
         let Some(times) = more.times.checked_add(count.times) else {
@@ -95,7 +96,8 @@ impl<'a> WantedCounts<'a> {
         Ok(())
     }
 
-    /// Counts all keys of more counts. A sum past the greatest `usize` is answered as want of memory.
+    /// Counts all keys of more counts. A sum past the greatest `usize` is answered as want of
+    /// memory.
     pub fn add_all(&mut self, more: &WantedCounts<'a>) -> Result<(), AllocError>
         ensures { OnOk result ((wanted others : List ℕ → ℕ) → Counts self.old wanted
             → Counts more.now others → Counts self.new (λ key. others key + wanted key)) }
@@ -109,8 +111,8 @@ impl<'a> WantedCounts<'a> {
     /// Whether the key may be wanted as often as it is in both counts together.
     fn is_free_at(&self, more: &WantedCounts<'a>, key: &'a str) -> Result<bool, AllocError>
         ensures { IfOk result (λ free. (wanted others : List ℕ → ℕ) → Counts self.now wanted
-            → Counts more.now others → Decides free (MayBeWanted (λ other. others other + wanted other)
-            key.now (others key.now + wanted key.now))) }
+            → Counts more.now others → Decides free (MayBeWanted
+            (λ other. others other + wanted other) key.now (others key.now + wanted key.now))) }
     {
         let own = self.count_of(key);
         let other = more.count_of(key);
@@ -120,8 +122,8 @@ impl<'a> WantedCounts<'a> {
         }
     }
 
-    /// Whether no two keys clash where those of more counts are wanted, too: none clash without them.
-    /// A sum past the greatest `usize` is answered as want of memory.
+    /// Whether no two keys clash where those of more counts are wanted, too, and none clash without
+    /// them. A sum past the greatest `usize` is answered as want of memory.
     pub fn is_free_with(&self, more: &WantedCounts<'a>) -> Result<bool, AllocError>
         ensures { IfOk result (λ free. (wanted others : List ℕ → ℕ) → Counts self.now wanted
             → Counts more.now others → IsFree wanted
