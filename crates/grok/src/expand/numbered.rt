@@ -31,9 +31,8 @@ impl Ending {
     }
 }
 
-/// Whether the alias ends in a number from 1 up in brackets: no other can be a key that an earlier
-/// placeholder was assigned for another alias.
-pub(crate) fn ends_in_number(alias: &str) -> bool
+/// Whether the bytes, read one after another, end in a number from 1 up in brackets.
+fn reads_so(alias: &str) -> bool
     ensures { result ≡ ends_in_number alias.now }
 {
     let mut ending = Ending::Other;
@@ -41,6 +40,18 @@ pub(crate) fn ends_in_number(alias: &str) -> bool
         ending = ending.then(*byte);
     }
     matches!(ending, Ending::Closed)
+}
+
+/// Whether the alias ends in a number from 1 up in brackets: no other can be a key that an earlier
+/// placeholder was assigned for another alias.
+pub(crate) fn ends_in_number(alias: &str) -> bool
+    ensures { result ≡ ends_in_number alias.now }
+{
+    // Few aliases end in a bracket.
+    match alias.strip_suffix(']') {
+        Some(_) => reads_so(alias),
+        None => false,
+    }
 }
 
 /// The key that this one numbers, and the number, if that fits.
