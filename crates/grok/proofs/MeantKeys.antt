@@ -1,25 +1,21 @@
 -- What the names of groups mean.
-use Rattle.std.proofs.Common.{◌≡◌, ℕ, zero, suc, ◌+◌, ◌-◌, ◌<◌, ◌^◌, Bool, true, false, cond, List, [], ◌∷◌, ◌++◌, map, drop, length, get_or, Option, Result, Some, None, Ok, refl, sym, ◌∙◌, ap, arith, add-zero, add-one}
-use Rattle.std.specs.Prelude.{decimal}
+use Rattle.std.proofs.Common.{MatchOption, ◌≡◌, ℕ, zero, suc, ◌+◌, ◌-◌, ◌<◌, ◌^◌, Bool, true, false, cond, List, [], ◌∷◌, ◌++◌, map, drop, length, get_or, Option, Some, None, refl, sym, ◌∙◌, ap, arith, add-zero, add-one}
 use Rattle.std.specs.Option.{option_map}
 use Rattle.std.specs.Str.{bytes_eq}
 use Rattle.std.specs.String.{string_bytes}
 use Rattle.std.specs.Global.{Global}
 use Rattle.std.specs.declared.string.String.{String}
 use Rattle.std.proofs.Math.Seq.{drop-cons}
-use Rattle.std.specs.Str.Parse.{ParsesUnsigned}
 use Rattle.std.specs.Str.Pattern.{StripsPrefix, FindsTextPrefix}
 use Rattle.std.specs.Int.Digits.{digits_of, number_from_digits}
 use Rattle.std.proofs.lemmas.Int.Digits.{number_digits_of}
 use Rattle.std.proofs.lemmas.Bool.{false_from_ne_true}
-use Rattle.std.proofs.lemmas.Fmt.{parse-decimal}
 use Rattle.std.proofs.lemmas.List.{append_cancel_left}
 use Rattle.grok.specs.Numeral.{numeral}
 use Rattle.grok.specs.GeneratedNames.{name_start, generated}
 use Rattle.grok.specs.KeyTable.{meant_from, meant_key, groups_from, last_or}
 use Rattle.grok.specs.Captures.{name_texts}
 use Rattle.grok.proofs.SameText.{same_text, text_same}
-use Rattle.grok.proofs.Numerals.{numeral_is_decimal}
 
 -- NUMERALS SAY THEIR NUMBER
 back : (ds : List ℕ) → map (λ c. c - 48) (map (λ digit. 48 + digit) ds) ≡ ds
@@ -58,11 +54,11 @@ meant_itself (key ∷ keys) from name h =
 pub stripped : (p s x : List ℕ) → StripsPrefix (FindsTextPrefix p) s x → s ≡ p ++ x
 stripped p s x (n, found, rest, len) = found.1 ∙ ap (λ xs. p ++ xs) (sym rest)
 
--- where the name is the one for a number, that number is what is parsed
-pub reads_back : {E : Type 0} (name digits : List ℕ) (r : Result ℕ E) → name ≡ name_start ++ digits → ParsesUnsigned 64 10 digits r → (number : ℕ) → number < 2 ^ 64 → name ≡ generated number → (r ≡ Ok number) × (digits ≡ decimal number)
-reads_back name digits r is parsed number low e =
-    let same : digits ≡ decimal number = append_cancel_left name_start digits (numeral number) (sym is ∙ e) ∙ numeral_is_decimal number low in
-    (parse-decimal 64 number digits r low low same parsed, same)
+-- the number whose numeral stands behind the start is that of the name
+pub read_back : (name digits : List ℕ) (o : Option ℕ) → name ≡ name_start ++ digits → MatchOption o ((number : ℕ) → number < 2 ^ 64 → digits ≡ numeral number → ⊥) (λ number. digits ≡ numeral number)
+    → MatchOption o ((number : ℕ) → number < 2 ^ 64 → name ≡ generated number → ⊥) (λ number. name ≡ generated number)
+read_back name digits None is other = λ number low e. other number low (append_cancel_left name_start digits (numeral number) (sym is ∙ e))
+read_back name digits (Some number) is same = is ∙ ap (λ ds. name_start ++ ds) same
 
 pub get_mapped : {X Y : Type 0} (f : X → Y) (xs : List X) (i : ℕ) (d : X) (e : Y) → i < length xs → get_or (map f xs) i e ≡ f (get_or xs i d)
 get_mapped f [] i d e h = absurd (omega arith)

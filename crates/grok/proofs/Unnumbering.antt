@@ -1,6 +1,5 @@
 -- The key and the number that a numbered key is read back to.
-use Rattle.std.proofs.Common.{◌≡◌, ℕ, zero, suc, ◌+◌, ◌<◌, ◌≤◌, ◌^◌, Bool, true, false, cond, List, [], ◌∷◌, ◌++◌, length, get_or, take, drop, Option, Some, None, MatchOption, Bor, refl, sym, ◌∙◌, ap, subst, inl, inr, arith, append_assoc}
-use Rattle.std.specs.Prelude.{◌==◌, ◌≢◌}
+use Rattle.std.proofs.Common.{◌≡◌, ℕ, zero, suc, ◌<◌, false, List, [], ◌∷◌, ◌++◌, length, get_or, take, drop, Some, None, refl, sym, ◌∙◌, ap, subst, arith, append_assoc}
 use Rattle.std.specs.Str.Pattern.{RFindsChar}
 use Rattle.std.proofs.lemmas.Bool.{true≢false, ne_eqb}
 use Rattle.std.proofs.lemmas.List.{append_cancel_right, take-append-drop}
@@ -8,7 +7,6 @@ use Rattle.std.proofs.lemmas.Str.Pattern.{NoCharPasses-char, drop_at_char}
 use Rattle.grok.specs.Keys.{numbered}
 use Rattle.grok.specs.Numeral.{numeral}
 use Rattle.grok.proofs.KeyLaws.{opens_bracket, in_middle, last_bracket, numeral_plain}
-use Rattle.grok.proofs.MeantKeys.{numeral_same}
 
 -- ---- the last bracket of a text
 

@@ -21,21 +21,23 @@ IsFree wanted = (key : List ℕ) → MayBeWanted wanted key (wanted key)
 
 -- ---- what is counted
 
--- of a key that isn't among the counts
+-- the count of a key that isn't among the counts
 abbrev pub no_count : Count
 no_count = record { times = 0; most = 2 ^ 64 - 1 }
 
+-- what is counted of a key
 abbrev pub count_of : BTreeMap (Bor (List ℕ)) Count → List ℕ → Count
 count_of counts key = unwrap_or (get_by (λ (k : Bor (List ℕ)). slice_cmp nat_cmp key k.now) counts) no_count
 
--- both counts of a key
+-- two counts of a key together
 abbrev pub joined : Count → Count → Count
 joined more count = record { times = more.times + count.times; most = min more.most count.most }
 
--- the counts are those before with this count of a key
+-- the counts after are those before, with one more count of this key
 abbrev pub Joins : List ℕ → Count → WantedCounts → WantedCounts → Type 0
-Joins key more before after = (other : List ℕ) → count_of after.counts other
-    ≡ (if bytes_eq key other then joined more (count_of before.counts other) else count_of before.counts other)
+Joins key more before after = (other : List ℕ) → count_of after.counts other ≡
+    (if bytes_eq key other then joined more (count_of before.counts other)
+    else count_of before.counts other)
 
 -- the counts say how often each key is wanted, and of the numbers that fit a `usize` how often it may be
 pub record Counts (counts : WantedCounts) (wanted : List ℕ → ℕ) : Type 0 where

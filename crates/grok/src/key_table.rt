@@ -11,7 +11,7 @@ ghost use Rattle.grok.specs.GeneratedNames.{generated};
 ghost use Rattle.grok.specs.KeyTable.{meant_key, group_of, group_in, IsKeyTable};
 
 use crate::generated_name::NAME_START;
-use itoa::Buffer;
+use crate::numeral::number_of_numeral;
 use std::alloc::{AllocError, Global};
 use std::cmp::Ordering;
 use std::collections::BTreeMap;
@@ -22,14 +22,7 @@ fn number_of(name: &str) -> Option<usize>
     ensures { MatchOption result ((number : ℕ) → number < 2 ^ 64 → name.now ≡ generated number → ⊥)
         (λ number. name.now ≡ generated number) }
 {
-    let digits = name.strip_prefix(NAME_START)?;
-    let number = digits.parse::<usize>().ok()?;
-    let mut buffer = Buffer::new();
-    if buffer.format(number) == digits {
-        Some(number)
-    } else {
-        None
-    }
+    number_of_numeral(name.strip_prefix(NAME_START)?)
 }
 
 /// The key that a group's name means.

@@ -43,6 +43,7 @@ mod key_table;
 pub mod laws;
 mod matches;
 mod measure;
+mod numeral;
 pub mod parser;
 
 pub use defs::{Grok, patterns};

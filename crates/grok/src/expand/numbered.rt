@@ -1,7 +1,9 @@
-//! Which aliases end as a numbered key does.
-ghost use Rattle.std.specs.Prelude.{◌≡◌, ℕ, List, ◌∷◌};
-ghost use Rattle.grok.specs.Keys.{ends_in_number};
+//! Which aliases end as a numbered key does, and what they number.
+ghost use Rattle.std.specs.Prelude.{◌≡◌, ℕ, suc, ◌<◌, ◌^◌, List, ◌∷◌, MatchOption};
+ghost use Rattle.grok.specs.Keys.{numbered, ends_in_number};
 ghost use Rattle.grok.specs.Endings.{ends_so};
+
+use crate::numeral::number_of_numeral;
 
 /// What stands at the end of the bytes that were read so far.
 #[derive(Clone, Copy)]
@@ -39,4 +41,20 @@ pub(crate) fn ends_in_number(alias: &str) -> bool
         ending = ending.then(*byte);
     }
     matches!(ending, Ending::Closed)
+}
+
+/// The key that this one numbers, and the number, if that fits.
+pub(crate) fn parts_of_numbered(key: &str) -> Option<(&str, usize)>
+    ensures { MatchOption result
+        ((base : List ℕ) (count : ℕ) → suc count < 2 ^ 64 → key.now ≡ numbered base (suc count) → ⊥)
+        (λ parts. (0 < parts.1) × (key.now ≡ numbered parts.0.now parts.1)) }
+{
+    let inside = key.strip_suffix(']')?;
+    let (base, digits) = inside.rsplit_once('[')?;
+    let number = number_of_numeral(digits)?;
+    if number == 0 {
+        None
+    } else {
+        Some((base, number))
+    }
 }

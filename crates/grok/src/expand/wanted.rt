@@ -1,15 +1,14 @@
-//! How often keys are wanted: enough to know whether two of the keys that are assigned for them clash.
-ghost use Rattle.std.specs.Prelude.{◌≡◌, ℕ, suc, ◌+◌, ◌<◌, ◌≤◌, ◌^◌, List, ◌++◌, codes, min, if◌then◌else◌, IfOk, OnOk, MatchOption, Decides};
+//! How often keys are wanted: enough to know whether two of the keys that are assigned clash.
+ghost use Rattle.std.specs.Prelude.{◌≡◌, ℕ, ◌+◌, ◌<◌, ◌^◌, List, if◌then◌else◌, IfOk, OnOk, Decides};
 ghost use Rattle.std.specs.Str.{bytes_eq};
-ghost use Rattle.grok.specs.Numeral.{numeral};
-ghost use Rattle.grok.specs.Keys.{numbered};
 ghost use Rattle.grok.specs.Wanted.{MayBeWanted, IsFree, count_of, Joins, Counts};
 
-use itoa::Buffer;
+use crate::expand::numbered::parts_of_numbered;
 use std::alloc::{AllocError, Global};
 use std::collections::BTreeMap;
 
-/// How often a key is wanted, and how often it may be: so that no numbered key that it is assigned is one that is wanted itself.
+/// How often a key is wanted, and how often it may be: no numbered key that it is assigned then is
+/// itself wanted.
 #[derive(Clone, Copy)]
 struct Count {
     times: usize,
@@ -20,36 +19,6 @@ struct Count {
 #[derive(Drop)]
 pub(crate) struct WantedCounts<'a> {
     counts: BTreeMap<&'a str, Count>,
-}
-
-/// The number that the digits say, if they are those of one that fits.
-fn number_of(digits: &str) -> Option<usize>
-    ensures { MatchOption result ((number : ℕ) → number < 2 ^ 64 → digits.now ≡ numeral number → ⊥)
-        (λ number. digits.now ≡ numeral number) }
-{
-    let number = digits.parse::<usize>().ok()?;
-    let mut buffer = Buffer::new();
-    if buffer.format(number) == digits {
-        Some(number)
-    } else {
-        None
-    }
-}
-
-/// The key that this one is a numbered one of, and its number, if that fits.
-fn parts_of_numbered(key: &str) -> Option<(&str, usize)>
-    ensures { MatchOption result
-        ((base : List ℕ) (count : ℕ) → suc count < 2 ^ 64 → key.now ≡ numbered base (suc count) → ⊥)
-        (λ parts. (0 < parts.1) × (key.now ≡ numbered parts.0.now parts.1)) }
-{
-    let inside = key.strip_suffix(']')?;
-    let (base, digits) = inside.rsplit_once('[')?;
-    let number = number_of(digits)?;
-    if number == 0 {
-        None
-    } else {
-        Some((base, number))
-    }
 }
 
 impl<'a> WantedCounts<'a> {
@@ -91,7 +60,8 @@ impl<'a> WantedCounts<'a> {
     /// Adds a count of a key. A sum past the greatest `usize` is answered as want of memory.
     fn add_count(&mut self, key: &'a str, more: Count) -> Result<(), AllocError>
         ensures joins { OnOk result (Joins key.now more self.old self.new) }
-        ensures fits { OnOk result (more.times + (count_of self.old.counts key.now).times < 2 ^ 64) }
+        ensures fits { OnOk result
+            (more.times + (count_of self.old.counts key.now).times < 2 ^ 64) }
     {
         let count = self.count_of(key);
         let Some(times) = more.times.checked_add(count.times) else {
@@ -101,7 +71,8 @@ impl<'a> WantedCounts<'a> {
         self.set(key, Count { times, most })
     }
 
-    /// Counts a key that is wanted once more. More than the greatest `usize` is answered as want of memory.
+    /// Counts a key that is wanted once more. More than the greatest `usize` is answered as want of
+    /// memory.
     pub fn add(&mut self, key: &'a str) -> Result<(), AllocError>
         ensures { OnOk result ((wanted : List ℕ → ℕ) → Counts self.old wanted → Counts self.new
             (λ other. (if bytes_eq key.now other then 1 else 0) + wanted other)) }
@@ -125,7 +96,8 @@ impl<'a> WantedCounts<'a> {
         Ok(())
     }
 
-    /// Counts all keys of more counts. A sum past the greatest `usize` is answered as want of memory.
+    /// Counts all keys of more counts. A sum past the greatest `usize` is answered as want of
+    /// memory.
     pub fn add_all(&mut self, more: &WantedCounts<'a>) -> Result<(), AllocError>
         ensures { OnOk result ((wanted others : List ℕ → ℕ) → Counts self.old wanted
             → Counts more.now others → Counts self.new (λ key. others key + wanted key)) }
@@ -139,8 +111,8 @@ impl<'a> WantedCounts<'a> {
     /// Whether the key may be wanted as often as it is in both counts together.
     fn is_free_at(&self, more: &WantedCounts<'a>, key: &'a str) -> Result<bool, AllocError>
         ensures { IfOk result (λ free. (wanted others : List ℕ → ℕ) → Counts self.now wanted
-            → Counts more.now others → Decides free (MayBeWanted (λ other. others other + wanted other)
-            key.now (others key.now + wanted key.now))) }
+            → Counts more.now others → Decides free (MayBeWanted
+            (λ other. others other + wanted other) key.now (others key.now + wanted key.now))) }
     {
         let own = self.count_of(key);
         let other = more.count_of(key);
@@ -150,8 +122,8 @@ impl<'a> WantedCounts<'a> {
         }
     }
 
-    /// Whether no two keys clash where those of more counts are wanted, too, and none clash without them. A sum past the greatest `usize` is answered as want of
-    /// memory.
+    /// Whether no two keys clash where those of more counts are wanted, too, and none clash without
+    /// them. A sum past the greatest `usize` is answered as want of memory.
     pub fn is_free_with(&self, more: &WantedCounts<'a>) -> Result<bool, AllocError>
         ensures { IfOk result (λ free. (wanted others : List ℕ → ℕ) → Counts self.now wanted
             → Counts more.now others → IsFree wanted
