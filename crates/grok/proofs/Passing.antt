@@ -1,5 +1,5 @@
 -- How a walk to the first fault goes past events, and counts what they want.
-use Rattle.std.proofs.Common.{◌≡◌, ℕ, zero, suc, ◌+◌, ◌-◌, ◌<◌, ◌≤◌, Bool, true, false, cond, List, [], ◌∷◌, ◌++◌, length, Option, Some, None, refl, sym, ◌∙◌, ap, subst, inl, inr, arith, append_assoc, append-nil, length-append}
+use Rattle.std.proofs.Common.{◌≡◌, ℕ, suc, ◌+◌, ◌-◌, ◌<◌, ◌≤◌, Bool, true, false, cond, List, [], ◌∷◌, ◌++◌, length, Some, None, refl, sym, ◌∙◌, ap, subst, inl, inr, arith, append_assoc, append-nil, length-append}
 use Rattle.std.specs.Prelude.{Decides}
 use Rattle.std.specs.FinMap as finite
 use Rattle.std.specs.Str.{bytes_eq}
@@ -7,7 +7,7 @@ use Rattle.std.specs.String.{string_bytes}
 use Rattle.std.specs.Global.{Global}
 use Rattle.std.specs.declared.string.String.{String}
 use Rattle.std.proofs.lemmas.Bool.{true≢false, cases_Bool}
-use Rattle.grok.specs.Tree.{Label, Meaning, meaning_text, Item, TextItem, FaultItem, PlaceholderItem, Event, Open, Close, events, inside, deepest, first_structural}
+use Rattle.grok.specs.Tree.{Label, Meaning, meaning_text, Item, TextItem, FaultItem, PlaceholderItem, Event, Open, Close, events, inside, deepest}
 use Rattle.grok.specs.Keys as keys
 use Rattle.grok.specs.Keys.{is_recorded, wanted, numbered, how_often, key_after, is_among, recorded, first_fault}
 use Rattle.grok.specs.OpensSoFar.{onto, taken_of, faults, after}

@@ -1,5 +1,5 @@
 -- How a text is counted, item by item.
-use Rattle.std.proofs.Common.{◌≡◌, ℕ, zero, suc, ◌+◌, ◌<◌, ◌≤◌, Bool, true, false, cond, List, [], ◌∷◌, ◌++◌, Option, Some, None, Result, Ok, Err, IfOk, IsTrue, refl, sym, ◌∙◌, ap, subst, arith, inl, inr}
+use Rattle.std.proofs.Common.{◌≡◌, ℕ, zero, suc, ◌+◌, ◌<◌, ◌≤◌, Bool, true, false, cond, List, [], ◌∷◌, ◌++◌, Some, None, Result, Ok, Err, IfOk, IsTrue, refl, sym, ◌∙◌, ap, subst, arith, inl, inr}
 use Rattle.std.specs.Str.{bytes_eq}
 use Rattle.std.specs.FinMap as finite
 use Rattle.grok.specs.Tree.{Label, Meaning, Inline, Stored, meaning_text, Item, TextItem, FaultItem, PlaceholderItem, Event, Open, Close, events, first_structural}
@@ -16,7 +16,7 @@ use Rattle.grok.proofs.KeyLaws.{how_often_more}
 use Rattle.grok.proofs.Clashing.{how_often-append}
 use Rattle.grok.proofs.Cuts.{recorded-append}
 use Rattle.grok.proofs.TreeSizes.{or_else, first_structural-append}
-use Rattle.grok.proofs.Flat.{AreBytes, IsFlat, AreSound}
+use Rattle.grok.proofs.Flat.{AreBytes, AreSound}
 
 -- ---- sound items
 

@@ -1,5 +1,5 @@
 -- What a walk to the first fault keeps of the recorded opens so far, and what each of its steps does.
-use Rattle.std.specs.Prelude.{◌≡◌, ℕ, zero, suc, ◌<◌, List, [], ◌∷◌, Bool, true, false, Option, Some, None, MatchOption}
+use Rattle.std.specs.Prelude.{◌≡◌, ℕ, ◌<◌, List, [], ◌∷◌, Bool, true, false, Option, Some, None, MatchOption}
 use Rattle.std.specs.Global.{Global}
 use Rattle.std.specs.declared.string.String.{String}
 use Rattle.grok.specs.Tree.{Label, Meaning, meaning_text, Item, PlaceholderItem, Event, Open, events}

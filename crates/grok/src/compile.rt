@@ -140,7 +140,8 @@ impl Grok {
     ///   without a definition, a placeholder at the 1,024th level, or one whose key an earlier one has. At one placeholder the missing definition comes before
     ///   the clash of keys, and that before depth.
     /// - `RegexCompilationFailed` where the engine refuses the text.
-    /// - `Memory` where memory is refused, or where the text of a pattern without a structural fault would be longer than the greatest `usize`.
+    /// - `Memory` where memory is refused, where the text of a pattern without a structural fault would be longer than the greatest `usize`, or where a key is wanted
+    ///   more often than that before a fault.
     pub fn compile_with<E: Engine>(
         &self,
         pattern: &str,

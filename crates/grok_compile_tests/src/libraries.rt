@@ -47,9 +47,13 @@ fn add_doubling(alloc: Global, grok: &mut Grok, below: u32) -> Result<(), AllocE
     add_link(alloc, grok, "D", below.saturating_add(1), text.as_str())
 }
 
-/// Adds D0, which stands for `a`, and D1 to D70, each of which stands for two of the one before.
-pub(crate) fn add_doublings(alloc: Global, grok: &mut Grok) -> Result<(), AllocError> {
-    grok.add_pattern("D0", "a")?;
+/// Adds D0, which stands for this text, and D1 to D70, each of which stands for two of the one before.
+pub(crate) fn add_doublings(
+    alloc: Global,
+    grok: &mut Grok,
+    doubled: &str,
+) -> Result<(), AllocError> {
+    grok.add_pattern("D0", doubled)?;
     for below in 0..70u32 {
         add_doubling(alloc, grok, below)?;
     }

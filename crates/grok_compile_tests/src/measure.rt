@@ -302,7 +302,7 @@ fn check_letters(
 #[test]
 fn greatest_length(rt: HostRuntime) -> Result<(), Fail> {
     let mut grok = Grok::empty(rt.alloc());
-    add_doublings(rt.alloc(), &mut grok)?;
+    add_doublings(rt.alloc(), &mut grok, "a")?;
     for (letters, expected) in [
         (134, size(18446744073709551614, 0, 61)),
         (135, size(18446744073709551615, 0, 61)),

@@ -16,7 +16,8 @@ pub struct Row {
     pub definitions: &'static [(&'static str, &'static str)],
     /// The letter of each chain, the number of its links, and what the last one stands for.
     pub chains: &'static [(&'static str, u32, &'static str)],
-    pub has_doublings: bool,
+    /// What the first of the doublings stands for, if there are any.
+    pub doubled: Option<&'static str>,
     pub pattern: &'static str,
     /// The measure where each placeholder is recorded.
     pub every: Measure<'static>,
@@ -33,7 +34,7 @@ const BLANK: Row = Row {
     name: "the empty pattern",
     definitions: &[],
     chains: &[],
-    has_doublings: false,
+    doubled: None,
     pattern: "",
     every: Size {
         length: 0,
@@ -86,12 +87,25 @@ const TWO_CHAINS: &[(&str, u32, &str)] = &[("H", 500, "x"), ("C", 600, "%{H1}")]
 /// What has a text far too long.
 const LONGER: Row = Row {
     name: "a text that is far too long",
-    has_doublings: true,
+    doubled: Some("a"),
     pattern: "%{D70}",
     every: TooLong,
     aliased: TooLong,
     looks: Some((142, 72)),
     error: Some("Memory"),
+    ..BLANK
+};
+
+/// What wants a key in each of very many texts, and a missing definition behind them.
+const MANY_KEYS: Row = Row {
+    name: "a key that is wanted 2^44 times",
+    definitions: &[("A", "a")],
+    doubled: Some("%{A:x}"),
+    pattern: "%{A:y[1]}%{D44}%{missing}",
+    every: Fault(Missing("missing")),
+    aliased: Fault(Missing("missing")),
+    looks: None,
+    error: Some("DefinitionNotFound(\"missing\")"),
     ..BLANK
 };
 
@@ -222,7 +236,7 @@ const ROWS: &[Row] = &[
     // Texts that double ten times and more.
     Row {
         name: "a text that doubles ten times",
-        has_doublings: true,
+        doubled: Some("a"),
         pattern: "%{D10}",
         every: Size {
             length: 24478,
@@ -311,10 +325,66 @@ const ROWS: &[Row] = &[
     Row {
         name: "a text that is far too long, and again below 953 links",
         chains: &[("K", 953, "%{D70}")],
-        has_doublings: true,
+        doubled: Some("a"),
         pattern: "%{D70}%{K1}",
         looks: Some((1096, 1025)),
         ..DEEPER
+    },
+    // Keys that are wanted very often, up to a missing definition: no walk takes each of their placeholders.
+    MANY_KEYS,
+    Row {
+        name: "a key that the second of 2^44 placeholders is to get",
+        pattern: "%{A:x[1]}%{D44}%{missing}",
+        error: Some("GenericCompilationFailure(\"Alias x[1] already exists\")"),
+        ..MANY_KEYS
+    },
+    Row {
+        name: "a key that the second of 2^44 placeholders has",
+        pattern: "%{D44}%{A:x[1]}%{missing}",
+        error: Some("GenericCompilationFailure(\"Alias x[1] already exists\")"),
+        ..MANY_KEYS
+    },
+    Row {
+        name: "the key of the last of 2^22 placeholders, before them",
+        pattern: "%{A:x[4194303]}%{D22}%{missing}",
+        error: Some("GenericCompilationFailure(\"Alias x[4194303] already exists\")"),
+        ..MANY_KEYS
+    },
+    Row {
+        name: "the key of the last of 2^22 placeholders, behind them",
+        pattern: "%{D22}%{A:x[4194303]}%{missing}",
+        error: Some("GenericCompilationFailure(\"Alias x[4194303] already exists\")"),
+        ..MANY_KEYS
+    },
+    Row {
+        name: "the key that one placeholder more than 2^22 would get",
+        pattern: "%{A:x[4194304]}%{D22}%{missing}",
+        ..MANY_KEYS
+    },
+    Row {
+        name: "the key that one placeholder more than 2^22 gets",
+        pattern: "%{A:x[4194304]}%{D22}%{A:x}%{missing}",
+        error: Some("GenericCompilationFailure(\"Alias x[4194304] already exists\")"),
+        ..MANY_KEYS
+    },
+    Row {
+        name: "a key with a number that is wanted 2^44 times",
+        doubled: Some("%{A:x[1]}"),
+        pattern: "%{A:x}%{D44}%{A:x}%{missing}",
+        error: Some("GenericCompilationFailure(\"Alias x[1] already exists\")"),
+        ..MANY_KEYS
+    },
+    Row {
+        name: "a key that is wanted 2^70 times, and a number that is wanted before",
+        pattern: "%{A:x[1]}%{D70}%{missing}",
+        error: Some("GenericCompilationFailure(\"Alias x[1] already exists\")"),
+        ..MANY_KEYS
+    },
+    Row {
+        name: "more keys than are counted",
+        pattern: "%{A:y[1]}%{D70}%{missing}",
+        error: Some("Memory"),
+        ..MANY_KEYS
     },
 ];
 
@@ -330,8 +400,8 @@ impl Row {
         for (letter, count, last) in self.chains {
             add_chain(alloc, &mut grok, letter, *count, last)?;
         }
-        if self.has_doublings {
-            add_doublings(alloc, &mut grok)?;
+        if let Some(doubled) = self.doubled {
+            add_doublings(alloc, &mut grok, doubled)?;
         }
         Ok(grok)
     }

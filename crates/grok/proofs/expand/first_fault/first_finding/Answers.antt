@@ -1,14 +1,10 @@
-use Rattle.std.proofs.Common.{◌≡◌, ◌-◌, ◌<◌, length, List, [], ◌∷◌, ◌++◌, Some, refl, sym, ◌∙◌, ap, subst, arith}
-use Rattle.std.specs.FinMap as finite
-use Rattle.grok.specs.Tree.{tree, Item, Event, deepest}
-use Rattle.grok.specs.Keys.{first_fault}
+use Rattle.std.proofs.Common.{◌≡◌, ◌-◌, ◌<◌, length, List, [], ◌∷◌, ◌++◌, refl, sym, ◌∙◌, ap, subst, arith}
+use Rattle.grok.specs.Tree.{tree, Item, deepest}
 use Rattle.grok.specs.Items.{item_view}
-use Rattle.grok.specs.Tallied.{resolve, opened}
-use Rattle.grok.specs.Walks.{finding_view}
-use Rattle.grok.specs.Passing.{Passed, Entered, Enters}
-use Rattle.grok.specs.declared.expand.first_fault.Step.{Step}
+use Rattle.grok.specs.Tallied.{resolve}
+use Rattle.grok.specs.Passing.{Entered, Enters}
 use Rattle.std.proofs.lemmas.List.{nil_from_length}
-use Rattle.grok.proofs.Passing.{left_of, IsWalking, walked, walked_keeps, walk_starts, walk_ends, walk_closes, close_smaller, item_sound, walk_steps, walk_passes, pass_smaller, walk_finds, walk_enters, enter_smaller}
+use Rattle.grok.proofs.Passing.{left_of, IsWalking, walked, walk_starts, walk_ends, walk_closes, close_smaller, walk_steps, walk_passes, pass_smaller, walk_finds, walk_enters, enter_smaller}
 use Rattle.grok.proofs.expand.first_fault.first_finding.Goals as goal
 
 pub items-init : goal.items-init

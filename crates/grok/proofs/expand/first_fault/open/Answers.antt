@@ -2,7 +2,7 @@ use Rattle.std.proofs.Common.{◌≡◌, Some, sym, ◌∙◌, ap, subst, arith}
 use Rattle.std.specs.FinMap as finite
 use Rattle.grok.specs.Tree.{Stored, PlaceholderItem, meaning_text}
 use Rattle.grok.specs.Items.{label_view, meaning_view}
-use Rattle.grok.specs.Tallied.{resolve, opened, IsSoundItem, IsTallyOf}
+use Rattle.grok.specs.Tallied.{resolve, opened, IsSoundItem}
 use Rattle.grok.specs.Passing.{Keeps, Passed, Skips}
 use Rattle.grok.proofs.expand.first_fault.open.Goals as goal
 use Rattle.grok.proofs.expand.first_fault.open.Goals.{in-Some+in_ok-pass-in-Stored+else-branch, in_default}

@@ -1,4 +1,4 @@
-use Rattle.std.proofs.Common.{◌≡◌, List, Option, Some, ℕ, sym}
+use Rattle.std.proofs.Common.{◌≡◌, Some, sym}
 use Rattle.std.specs.FinMap as finite
 use Rattle.std.proofs.lemmas.Map.Text.{btree_map_updates_str}
 use Rattle.grok.specs.Tallied.{IsTallyOf}
