@@ -37,12 +37,11 @@ pub mod SizeLaws
 pub mod TreeSizes
 pub mod Flat
 pub mod Failing
+pub mod Readings
 pub mod Remembering
-pub mod Meeting
 pub mod Counting
+pub mod Watching
 pub mod WriteSteps
-pub mod Bracketing
-pub mod Flagging
 pub mod Sound
 pub mod Defined
 pub mod Whole
