@@ -1,5 +1,5 @@
 -- Faults that are remembered: how a text fails at each number of levels.
-use Rattle.std.proofs.Common.{◌≡◌, ℕ, zero, suc, ◌<◌, ◌≤◌, max, Bool, true, false, cond, List, ◌∷◌, Option, Result, Some, None, Ok, Err, refl, ◌∙◌, ap, subst, ◌⊎◌, inl, inr, arith}
+use Rattle.std.proofs.Common.{◌≡◌, ℕ, zero, suc, ◌<◌, ◌≤◌, max, Bool, true, false, cond, List, ◌∷◌, Result, Some, None, Ok, Err, refl, ◌∙◌, ap, ◌⊎◌, inl, inr, arith}
 use Rattle.std.proofs.lemmas.Bool.{ltb-true, ltb-false, lt-ltb, le-ltb, cases_lt}
 use Rattle.std.specs.Prelude.{nat_lt}
 use Rattle.grok.specs.Tree.{Fault, MalformedPiece, Missing, TooDeep, Label, Meaning, meaning_text, Item, TextItem, FaultItem, PlaceholderItem}
@@ -30,32 +30,6 @@ failed_not_begun (MalformedPiece f) levels reach e = cc
 failed_not_begun (Missing name) levels reach e = cc
 failed_not_begun TooDeep levels reach e = cc
 
-pub failed_not_done : (fault : Fault) (levels reach : ℕ) (size : Size) → Some (failed_mark fault levels reach) ≡ Some (Done size) → ⊥
-failed_not_done (MalformedPiece f) levels reach size e = cc
-failed_not_done (Missing name) levels reach size e = cc
-failed_not_done TooDeep levels reach size e = cc
-
--- a size is answered for a name that has it, where there is room for its height
-pub answered_ok : (mark : Mark Size) (levels : ℕ) (z : Size) → answered mark levels ≡ Some (Ok z) → (mark ≡ Done z) × (z.height < levels)
-answered_ok Begun levels z e = cc
-answered_ok (Done size) levels z e = go (nat_lt size.height levels) refl e
-  where
-    go : (b : Bool) → nat_lt size.height levels ≡ b → Some (cond {A = Result Size Fault} b (Ok size) (Err TooDeep)) ≡ Some (Ok z) → (Done size ≡ Done z) × (z.height < levels)
-    go true room e =
-        let same : size ≡ z = cc in
-        (ap Done same, subst (λ (s : Size). s.height < levels) same (ltb-true _ _ room))
-    go false room e = cc
-answered_ok (Failed fault height) levels z e = go (nat_lt height levels) e
-  where
-    go : (b : Bool) → Some (cond {A = Result Size Fault} b (Err fault) (Err TooDeep)) ≡ Some (Ok z) → (Failed fault height ≡ Done z) × (z.height < levels)
-    go true e = cc
-    go false e = cc
-answered_ok (Deep most) levels z e = go (nat_lt most levels) e
-  where
-    go : (b : Bool) → cond {A = Option (Result Size Fault)} b None (Some (Err TooDeep)) ≡ Some (Ok z) → (Deep most ≡ Done z) × (z.height < levels)
-    go true e = cc
-    go false e = cc
-
 module _ (alias_only : Bool) (resolve : List ℕ → List Item) where
   abbrev inner : ℕ → List ℕ → Result Size Fault
   inner levels = size_or_fault alias_only resolve levels
@@ -74,6 +48,15 @@ module _ (alias_only : Bool) (resolve : List ℕ → List Item) where
         λ n le. wrapped_from alias_only label (inner n (meaning_text meaning)) a z (size.fits n (omega (arith, high))) l,
         λ n low. ap (wrapped alias_only label) (size.deep n (omega (arith, high))),
       )
+
+  -- items are too deep where those behind the first one are, which has a size at some number of levels
+  pub deep_behind : (levels n : ℕ) (item : Item) (items : List Item) (z : Size) → size_of alias_only (inner levels) item ≡ Ok z → sizes alias_only (inner n) items ≡ Err TooDeep → sizes alias_only (inner n) (item ∷ items) ≡ Err TooDeep
+  deep_behind levels n item items z e behind =
+      let (fits, deep) = item_fits levels item z e in
+      elim (cases_lt n z.height) [
+        | inl below ↦ ap (λ r. both r (sizes alias_only (inner n) items)) (deep n below)
+        | inr room ↦ ap (λ r. both r (sizes alias_only (inner n) items)) (fits n room) ∙ ap (both (Ok z)) behind
+      ]
 
   pub items_fail_first : (item : Item) (items : List Item) (reach : ℕ) (fault : Fault) → FaultEvent (λ n. size_of alias_only (inner n) item) reach fault
       → FaultEvent (λ n. sizes alias_only (inner n) (item ∷ items)) reach fault
@@ -136,39 +119,37 @@ module _ (alias_only : Bool) (resolve : List ℕ → List Item) where
       go true room is = cc
       go false low is = let same : Err TooDeep ≡ r = cc in deep_below alias_only resolve n levels text (ltb-false _ _ low) e ∙ same
 
-  pub failed_says : (text : List ℕ) (levels reach : ℕ) (fault : Fault) → inner levels text ≡ Err fault → (fault ≡ TooDeep) ⊎ FaultEvent (λ n. inner n text) (suc reach) fault
+  pub failed_says : (text : List ℕ) (levels reach : ℕ) (fault : Fault) → inner levels text ≡ Err fault → ((fault ≡ TooDeep → ⊥) → FaultEvent (λ n. inner n text) (suc reach) fault)
       → Says alias_only resolve (failed_mark fault levels reach) text
-  failed_says text levels reach (MalformedPiece f) e (inl deep) = cc
-  failed_says text levels reach (MalformedPiece f) e (inr fails) = fault_says text reach (MalformedPiece f) fails
-  failed_says text levels reach (Missing name) e (inl deep) = cc
-  failed_says text levels reach (Missing name) e (inr fails) = fault_says text reach (Missing name) fails
-  failed_says text levels reach TooDeep e either = deep_says text levels e
+  failed_says text levels reach (MalformedPiece f) e fails = fault_says text reach (MalformedPiece f) (fails (λ same. cc))
+  failed_says text levels reach (Missing name) e fails = fault_says text reach (Missing name) (fails (λ same. cc))
+  failed_says text levels reach TooDeep e fails = deep_says text levels e
 
-  -- a remembered fault is that of the text at each number of levels
+  -- a remembered fault other than depth is that of the text at each number of levels
   pub says_fails : (text : List ℕ) (mark : Mark Size) (levels : ℕ) (r : Result Size Fault) (fault : Fault) → answered mark levels ≡ Some r → r ≡ Err fault
-      → (mark ≡ Begun) ⊎ Says alias_only resolve mark text → (fault ≡ TooDeep) ⊎ FaultEvent (λ n. inner n text) (suc (reach_within mark levels)) fault
-  says_fails text Begun levels r fault e is honest = inl (let same : fault ≡ TooDeep = cc in same)
-  says_fails text (Done size) levels r fault e is honest = go (nat_lt size.height levels) e
+      → (mark ≡ Begun) ⊎ Says alias_only resolve mark text → (fault ≡ TooDeep → ⊥) → FaultEvent (λ n. inner n text) (suc (reach_within mark levels)) fault
+  says_fails text Begun levels r fault e is honest real = absurd (real (let same : fault ≡ TooDeep = cc in same))
+  says_fails text (Done size) levels r fault e is honest real = absurd (real (go (nat_lt size.height levels) e))
     where
-      go : (b : Bool) → Some (cond b (Ok size) (Err TooDeep)) ≡ Some r → (fault ≡ TooDeep) ⊎ FaultEvent (λ n. inner n text) 1 fault
+      go : (b : Bool) → Some (cond b (Ok size) (Err TooDeep)) ≡ Some r → fault ≡ TooDeep
       go true e = cc
-      go false e = inl (let same : fault ≡ TooDeep = cc in same)
-  says_fails text (Failed f height) levels r fault e is (inl begun) = cc
-  says_fails text (Failed f height) levels r fault e is (inr says) = go (nat_lt height levels) e
+      go false e = let same : fault ≡ TooDeep = cc in same
+  says_fails text (Failed f height) levels r fault e is (inl begun) real = cc
+  says_fails text (Failed f height) levels r fault e is (inr says) real = go (nat_lt height levels) e
     where
       at : (n : ℕ) (b : Bool) → nat_lt height n ≡ b → inner n text ≡ cond b (Err f) (Err TooDeep)
       at n b is = says n (cond b (Err f) (Err TooDeep)) (rw is refl)
 
-      go : (b : Bool) → Some (cond b (Err f) (Err TooDeep)) ≡ Some r → (fault ≡ TooDeep) ⊎ FaultEvent (λ n. inner n text) (suc (cond b height 0)) fault
+      go : (b : Bool) → Some (cond b (Err f) (Err TooDeep)) ≡ Some r → FaultEvent (λ n. inner n text) (suc (cond b height 0)) fault
       go true e =
           let same : f ≡ fault = cc in
-          inr (record {
+          record {
             fits = λ n le. at n true (lt-ltb height n (omega arith)) ∙ ap Err same;
             deep = λ n low. at n false (le-ltb height n (omega arith));
-          })
-      go false e = inl (let same : fault ≡ TooDeep = cc in same)
-  says_fails text (Deep most) levels r fault e is honest = go (nat_lt most levels) e
+          }
+      go false e = absurd (real (let same : fault ≡ TooDeep = cc in same))
+  says_fails text (Deep most) levels r fault e is honest real = absurd (real (go (nat_lt most levels) e))
     where
-      go : (b : Bool) → cond b None (Some (Err TooDeep)) ≡ Some r → (fault ≡ TooDeep) ⊎ FaultEvent (λ n. inner n text) 1 fault
+      go : (b : Bool) → cond b None (Some (Err TooDeep)) ≡ Some r → fault ≡ TooDeep
       go true e = cc
-      go false e = inl (let same : fault ≡ TooDeep = cc in same)
+      go false e = let same : fault ≡ TooDeep = cc in same

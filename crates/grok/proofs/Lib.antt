@@ -52,6 +52,5 @@ pub mod Ending
 pub mod Answered
 pub mod Keeping
 pub mod TreeFaults
-pub mod MeasuredCases
 pub mod Compiling
 pub mod Debugging

@@ -1,17 +1,12 @@
 -- Laws of sizes: where fewer levels may be opened, the same size or too deep; and a text that leads to itself goes too deep.
-use Rattle.std.proofs.Common.{◌≡◌, ℕ, zero, suc, ◌+◌, ◌-◌, ◌<◌, ◌≤◌, Bool, List, [], ◌∷◌, ◌++◌, Result, Ok, Err, refl, sym, ◌∙◌, ap, subst, ◌⊎◌, inl, inr, arith, zero-add, suc-add, add-one}
-use Rattle.std.proofs.lemmas.Bool.{cases_lt}
-use Rattle.grok.specs.Tree.{Fault, TooDeep, Label, Meaning, meaning_text, Item, TextItem, FaultItem, PlaceholderItem}
+use Rattle.std.proofs.Common.{◌≡◌, ℕ, zero, suc, ◌+◌, ◌-◌, ◌<◌, ◌≤◌, Bool, List, [], ◌∷◌, Result, Ok, Err, refl, sym, ◌∙◌, ap, subst, ◌⊎◌, inl, inr, arith, zero-add, suc-add}
+use Rattle.grok.specs.Tree.{Fault, TooDeep, Label, meaning_text, Item, TextItem, FaultItem, PlaceholderItem}
 use Rattle.grok.specs.Sizes.{Size, no_size, size_of_bytes, plus, both, bracketed, wrapped, size_of, sizes, size_or_fault}
 
 -- What a remembered size says of a text: it is the size wherever that many levels may be opened, and elsewhere the text goes too deep.
 pub record IsSizeOf (alias_only : Bool) (resolve : List ℕ → List Item) (text : List ℕ) (size : Size) : Type 0 where
   pub fits : (levels : ℕ) → size.height < levels → size_or_fault alias_only resolve levels text ≡ Ok size
   pub deep : (levels : ℕ) → levels ≤ size.height → size_or_fault alias_only resolve levels text ≡ Err TooDeep
-
--- Where one text goes too deep, the other one, which opens it that many levels further up, does.
-pub record Leads (alias_only : Bool) (resolve : List ℕ → List Item) (down : ℕ) (from to : List ℕ) : Type 0 where
-  pub leads : (levels : ℕ) → size_or_fault alias_only resolve levels to ≡ Err TooDeep → size_or_fault alias_only resolve (levels + down) from ≡ Err TooDeep
 
 pub same_size : (a b : Size) → a.bytes ≡ b.bytes → a.groups ≡ b.groups → a.height ≡ b.height → a ≡ b
 same_size a b p q r = λ i. record { bytes = p i; groups = q i; height = r i }
@@ -62,9 +57,6 @@ pub cut_wrapped : (alias_only : Bool) (label : Label) (r s : Result Size Fault) 
 cut_wrapped alias_only label r s (inl same) = inl (ap (wrapped alias_only label) same)
 cut_wrapped alias_only label r s (inr deep) = inr (ap (wrapped alias_only label) deep)
 
-pub cut_same : (r : Result Size Fault) → Cut r r
-cut_same r = inl refl
-
 pub cut_trans : (r s t : Result Size Fault) → Cut r s → Cut s t → Cut r t
 cut_trans r s t (inl p) (inl q) = inl (p ∙ q)
 cut_trans r s t (inl p) (inr q) = inr (p ∙ q)
@@ -76,10 +68,6 @@ module _ (alias_only : Bool) where
   cut_sizes f g h (TextItem text ∷ items) = cut_both (size_of alias_only f (TextItem text)) (size_of alias_only g (TextItem text)) (sizes alias_only f items) (sizes alias_only g items) (inl refl) (cut_sizes f g h items)
   cut_sizes f g h (FaultItem fault ∷ items) = inl refl
   cut_sizes f g h (PlaceholderItem label meaning ∷ items) = cut_both (wrapped alias_only label (f (meaning_text meaning))) (wrapped alias_only label (g (meaning_text meaning))) (sizes alias_only f items) (sizes alias_only g items) (cut_wrapped alias_only label (f (meaning_text meaning)) (g (meaning_text meaning)) (h (meaning_text meaning))) (cut_sizes f g h items)
-
-  pub sizes-append : (f : List ℕ → Result Size Fault) (xs ys : List Item) → sizes alias_only f (xs ++ ys) ≡ both (sizes alias_only f xs) (sizes alias_only f ys)
-  sizes-append f [] ys = sym (both_none _)
-  sizes-append f (x ∷ xs) ys = ap (both (size_of alias_only f x)) (sizes-append f xs ys) ∙ sym (both_assoc (size_of alias_only f x) (sizes alias_only f xs) (sizes alias_only f ys))
 
   -- a size goes on to hold where each opened text that is not as high as this one's keeps its own
   pub sizes_enough : (f g : List ℕ → Result Size Fault) (high : ℕ) → ((t : List ℕ) (z : Size) → f t ≡ Ok z → z.height < high → g t ≡ Ok z)
@@ -151,47 +139,8 @@ module _ (alias_only : Bool) where
           ];
     }
 
-    -- CIRCLES
-
-    -- what was read with no fault has, at any number of levels, no fault but depth
-    pub read_again : (levels other : ℕ) (items : List Item) (z : Size) → sizes alias_only (size_or_fault alias_only resolve levels) items ≡ Ok z
-        → (sizes alias_only (size_or_fault alias_only resolve other) items ≡ Ok z) ⊎ (sizes alias_only (size_or_fault alias_only resolve other) items ≡ Err TooDeep)
-    read_again levels other items z read = elim (cases_lt levels other) [
-      | inl lower ↦
-          elim (cut_sizes (size_or_fault alias_only resolve levels) (size_or_fault alias_only resolve other) (λ t. cut_measured levels other t (omega arith)) items) [
-            | inl same ↦ inl (sym same ∙ read)
-            | inr deep ↦ cc
-          ]
-      | inr higher ↦
-          elim (cut_sizes (size_or_fault alias_only resolve other) (size_or_fault alias_only resolve levels) (λ t. cut_measured other levels t higher) items) [
-            | inl same ↦ inl (same ∙ read)
-            | inr deep ↦ inr deep
-          ]
-    ]
-
-    pub stops : (r s t : Result Size Fault) (z : Size) → (r ≡ Ok z) ⊎ (r ≡ Err TooDeep) → s ≡ Err TooDeep → both r (both s t) ≡ Err TooDeep
-    stops r s t z (inl read) deep = rw (read, deep) refl
-    stops r s t z (inr early) deep = rw early refl
-
-    pub leads_from : (c t : List ℕ) (levels : ℕ) (before after : List Item) (label : Label) (meaning : Meaning) (z : Size)
-        → resolve c ≡ before ++ PlaceholderItem label meaning ∷ after → sizes alias_only (size_or_fault alias_only resolve levels) before ≡ Ok z
-        → t ≡ meaning_text meaning → Leads alias_only resolve 1 c t
-    leads_from c t levels before after label meaning z is read opens = record {
-      leads = λ other deep.
-          let there : size_or_fault alias_only resolve other (meaning_text meaning) ≡ Err TooDeep = rw (← opens) deep in
-          rw (add-one, is, sizes-append (size_or_fault alias_only resolve other) before (PlaceholderItem label meaning ∷ after))
-          (stops (sizes alias_only (size_or_fault alias_only resolve other) before) (wrapped alias_only label (size_or_fault alias_only resolve other (meaning_text meaning))) (sizes alias_only (size_or_fault alias_only resolve other) after) z
-          (read_again levels other before z read) (ap (wrapped alias_only label) there));
-    }
-
-    pub leads_on : (i j : ℕ) (a b c : List ℕ) → Leads alias_only resolve i a b → Leads alias_only resolve j b c → Leads alias_only resolve (i + j) a c
-    leads_on i j a b c p q = record {
-      leads = λ levels deep.
-          let there : levels + j + i ≡ levels + (i + j) = omega arith in
-          subst (λ n. size_or_fault alias_only resolve n a ≡ Err TooDeep) there (p.leads (levels + j) (q.leads levels deep));
-    }
-
-    -- a text that leads to itself goes too deep, however many levels there are
-    pub circle : (down : ℕ) (t : List ℕ) → Leads alias_only resolve (suc down) t t → (levels : ℕ) → size_or_fault alias_only resolve levels t ≡ Err TooDeep
+    -- a text that goes too deep wherever it does so further down, in itself, goes too deep however many levels there are
+    pub circle : (down : ℕ) (t : List ℕ) → ((levels : ℕ) → size_or_fault alias_only resolve levels t ≡ Err TooDeep → size_or_fault alias_only resolve (levels + suc down) t ≡ Err TooDeep)
+        → (levels : ℕ) → size_or_fault alias_only resolve levels t ≡ Err TooDeep
     circle down t round zero = refl
-    circle down t round (suc levels) = deep_below (suc levels) (levels + suc down) t (omega arith) (round.leads levels (circle down t round levels))
+    circle down t round (suc levels) = deep_below (suc levels) (levels + suc down) t (omega arith) (round levels (circle down t round levels))
