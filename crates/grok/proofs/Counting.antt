@@ -31,8 +31,7 @@ pub record IsTable (definitions : Definitions) (entries : List (List ℕ × List
 module _ (weight : List ℕ → ℕ) where
   -- it depends on the names chosen alone
   pub weighed_same : (p q : List ℕ → Bool) (entries : List (List ℕ × List ℕ)) → ((name : List ℕ) → p name ≡ q name) → weighed weight p entries ≡ weighed weight q entries
-  weighed_same p q [] h = refl
-  weighed_same p q (entry ∷ entries) h = rw (h entry.0, weighed_same p q entries h) refl
+  weighed_same p q entries h = λ i. weighed weight (λ name. h name i) entries
 
   pub weighed_le : (p q : List ℕ → Bool) (entries : List (List ℕ × List ℕ)) → ((name : List ℕ) → p name ≡ true → q name ≡ true) → weighed weight p entries ≤ weighed weight q entries
   weighed_le p q [] h = omega arith
@@ -43,42 +42,34 @@ module _ (weight : List ℕ → ℕ) where
       go true e le = rw (e, h entry.0 e) (omega arith)
       go false e le = rw e (omega arith)
 
-  -- a name that isn't there weighs nothing
-  weighed_apart : (p q : List ℕ → Bool) (name : List ℕ) (entries : List (List ℕ × List ℕ)) → found name entries ≡ None
-      → ((other : List ℕ) → (name ≡ other → ⊥) → p other ≡ q other) → weighed weight p entries ≡ weighed weight q entries
-  weighed_apart p q name [] absent h = refl
-  weighed_apart p q name (entry ∷ entries) absent h = go (bytes_eq entry.0 name) refl (weighed_apart p q name entries)
+  -- where all other names are chosen alike
+  abbrev share : (List ℕ → Bool) → List ℕ → Option (List ℕ) → ℕ
+  share p name None = 0
+  share p name (Some text) = cond (p name) (weight text) 0
+
+  weighed_but : (p q : List ℕ → Bool) (name : List ℕ) (entries : List (List ℕ × List ℕ)) → AreApart entries → ((other : List ℕ) → (name ≡ other → ⊥) → p other ≡ q other)
+      → weighed weight q entries + share p name (found name entries) ≡ weighed weight p entries + share q name (found name entries)
+  weighed_but p q name [] apart h = refl
+  weighed_but p q name (entry ∷ entries) apart h = go (bytes_eq entry.0 name) refl (weighed_but p q name entries apart.1 h)
     where
-      go : (b : Bool) → bytes_eq entry.0 name ≡ b
-          → (found name entries ≡ None → ((other : List ℕ) → (name ≡ other → ⊥) → p other ≡ q other) → weighed weight p entries ≡ weighed weight q entries)
-          → cond (p entry.0) (weight entry.1) 0 + weighed weight p entries ≡ cond (q entry.0) (weight entry.1) 0 + weighed weight q entries
-      go true e ih = let gone : Some entry.1 ≡ None = sym (ap (λ b. cond b (Some entry.1) (found name entries)) e) ∙ absent in cc
-      go false e ih =
-          let here : p entry.0 ≡ q entry.0 = h entry.0 (λ same. true≢false (sym ((bytes_eq-Decides entry.0 name).1 (sym same)) ∙ e)) in
-          let rest = ih (sym (ap (λ b. cond b (Some entry.1) (found name entries)) e) ∙ absent) h in
-          rw (here, rest) refl
+      go : (b : Bool) → bytes_eq entry.0 name ≡ b → weighed weight q entries + share p name (found name entries) ≡ weighed weight p entries + share q name (found name entries)
+          → cond (q entry.0) (weight entry.1) 0 + weighed weight q entries + share p name (cond b (Some entry.1) (found name entries))
+          ≡ cond (p entry.0) (weight entry.1) 0 + weighed weight p entries + share q name (cond b (Some entry.1) (found name entries))
+      go true e ih =
+          let same : entry.0 ≡ name = (bytes_eq-Decides entry.0 name).0 e in
+          let gone : found name entries ≡ None = subst (λ n. found n entries ≡ None) same apart.0 in
+          let rest = rw gone at ih in
+          rw same (omega (arith, rest))
+      go false e ih = rw (h entry.0 (λ same. true≢false (sym ((bytes_eq-Decides entry.0 name).1 (sym same)) ∙ e))) (omega (arith, ih))
 
   -- one more name
   pub weighed_more : (p q : List ℕ → Bool) (name text : List ℕ) (entries : List (List ℕ × List ℕ)) → AreApart entries → found name entries ≡ Some text
       → p name ≡ false → q name ≡ true → ((other : List ℕ) → (name ≡ other → ⊥) → p other ≡ q other)
       → weighed weight q entries ≡ weighed weight p entries + weight text
-  weighed_more p q name text [] apart is off on h = cc
-  weighed_more p q name text (entry ∷ entries) apart is off on h = go (bytes_eq entry.0 name) refl (weighed_more p q name text entries apart.1)
-    where
-      go : (b : Bool) → bytes_eq entry.0 name ≡ b
-          → (found name entries ≡ Some text → p name ≡ false → q name ≡ true → ((other : List ℕ) → (name ≡ other → ⊥) → p other ≡ q other) → weighed weight q entries ≡ weighed weight p entries + weight text)
-          → cond (q entry.0) (weight entry.1) 0 + weighed weight q entries ≡ cond (p entry.0) (weight entry.1) 0 + weighed weight p entries + weight text
-      go true e ih =
-          let same : entry.0 ≡ name = (bytes_eq-Decides entry.0 name).0 e in
-          let it : Some entry.1 ≡ Some text = sym (ap (λ b. cond b (Some entry.1) (found name entries)) e) ∙ is in
-          let one : entry.1 ≡ text = cc in
-          let gone : found name entries ≡ None = subst (λ n. found n entries ≡ None) same apart.0 in
-          let rest = weighed_apart p q name entries gone h in
-          rw (same, on, off, one) (omega arith)
-      go false e ih =
-          let here : p entry.0 ≡ q entry.0 = h entry.0 (λ same. true≢false (sym ((bytes_eq-Decides entry.0 name).1 (sym same)) ∙ e)) in
-          let rest = ih (sym (ap (λ b. cond b (Some entry.1) (found name entries)) e) ∙ is) off on h in
-          rw here (omega arith)
+  weighed_more p q name text entries apart is off on h =
+      let before : share p name (found name entries) ≡ 0 = ap (share p name) is ∙ ap (λ b. cond b (weight text) 0) off in
+      let after : share q name (found name entries) ≡ weight text = ap (share q name) is ∙ ap (λ b. cond b (weight text) 0) on in
+      omega (arith, before, after, weighed_but p q name entries apart h)
 
 weighed_none : (weight : List ℕ → ℕ) (entries : List (List ℕ × List ℕ)) → weighed weight (λ name. false) entries ≡ 0
 weighed_none weight [] = refl

@@ -40,6 +40,7 @@ pub mod Failing
 pub mod Readings
 pub mod Remembering
 pub mod Counting
+pub mod Blocking
 pub mod Watching
 pub mod WriteSteps
 pub mod Sound
