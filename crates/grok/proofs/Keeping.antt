@@ -15,15 +15,14 @@ use Rattle.grok.specs.Remembered.{State, look_within}
 use Rattle.grok.specs.Measured.{Measured, size_within, fault_or, measured_tree}
 use Rattle.grok.specs.Met.{shown_result, result_view, measured_size, Shows, HasReach, unwound, Stops, IsTrue, IsShownTrue}
 use Rattle.grok.proofs.TreeSizes.{tree_sizes}
-use Rattle.grok.proofs.Remembering.{Outcome, of_items, look_right}
+use Rattle.grok.proofs.Remembering.{RightAnswer, look_right}
 use Rattle.grok.proofs.Sound.{sound_texts}
 
 module _ (texts : Texts) (alias_only : Bool) where
   abbrev resolve : List ℕ → List Item
   resolve = items_of (finite.get texts)
 
-  outcome : (levels : ℕ) (pattern : List ℕ) (st : State) → IsTrue texts alias_only st → Outcome alias_only resolve (finite.get texts) levels st (look_within alias_only resolve levels (resolve pattern) st)
-      (of_items alias_only resolve (finite.get texts) (resolve pattern)) (look_within alias_only resolve levels (resolve pattern) st).1.reach
+  outcome : (levels : ℕ) (pattern : List ℕ) (st : State) → IsTrue texts alias_only st → RightAnswer alias_only resolve (finite.get texts) levels pattern st
   outcome levels pattern st t =
       look_right alias_only resolve (finite.get texts) (sound_texts (finite.get texts)) levels pattern st (λ name mark text is stored. inr (t.says name mark text is stored)) t.none_begun
 

@@ -36,8 +36,8 @@ pub mod Walking
 pub mod SizeLaws
 pub mod TreeSizes
 pub mod Flat
-pub mod Failing
 pub mod Readings
+pub mod Levels
 pub mod Remembering
 pub mod Counting
 pub mod Blocking
