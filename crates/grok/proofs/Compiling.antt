@@ -1,10 +1,9 @@
 -- What measuring, walking and building say together.
-use Rattle.std.proofs.Common.{◌≡◌, ◌≢◌, ℕ, suc, ◌<◌, ◌^◌, Bool, true, false, cond, List, [], ◌∷◌, length, map, Option, Some, None, Result, Ok, Err, ◌⊎◌, inl, inr, refl, sym, ◌∙◌, ap, subst, arith}
+use Rattle.std.proofs.Common.{◌≡◌, ◌≢◌, ℕ, suc, ◌^◌, Bool, true, false, cond, List, [], ◌∷◌, length, map, Option, Some, None, Result, Ok, Err, ◌⊎◌, inl, inr, refl, sym, ◌∙◌, ap, subst, arith}
 use Rattle.std.specs.Prelude.{nat_lt, ◌==◌, MatchResult, IsErrAnd}
 use Rattle.std.specs.Option.{option_map}
 use Rattle.std.specs.String.{string_bytes}
 use Rattle.std.specs.BTreeMap.{get_by_text}
-use borrow.Author.Tests.{ltb-true}
 use Rattle.std.proofs.lemmas.Bool.{true≢false, ne_eqb}
 use Rattle.grok.specs.Tree.{Definitions, Label, Fault, Event, Text, Open, Close, FaultEvent, tree, first_structural, reached}
 use Rattle.grok.specs.Keys.{is_recorded, key_after, is_among, first_fault_after, Finding, Structural, Clash, has_numbered_alias, keys, recorded, extract_of}
@@ -24,31 +23,13 @@ use Rattle.grok.proofs.KeyLaws.{clash_needs_number}
 
 -- ---- what was measured
 
-pub record IsSized (alias_only : Bool) (es : List Event) (n : ℕ) : Type 0 where
-  pub clean : first_structural es ≡ None
-  pub long : n ≡ length (expanded alias_only es)
-  pub fits : n < 2 ^ 64
-
-sized_by : (b : Bool) (n g h length groups nesting : ℕ) → Sized length groups nesting ≡ cond b (Sized n g h) TooLong → (length ≡ n) × (b ≡ true)
-sized_by true n g h length groups nesting e = let same : length ≡ n = cc in (same, refl)
-sized_by false n g h length groups nesting e = cc
-
 faulty_never : (b : Bool) (n g h : ℕ) (fault : Fault) → Faulty fault ≡ cond b (Sized n g h) TooLong → ⊥
 faulty_never true n g h fault e = cc
 faulty_never false n g h fault e = cc
 
-sized_or : (o : Option Fault) (n g h length groups nesting : ℕ) → Sized length groups nesting ≡ fault_or o (size_within n g h) → (o ≡ None) × (length ≡ n) × (nat_lt n (2 ^ 64) ≡ true)
-sized_or None n g h length groups nesting e = let both = sized_by (nat_lt n (2 ^ 64)) n g h length groups nesting e in (refl, both.0, both.1)
-sized_or (Some fault) n g h length groups nesting e = cc
-
 faulty_or : (o : Option Fault) (n g h : ℕ) (fault : Fault) → Faulty fault ≡ fault_or o (size_within n g h) → o ≡ Some fault
 faulty_or None n g h fault e = absurd (faulty_never (nat_lt n (2 ^ 64)) n g h fault e)
 faulty_or (Some other) n g h fault e = let same : other ≡ fault = cc in ap Some same
-
-pub sized_is : (alias_only : Bool) (es : List Event) (n m d : ℕ) → Sized n m d ≡ measured_tree alias_only es → IsSized alias_only es n
-sized_is alias_only es n m d e =
-    let all = sized_or (first_structural es) (length (expanded alias_only es)) (groups alias_only es) (nesting es) n m d e in
-    record { clean = all.0; long = all.1; fits = let low = ltb-true (length (expanded alias_only es)) (2 ^ 64) all.2 in omega arith }
 
 pub faulty_is : (alias_only : Bool) (es : List Event) (fault : Fault) → Faulty fault ≡ measured_tree alias_only es → first_structural es ≡ Some fault
 faulty_is alias_only es fault e = faulty_or (first_structural es) (length (expanded alias_only es)) (groups alias_only es) (nesting es) fault e

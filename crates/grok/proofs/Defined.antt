@@ -11,7 +11,7 @@ use Rattle.std.specs.FinMap as finite
 use Rattle.grok.specs.Maps.{Texts}
 use Rattle.grok.proofs.NamedTexts.{bytes_cmp, same_bytes, is_equal}
 use Rattle.grok.proofs.Counting.{found, AreApart, IsTable}
-use Rattle.grok.proofs.Flagging.{alike}
+use Rattle.grok.proofs.Watching.{alike}
 
 -- the name is below those of all entries
 abbrev below_all : List ℕ → List (List ℕ × List ℕ) → Bool

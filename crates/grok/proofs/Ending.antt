@@ -67,12 +67,6 @@ module _ (resolve : List ℕ → List Item) (definitions : Definitions) (entries
   abbrev pub work_left : Met → List Item → List Frame → ℕ
   work_left met items frames = weighed (λ text. suc (length (resolve text))) (is_unkept met) entries + (suc (length items) + waiting frames)
 
-  pub less_measured : (before after : Met) (item : Item) (left : List Item) (frames : List Frame) → after.marks ≡ before.marks → work_left after left frames < work_left before (item ∷ left) frames
-  less_measured before after item left frames same =
-      let equal : weighed (λ text. suc (length (resolve text))) (is_unkept after) entries ≡ weighed (λ text. suc (length (resolve text))) (is_unkept before) entries =
-      ap (λ marks. weighed (λ text. suc (length (resolve text))) (λ name. not (is_kept (mark_of marks name))) entries) same in
-      omega (arith, equal)
-
   pub less_opened : IsTable definitions entries → (before after : Met) (item : Item) (left : List Item) (frames : List Frame) (frame : Frame) (label : Label) (text : List ℕ) → item ≡ PlaceholderItem label (Stored text) → AreSound resolve definitions (item ∷ left)
       → is_kept (mark_of before.marks label.name) ≡ false → IsMarked label.name Begun before after → frame.items ≡ left
       → work_left after (resolve text) (frames ++ frame ∷ []) < work_left before (item ∷ left) frames

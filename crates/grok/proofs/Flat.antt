@@ -1,10 +1,8 @@
 -- Texts that hold no placeholder, as a definition that is written in another text: their bytes stand for themselves.
-use Rattle.std.proofs.Common.{◌≡◌, ℕ, zero, suc, ◌+◌, Bool, false, List, [], ◌∷◌, ◌++◌, length, Result, Some, Ok, refl, ◌∙◌, ap, arith}
-use Rattle.grok.specs.Tree.{Definitions, Fault, Inline, Stored, Item, TextItem, FaultItem, PlaceholderItem, Event, Close, events, inside}
-use Rattle.grok.specs.Keys.{has_numbered_alias}
+use Rattle.std.proofs.Common.{◌≡◌, ℕ, zero, suc, ◌+◌, Bool, List, [], ◌∷◌, length, Result, Some, Ok, refl, ◌∙◌, ap, arith}
+use Rattle.grok.specs.Tree.{Definitions, Fault, Inline, Stored, Item, TextItem, FaultItem, PlaceholderItem}
 use Rattle.grok.specs.Sizes.{Size, size_of_bytes, both, sizes, size_or_fault}
 use Rattle.grok.specs.Remembered.{inlined}
-use Rattle.grok.specs.Measured.{reaches}
 use Rattle.grok.proofs.SizeLaws.{same_size}
 
 abbrev pub AreBytes : List Item → Type 0
@@ -54,24 +52,3 @@ pub flat_measured : (alias_only : Bool) (resolve : List ℕ → List Item) (text
 flat_measured alias_only resolve text flat zero = refl
 flat_measured alias_only resolve text flat (suc levels) =
     flat_sizes alias_only (size_or_fault alias_only resolve levels) (resolve text) flat.bytes ∙ ap (λ n. Ok (record { bytes = n; groups = 0; height = 0 })) flat.adds_up
-
-reaches_flat : (name : List ℕ) (inner : List ℕ → List Event) (items : List Item) → AreBytes items → reaches name (events inner items ++ Close ∷ []) ≡ false
-reaches_flat name inner [] bytes = refl
-reaches_flat name inner (TextItem text ∷ items) bytes = reaches_flat name inner items bytes
-reaches_flat name inner (FaultItem fault ∷ items) bytes = absurd bytes
-reaches_flat name inner (PlaceholderItem label meaning ∷ items) bytes = absurd bytes
-
--- it reaches nothing
-pub flat_reaches : (resolve : List ℕ → List Item) (text : List ℕ) → IsFlat resolve text → (levels : ℕ) (name : List ℕ) → reaches name (inside resolve levels text) ≡ false
-flat_reaches resolve text flat zero name = refl
-flat_reaches resolve text flat (suc levels) name = reaches_flat name (inside resolve levels) (resolve text) flat.bytes
-
-bracket_flat : (inner : List ℕ → List Event) (items : List Item) → AreBytes items → has_numbered_alias (events inner items ++ Close ∷ []) ≡ false
-bracket_flat inner [] bytes = refl
-bracket_flat inner (TextItem text ∷ items) bytes = bracket_flat inner items bytes
-bracket_flat inner (FaultItem fault ∷ items) bytes = absurd bytes
-bracket_flat inner (PlaceholderItem label meaning ∷ items) bytes = absurd bytes
-
-pub flat_bracket : (resolve : List ℕ → List Item) (text : List ℕ) → IsFlat resolve text → (levels : ℕ) → has_numbered_alias (inside resolve levels text) ≡ false
-flat_bracket resolve text flat zero = refl
-flat_bracket resolve text flat (suc levels) = bracket_flat (inside resolve levels) (resolve text) flat.bytes

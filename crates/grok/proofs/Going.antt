@@ -296,17 +296,6 @@ module _ (alias_only : Bool) (resolve : List ℕ → List Item) where
       let same : levels - 0 ≡ levels = omega arith in
       record { now = st; total = no_size; is_sum = e; shows = shows; rest = sym (combined_none (reads levels all st)) ∙ ap (λ n. combined no_size (reads n all st)) (sym same) }
 
-  pub end_stops : (levels : ℕ) (whole : Reading) (so_far : Sum) (met : Met) → GoesOn levels whole [] [] so_far met → Stops levels (Ok so_far) [] (end_counted met) whole
-  end_stops levels whole so_far met g =
-      let same : Ok so_far ≡ shown_result whole.0 = ap Ok (g.is_sum ∙ ap shown (sym (plus_none_right g.total))) ∙ sym (ap (λ (a : Reading). shown_result a.0) g.rest) in
-      record {
-        now = with_reach (ended g.now) (max g.total.height g.now.reach);
-        same = same;
-        shows = with_reach_shows (end_counted met) (ended g.now) (max g.total.height g.now.reach) (shows_end met g.now g.shows);
-        reach = tt;
-        leaves = ap (λ (a : Reading). a.1) g.rest;
-      }
-
   -- a text has ended, and the one around it goes on
   pub end_goes_on : (levels : ℕ) (whole : Reading) (frames : List Frame) (frame : Frame) (so_far sum : Sum) (met after : Met) → GoesOn levels whole (frames ++ frame ∷ []) [] so_far met
       → ((now : State) (size : Size) → so_far ≡ shown size → Shows (end_counted met) now → Shows after (with_mark now frame.label.name.now (Done size)))

@@ -1,5 +1,5 @@
 -- What was measured before changes no answer, and stays true.
-use Rattle.std.proofs.Common.{◌≡◌, ℕ, Bool, List, [], length, Result, Some, Ok, Err, refl, sym, ◌∙◌, ap, subst, inl, inr}
+use Rattle.std.proofs.Common.{◌≡◌, ℕ, Bool, List, length, Result, Some, Ok, Err, refl, sym, ◌∙◌, ap, subst, inl, inr}
 use Rattle.std.specs.Prelude.{MatchResult}
 use Rattle.std.specs.FinMap as finite
 use Rattle.grok.specs.declared.measure.Failure.{Failure}
@@ -10,23 +10,21 @@ use Rattle.grok.specs.Maps.{Texts}
 use Rattle.grok.specs.Tree.{Fault, Item, items_of, deepest, tree}
 use Rattle.grok.specs.Expanded.{expanded, groups, nesting}
 use Rattle.grok.specs.Items.{fault_view}
-use Rattle.grok.specs.Sizes.{Size, no_size, sizes, size_or_fault}
+use Rattle.grok.specs.Sizes.{Size, sizes, size_or_fault}
 use Rattle.grok.specs.Remembered.{State, look_within}
 use Rattle.grok.specs.Measured.{Measured, size_within, fault_or, measured_tree}
 use Rattle.grok.specs.Met.{shown_result, result_view, measured_size, Shows, HasReach, unwound, Stops, IsTrue, IsShownTrue}
 use Rattle.grok.proofs.TreeSizes.{tree_sizes}
-use Rattle.grok.proofs.Remembering.{Outcome, ItemsFail, look_right, visit_right}
+use Rattle.grok.proofs.Remembering.{RightAnswer, look_right}
 use Rattle.grok.proofs.Sound.{sound_texts}
 
 module _ (texts : Texts) (alias_only : Bool) where
   abbrev resolve : List ℕ → List Item
   resolve = items_of (finite.get texts)
 
-  outcome : (levels : ℕ) (pattern : List ℕ) (st : State) → IsTrue texts alias_only st
-      → Outcome alias_only resolve (finite.get texts) st (look_within alias_only resolve levels (resolve pattern) st) (sizes alias_only (size_or_fault alias_only resolve levels) (resolve pattern)) (ItemsFail alias_only resolve (finite.get texts) (resolve pattern))
+  outcome : (levels : ℕ) (pattern : List ℕ) (st : State) → IsTrue texts alias_only st → RightAnswer alias_only resolve (finite.get texts) levels pattern st
   outcome levels pattern st t =
-      look_right alias_only resolve (finite.get texts) levels (visit_right alias_only resolve (finite.get texts) (sound_texts (finite.get texts)) levels) pattern (resolve pattern) st ([], no_size, refl, refl)
-      ((sound_texts (finite.get texts)).sound pattern) (λ name mark text is stored. inr (t.says name mark text is stored)) (λ name text met stored. absurd (t.none_begun name met))
+      look_right alias_only resolve (finite.get texts) (sound_texts (finite.get texts)) levels pattern st (λ name mark text is stored. inr (t.says name mark text is stored)) t.none_begun
 
   -- the plain sum is read off the tree
   tree_from : (pattern : List ℕ) (s : Result Size Fault) → sizes alias_only (size_or_fault alias_only resolve deepest) (resolve pattern) ≡ s → measured_size s ≡ measured_tree alias_only (tree (finite.get texts) pattern)

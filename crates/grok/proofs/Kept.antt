@@ -11,9 +11,5 @@ one_more T spans span p items rest all h e is =
     ap (λ xs. xs ++ rest) (map-append (piece_in T) spans (span ∷ []) ∙ ap (λ q. map (piece_in T) spans ++ q ∷ []) is)
     ∙ (append_assoc (map (piece_in T) spans) (p ∷ []) rest ∙ (ap (λ xs. map (piece_in T) spans ++ xs) (sym e) ∙ h))
 
--- what holds of each item holds of the first and of each later one
-pub All-first : {X : Type 0} (P : X → Type 0) (x : X) (xs : List X) → All P (x ∷ xs) → P x
-All-first P x xs h = h 0 x (omega arith)
-
 pub All-later : {X : Type 0} (P : X → Type 0) (x : X) (xs : List X) → All P (x ∷ xs) → All P xs
 All-later P x xs h = λ k d l. h (suc k) d (omega arith)

@@ -39,13 +39,13 @@ pub mod Walking
 pub mod SizeLaws
 pub mod TreeSizes
 pub mod Flat
-pub mod Failing
+pub mod Readings
+pub mod Levels
 pub mod Remembering
-pub mod Meeting
 pub mod Counting
+pub mod Blocking
+pub mod Watching
 pub mod WriteSteps
-pub mod Bracketing
-pub mod Flagging
 pub mod Sound
 pub mod Tallying
 pub mod Passing
@@ -58,6 +58,5 @@ pub mod Ending
 pub mod Answered
 pub mod Keeping
 pub mod TreeFaults
-pub mod MeasuredCases
 pub mod Compiling
 pub mod Debugging

@@ -1,16 +1,15 @@
 -- What an automaton of a text finds is what `regex` finds for that text.
-use Rattle.std.proofs.Common.{◌≡◌, ℕ, zero, suc, ◌+◌, ◌-◌, ◌*◌, ◌/◌, ◌<◌, ◌≤◌, ◌==◌, List, [], ◌∷◌, length, map, get_or, slice_index, Option, None, Some, IfSome, IsSome, IsSomeAnd, option_map, cond, true, true≢false, refl, sym, ap, ap₂, subst, ◌∙◌, ⊎_elim, arith, ne_eqb, IsCharBoundary, slice_range}
+use Rattle.std.proofs.Common.{◌≡◌, ℕ, zero, suc, ◌+◌, ◌-◌, ◌*◌, ◌/◌, ◌<◌, ◌≤◌, ◌==◌, List, ◌∷◌, length, map, get_or, slice_index, Option, None, Some, IfSome, IsSome, IsSomeAnd, option_map, true, true≢false, refl, sym, ap, ap₂, subst, ◌∙◌, ⊎_elim, arith, ne_eqb, IsCharBoundary, slice_range}
 use Rattle.std.specs.List.{range_with_len}
 use Rattle.std.specs.Option.{option_or}
 use Rattle.std.specs.Str.{chars}
 use Rattle.std.specs.Coded.{Coded-set, coded_option, coded_list, coded_ℕ, coded×}
 use Rattle.std.proofs.lemmas.Bool.{cond-false}
-use Rattle.std.proofs.lemmas.Option.{none-some, same_Some}
+use Rattle.std.proofs.lemmas.Option.{none-some}
 use Rattle.std.proofs.lemmas.List.FromFn.{get_or-map-range_with_len}
 use mathlib.Core.Logic.{∥∥₁_elim}
-use mathlib.Core.Path.{fun_ext}
 use Rattle.regex_hir.specs.Re.{Re}
-use Rattle.regex_hir.specs.Find.{Match, find, find_str, first_between, last_write, slot_of}
+use Rattle.regex_hir.specs.Find.{Match, find, find_str, last_write, slot_of}
 use Rattle.regex_hir.specs.Meaning.{meaning}
 use Rattle.regex_hir.specs.Text.{is_boundary}
 use Rattle.regex_hir.specs.declared.hir.Hir.{Hir}
@@ -24,13 +23,13 @@ use Rattle.regex_syntax.specs.Verdict.{Reads, default_config}
 use Rattle.regex_syntax.proofs.CapturesLemmas as seen
 use Rattle.regex_vm.specs.Found.{first_match, span, cell, group_cells}
 use Rattle.regex.specs.Patterns.{SameCaptures}
-use Rattle.regex.specs.Strings.{regex_pattern, regex_source, regex_config, IsReadFromSource}
-use Rattle.regex.specs.Writes.{both, group_of}
+use Rattle.regex.specs.Strings.{regex_pattern, regex_source}
+use Rattle.regex.specs.Writes.{both}
 use Rattle.regex.specs.declared.string.regex.Regex.{Regex}
 use Rattle.regex.proofs.SearchLemmas.{leftmost_none, leftmost_here}
 use Rattle.regex.proofs.ForCallers.{span_alike, found_alike}
 use Rattle.regex.proofs.Utf8Lemmas.{test_of_IsCharBoundary}
-use Rattle.grok.specs.RegexFinds.{IsReadByDefault, text_at, texts_at, span_of_group, captures_in}
+use Rattle.grok.specs.RegexFinds.{IsReadByDefault, texts_at, span_of_group, captures_in}
 use Rattle.grok.specs.OwnSearches.{IsTreeOf, span_of_pair, span_of_cells}
 
 -- ---- the same text

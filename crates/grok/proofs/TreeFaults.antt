@@ -2,7 +2,7 @@
 use Rattle.std.proofs.Common.{◌≡◌, ℕ, zero, suc, ◌+◌, Bool, true, false, cond, ◌&&◌, List, [], ◌∷◌, ◌++◌, length, Option, Some, None, refl, sym, ◌∙◌, ap, subst, ◌⊎◌, inl, inr, arith, ◌^◌, length-append}
 use Rattle.std.specs.Prelude.{not, nat_lt, slice_get}
 use Rattle.std.specs.Str.{bytes_eq}
-use Rattle.std.proofs.lemmas.Bool.{true≢false, false_from_ne_true}
+use Rattle.std.proofs.lemmas.Bool.{true≢false}
 use Rattle.std.proofs.lemmas.Slice.Eq.{bytes_eq-Decides}
 use Rattle.grok.specs.Pieces.{Parts, Piece, Regular, Placeholder, Malformed, pieces}
 use Rattle.grok.specs.Tree.{Definitions, no_definitions, with_written, is_absent, Fault, Missing, Label, label_of, Inline, Stored, resolved, placeholder_item, items_after, items_of, Item, Event, Text, Open, Close, FaultEvent, events, inside, deepest, tree, first_structural, reached}
@@ -12,7 +12,6 @@ use Rattle.grok.specs.Keys.{is_recorded}
 use Rattle.grok.specs.GeneratedNames.{named_head, unnamed_head}
 use Rattle.grok.specs.TreeLaws.{NoneDefines, OwnDefinitionHolds, EarlierDefinitionHolds, StoredDefinitionHolds, IsUnused, UnusedDefinitionsDoNotMatter, ModesFaultAlike, Unnamed, Numbered, IsTextOf, HeadsAloneDiffer}
 use Rattle.grok.proofs.TreeSizes.{first_structural-append, or_else}
-use Rattle.grok.proofs.Meeting.{reaches_left, reaches_right, reaches_head, reaches_tail}
 
 -- ---- what is written so far
 
@@ -103,25 +102,40 @@ module _ (stored other : Definitions) where
   reached_stop (Close ∷ xs) ys fault bad = ap (λ es. Close ∷ es) (reached_stop xs ys fault bad)
   reached_stop (FaultEvent fault' ∷ xs) ys fault bad = refl
 
+  -- a name that isn't reached is reached in no part
+  neither : (a b : Bool) → cond a true b ≡ false → (a ≡ false) × (b ≡ false)
+  neither true b e = cc
+  neither false b e = (refl, e)
+
+  unused_left : (name : List ℕ) (xs ys : List Event) → reaches name (reached (xs ++ ys)) ≡ false → reaches name (reached xs) ≡ false
+  unused_left name [] ys e = refl
+  unused_left name (Text text ∷ xs) ys e = unused_left name xs ys e
+  unused_left name (Close ∷ xs) ys e = unused_left name xs ys e
+  unused_left name (FaultEvent fault ∷ xs) ys e = refl
+  unused_left name (Open label (Inline text) ∷ xs) ys e = unused_left name xs ys e
+  unused_left name (Open label (Stored text) ∷ xs) ys e = let (head, tail) = neither (bytes_eq label.name name) (reaches name (reached (xs ++ ys))) e in rw head (unused_left name xs ys tail)
+
+  unused_right : (name : List ℕ) (xs ys : List Event) → first_structural xs ≡ None → reaches name (reached (xs ++ ys)) ≡ false → reaches name (reached ys) ≡ false
+  unused_right name [] ys clean e = e
+  unused_right name (Text text ∷ xs) ys clean e = unused_right name xs ys clean e
+  unused_right name (Close ∷ xs) ys clean e = unused_right name xs ys clean e
+  unused_right name (FaultEvent fault ∷ xs) ys clean e = cc
+  unused_right name (Open label (Inline text) ∷ xs) ys clean e = unused_right name xs ys clean e
+  unused_right name (Open label (Stored text) ∷ xs) ys clean e = unused_right name xs ys clean (neither (bytes_eq label.name name) (reaches name (reached (xs ++ ys))) e).1
+
   same_append : (xs ys xs' ys' : List Event) → Agree (xs ++ ys) → (Agree xs → Same xs xs') → (Agree ys → Same ys ys') → Same (xs ++ ys) (xs' ++ ys')
   same_append xs ys xs' ys' agree f g = go (first_structural xs) refl
     where
       left : Agree xs
       left name = elim (agree name) [
         | inl same ↦ inl same
-        | inr unused ↦ inr (
-          false_from_ne_true (reaches name (reached xs)) (λ there. true≢false (sym (reaches_left name xs ys there) ∙ unused.0)),
-          λ missing. unused.1 (rw (first_structural-append xs ys, missing) refl),
-        )
+        | inr unused ↦ inr (unused_left name xs ys unused.0, λ missing. unused.1 (rw (first_structural-append xs ys, missing) refl))
       ]
 
       right : first_structural xs ≡ None → Agree ys
       right clean name = elim (agree name) [
         | inl same ↦ inl same
-        | inr unused ↦ inr (
-          false_from_ne_true (reaches name (reached ys)) (λ there. true≢false (sym (reaches_right name xs ys clean there) ∙ unused.0)),
-          λ missing. unused.1 (rw (first_structural-append xs ys, clean) missing),
-        )
+        | inr unused ↦ inr (unused_right name xs ys clean unused.0, λ missing. unused.1 (rw (first_structural-append xs ys, clean) missing))
       ]
 
       go : (o : Option Fault) → first_structural xs ≡ o → Same (xs ++ ys) (xs' ++ ys')
@@ -152,7 +166,7 @@ module _ (stored other : Definitions) where
   same_stored label text es es' h agree =
       let s = h (λ name. elim (agree name) [
         | inl same ↦ inl same
-        | inr unused ↦ inr (false_from_ne_true (reaches name (reached es)) (λ there. true≢false (sym (reaches_tail label.name name (reaches name (reached es)) there) ∙ unused.0)), unused.1)
+        | inr unused ↦ inr ((neither (bytes_eq label.name name) (reaches name (reached es)) unused.0).1, unused.1)
       ]) in
       record { first = s.first; reach = ap (λ es. Open label (Stored text) ∷ es) s.reach }
 
@@ -160,7 +174,7 @@ module _ (stored other : Definitions) where
   used : (label : Label) (text : List ℕ) (es : List Event) → Agree (Open label (Stored text) ∷ es) → stored label.name ≡ other label.name
   used label text es agree = elim (agree label.name) [
     | inl same ↦ same
-    | inr unused ↦ absurd (true≢false (sym (reaches_head label.name label.name (reaches label.name (reached es)) refl) ∙ unused.0))
+    | inr unused ↦ absurd (true≢false (sym ((bytes_eq-Decides label.name label.name).1 refl) ∙ (neither (bytes_eq label.name label.name) (reaches label.name (reached es)) unused.0).0))
   ]
 
   missed : (name : List ℕ) (es : List Event) → Agree (FaultEvent (Missing name) ∷ es) → stored name ≡ other name

@@ -1,5 +1,5 @@
 -- The remembered measure equals the tree.
-use Rattle.std.proofs.Common.{◌≡◌, ℕ, ◌≤◌, ◌+◌, Bool, true, List, length, Some, None, Ok, Err, sym, ◌∙◌, subst, inl, inr, arith}
+use Rattle.std.proofs.Common.{◌≡◌, ℕ, ◌≤◌, ◌+◌, Bool, true, List, length, Some, None, Ok, Err, sym, ◌∙◌, inl, inr, arith}
 use Rattle.grok.specs.Tree.{Definitions, Fault, Item, Event, first_structural, tree_within, reached}
 use Rattle.grok.specs.Keys.{has_numbered_alias}
 use Rattle.grok.specs.Expanded.{expanded, groups, nesting}
@@ -9,9 +9,8 @@ use Rattle.grok.specs.Measured.{reaches, weighed}
 use Rattle.grok.proofs.Flat.{IsSound}
 use Rattle.grok.proofs.TreeSizes.{tree_sizes}
 use Rattle.grok.proofs.Remembering.{measure_right}
-use Rattle.grok.proofs.Counting.{IsTable, looks_most, looks_exact, ends_most, ends_exact, weighed_le, weighed_same}
-use Rattle.grok.proofs.Meeting.{is_started, measure_meets}
-use Rattle.grok.proofs.Flagging.{alike, reached_clean, measure_flags}
+use Rattle.grok.proofs.Counting.{IsTable, weighed_le, weighed_same, is_started, counts_pieces, counts_ends, measure_counts}
+use Rattle.grok.proofs.Watching.{alike, measure_flags, measure_meets}
 
 -- what the pattern weighs, and each text of the table whose name the tree reaches
 abbrev pub table_weight : (List ℕ → ℕ) → List (List ℕ × List ℕ) → List ℕ → List Event → ℕ
@@ -38,9 +37,11 @@ module _ (alias_only : Bool) (resolve : List ℕ → List Item) (definitions : D
       let t = tree_sizes alias_only resolve levels pattern in
       let right : answer.0 ≡ sizes alias_only (size_or_fault alias_only resolve levels) (resolve pattern) = measure_right alias_only resolve definitions sound levels pattern in
       let meets = measure_meets alias_only resolve definitions sound levels pattern in
-      let only : (name : List ℕ) → is_started answer.1 name ≡ true → reaches name (reached tree) ≡ true = λ name met. elim (meets.only name met) [ inl never ↦ cc | inr there ↦ there ] in
+      let only : (name : List ℕ) → is_started answer.1 name ≡ true → reaches name (reached tree) ≡ true = λ name. (meets name).only in
       let same : (size : Size) → answer.0 ≡ Ok size → (name : List ℕ) → is_started answer.1 name ≡ reaches name (reached tree) =
-      λ size e name. alike _ _ (only name) (λ there. meets.every size e name (subst (λ es. reaches name es ≡ true) (reached_clean tree (t.clean size (sym right ∙ e))) there)) in
+      λ size e name. alike _ _ (only name) (λ there. elim ((meets name).every there) [ inl on ↦ on | inr (fault, other, failed, watched) ↦ let bad : Ok size ≡ Err fault = sym e ∙ failed in cc ]) in
+      let pieces = measure_counts alias_only resolve definitions entries table (λ looks ends. looks) (λ items. length items) counts_pieces sound levels pattern in
+      let ends = measure_counts alias_only resolve definitions entries table (λ looks ends. ends) (λ items. 1) counts_ends sound levels pattern in
       record {
         fault = λ fault e. t.on_err fault (sym right ∙ e);
         clean = λ size e. t.clean size (sym right ∙ e);
@@ -48,8 +49,8 @@ module _ (alias_only : Bool) (resolve : List ℕ → List Item) (definitions : D
         groups_are = λ size e. t.groups size (sym right ∙ e);
         nesting_is = λ size e. t.nesting size (sym right ∙ e);
         numbered_alias = measure_flags alias_only resolve definitions sound levels pattern;
-        looks = omega (arith, looks_most alias_only resolve definitions entries table sound levels pattern, weighed_le (λ text. length (resolve text)) (is_started answer.1) (λ name. reaches name (reached tree)) entries only);
-        ends = omega (arith, ends_most alias_only resolve definitions entries table sound levels pattern, weighed_le (λ text. 1) (is_started answer.1) (λ name. reaches name (reached tree)) entries only);
-        looks_exact = λ size e. omega (arith, looks_exact alias_only resolve definitions entries table sound levels pattern size e, weighed_same (λ text. length (resolve text)) (is_started answer.1) (λ name. reaches name (reached tree)) entries (same size e));
-        ends_exact = λ size e. omega (arith, ends_exact alias_only resolve definitions entries table sound levels pattern size e, weighed_same (λ text. 1) (is_started answer.1) (λ name. reaches name (reached tree)) entries (same size e));
+        looks = omega (arith, pieces.adds, weighed_le (λ text. length (resolve text)) (is_started answer.1) (λ name. reaches name (reached tree)) entries only);
+        ends = omega (arith, ends.adds, weighed_le (λ text. 1) (is_started answer.1) (λ name. reaches name (reached tree)) entries only);
+        looks_exact = λ size e. omega (arith, pieces.adds, pieces.all size e, weighed_same (λ text. length (resolve text)) (is_started answer.1) (λ name. reaches name (reached tree)) entries (same size e));
+        ends_exact = λ size e. omega (arith, ends.adds, ends.all size e, weighed_same (λ text. 1) (is_started answer.1) (λ name. reaches name (reached tree)) entries (same size e));
       }

@@ -1,4 +1,3 @@
-use Rattle.std.proofs.Common.{◌≡◌}
 use Rattle.grok.proofs.engine.own_search.OwnSearch.build.Goals as goal
 
 pub invariant_of-result-clause-read : goal.invariant_of-result-clause-read
