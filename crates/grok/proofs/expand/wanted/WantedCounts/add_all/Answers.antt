@@ -1,4 +1,4 @@
-use Rattle.std.proofs.Common.{refl, ap, ◌∙◌}
+use Rattle.std.proofs.Common.{ap, ◌∙◌}
 use Rattle.grok.specs.Wanted.{count_of}
 use Rattle.grok.proofs.Wanting.{joined_in, joins_fit, joined_counts}
 use Rattle.grok.proofs.expand.wanted.WantedCounts.add_all.Goals as goal
