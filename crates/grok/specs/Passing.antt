@@ -50,9 +50,11 @@ pub record IsOpened (mode : Mode) (levels : ℕ) (text : List ℕ) (items : List
 abbrev pub Goes : Mode → ℕ → Meaning → List Label → WantedCounts → Step → Type 0
 Goes mode levels meaning before total Passes =
     Passed mode.with_alias_only before (opened mode levels (meaning_text meaning)) total
-Goes mode levels meaning before total (Opens items) = IsOpened mode levels (meaning_text meaning) items before total
+Goes mode levels meaning before total (Opens items) =
+    IsOpened mode levels (meaning_text meaning) items before total
 Goes mode levels meaning before total (Finds finding) =
-    faults mode.with_alias_only before (opened mode levels (meaning_text meaning)) ≡ Some (finding_view finding)
+    faults mode.with_alias_only before (opened mode levels (meaning_text meaning))
+    ≡ Some (finding_view finding)
 
 -- the item is a placeholder, which passed, and its text is opened
 pub record Entered (mode : Mode) (levels : ℕ) (item : Item) (items : List Item) (before : List Label)
@@ -70,4 +72,5 @@ Enters mode levels item before total Passes =
     Passed mode.with_alias_only before (events (opened mode levels) (item ∷ [])) total
 Enters mode levels item before total (Opens items) = Entered mode levels item items before total
 Enters mode levels item before total (Finds finding) =
-    faults mode.with_alias_only before (events (opened mode levels) (item ∷ [])) ≡ Some (finding_view finding)
+    faults mode.with_alias_only before (events (opened mode levels) (item ∷ []))
+    ≡ Some (finding_view finding)

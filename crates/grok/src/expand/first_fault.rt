@@ -1,13 +1,13 @@
 //! The walk through a tree up to its first fault. It leaves out what stays without a fault: what a
 //! name opens whose text was counted, where no two of the keys clash that are wanted there and
 //! before.
-ghost use Rattle.std.specs.Prelude.{◌≡◌, ℕ, ◌≤◌, List, [], ◌∷◌, IfOk, MatchOption, option_map};
+ghost use Rattle.std.specs.Prelude.{◌≡◌, ℕ, List, IfOk, option_map};
 ghost use Rattle.std.specs.FinMap as finite;
 ghost use Rattle.grok.specs.Tree as tree;
-ghost use Rattle.grok.specs.Tree.{tree as tree_of, deepest};
+ghost use Rattle.grok.specs.Tree.{tree as tree_of};
 ghost use Rattle.grok.specs.Keys.{first_fault};
 ghost use Rattle.grok.specs.Items.{label_view, meaning_view, item_view};
-ghost use Rattle.grok.specs.Walks.{finding_view, Clashes};
+ghost use Rattle.grok.specs.Walks.{finding_view};
 ghost use Rattle.grok.specs.Tallied.{AreTallied, IsTallyOf, IsSoundItem};
 ghost use Rattle.grok.specs.Passing.{Keeps, Wants, Skips, Goes, Enters};
 

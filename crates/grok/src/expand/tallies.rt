@@ -1,10 +1,9 @@
 //! What the texts of names come to that have no fault: how deep their opens go, and which keys
 //! these want. Each text is read once, and then never again.
-ghost use Rattle.std.specs.Prelude.{◌≡◌, ℕ, ◌+◌, ◌<◌, ◌≤◌, List, ◌∷◌, if◌then◌else◌, IsTrue, IsSome, IfOk, OnOk, IfSome, MatchOption, Some};
+ghost use Rattle.std.specs.Prelude.{◌≡◌, ℕ, ◌+◌, ◌<◌, ◌≤◌, List, ◌∷◌, if◌then◌else◌, IsTrue, IfOk, OnOk, IfSome, Some};
 ghost use Rattle.std.specs.Str.{bytes_eq};
 ghost use Rattle.std.specs.FinMap as finite;
 ghost use Rattle.grok.specs.Tree as tree;
-ghost use Rattle.grok.specs.Tree.{items_of};
 ghost use Rattle.grok.specs.Keys.{is_recorded, wanted as wanted_by};
 ghost use Rattle.grok.specs.Items.{label_view, item_view};
 ghost use Rattle.grok.specs.Wanted.{Counts};
@@ -101,7 +100,8 @@ impl<'a> Tallies<'a> {
         self.by_name.get(&name)
     }
 
-    /// Counts an item of a text, with all that it opens. Answers whether that is known, and no fault.
+    /// Counts an item of a text, with all that it opens. Answers whether that is known to have no
+    /// fault.
     fn count_item(
         &self,
         mode: Mode<'a>,
