@@ -181,11 +181,12 @@ module _ (w : Watch) (is_watch : IsWatch w) (marker : Fault) (alias_only : Bool)
 
 -- ---- the first fault
 
-abbrev fault_of : Result Size Fault → Option Fault
+abbrev pub fault_of : Result Size Fault → Option Fault
 fault_of (Ok size) = None
 fault_of (Err fault) = Some fault
 
-tree_fault : (alias_only : Bool) (resolve : List ℕ → List Item) (definitions : Definitions) → IsSound resolve definitions → (levels : ℕ) (pattern : List ℕ)
+-- the first fault of the tree is that of the answer
+pub tree_fault : (alias_only : Bool) (resolve : List ℕ → List Item) (definitions : Definitions) → IsSound resolve definitions → (levels : ℕ) (pattern : List ℕ)
     → first_structural (tree_within levels resolve pattern) ≡ fault_of (measure_within levels alias_only resolve pattern).0
 tree_fault alias_only resolve definitions sound levels pattern = go (measure_within levels alias_only resolve pattern).0 refl
   where
