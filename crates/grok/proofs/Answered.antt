@@ -1,5 +1,5 @@
--- What the public measure answers.
-use Rattle.std.proofs.Common.{◌≡◌, ℕ, ◌≤◌, Bool, false, List, [], length, Result, Some, None, Ok, Err, Bor, refl, sym, ◌∙◌, ap, arith}
+-- What the public measure counts, and which aliases it meets.
+use Rattle.std.proofs.Common.{◌≡◌, ℕ, ◌≤◌, Bool, false, List, [], length, Result, None, Bor, refl, sym, ◌∙◌, ap, arith}
 use Rattle.std.specs.Ordering.{nat_cmp}
 use Rattle.std.specs.Cmp.Lexicographic.{slice_cmp}
 use Rattle.std.specs.BTreeMap.{BTreeMap, is_at}
@@ -12,17 +12,15 @@ use Rattle.grok.specs.declared.measure.Sum.{Sum}
 use Rattle.grok.specs.declared.measure.Met.{Met}
 use Rattle.grok.specs.declared.measure.Mark.{Mark}
 use Rattle.grok.specs.Maps.{Texts}
-use Rattle.grok.specs.Tree.{Fault, Item, items_of, Event, deepest, tree, first_structural, reached}
+use Rattle.grok.specs.Tree.{Item, items_of, Event, deepest, tree, first_structural, reached}
 use Rattle.grok.specs.Keys.{has_numbered_alias}
-use Rattle.grok.specs.Expanded.{expanded, groups, nesting}
-use Rattle.grok.specs.Sizes.{Size}
 use Rattle.grok.specs.Remembered.{Reading, look_within, nothing_met, measure_within}
-use Rattle.grok.specs.Measured.{Measured, size_within, fault_or, measured_tree, reached_pieces, reached_texts, counted}
-use Rattle.grok.specs.Met.{reading_of, shown_result, result_view, mark_view, measured_size, Shows, Stops}
+use Rattle.grok.specs.Measured.{reached_pieces, reached_texts, counted}
+use Rattle.grok.specs.Met.{reading_of, mark_view, Shows, Stops}
 use Rattle.grok.proofs.Sound.{length-items_of, sound_texts}
 use Rattle.grok.proofs.Defined.{table_of}
 use Rattle.grok.proofs.Going.{HasTallies, stopped_tallies}
-use Rattle.grok.proofs.Whole.{IsMeasureOf, measures, table_weight}
+use Rattle.grok.proofs.Whole.{ReadsTree, reads_tree, table_weight}
 
 pub shows_nothing : (marks : BTreeMap (Bor (List ℕ)) Mark) → marks.entries ≡ [] → Shows (record { marks = marks; looks = record { pieces = 0; ends = 0 }; has_numbered_alias = false }) nothing_met
 shows_nothing marks empty = record {
@@ -42,20 +40,9 @@ module _ (texts : Texts) (alias_only : Bool) (pattern : List ℕ) where
   abbrev whole : List Event
   whole = tree (finite.get texts) pattern
 
-  theorem : IsMeasureOf alias_only resolve (finite.entries texts) pattern whole answer
+  theorem : ReadsTree resolve (finite.entries texts) pattern whole answer.1
   unfolding tree
-  theorem = measures alias_only resolve (finite.get texts) (finite.entries texts) (table_of texts) (sound_texts (finite.get texts)) deepest pattern
-
-  measured_from : (s : Result Size Fault) → answer.0 ≡ s → measured_size s ≡ measured_tree alias_only whole
-  unfolding theorem
-  measured_from (Err fault) is = sym (ap (λ o. fault_or o (size_within (length (expanded alias_only whole)) (groups alias_only whole) (nesting whole))) (theorem.fault fault is))
-  measured_from (Ok z) is =
-      rw (theorem.clean z is, theorem.length_is z is, theorem.groups_are z is, theorem.nesting_is z is) refl
-
-  clean_ok : (s : Result Size Fault) → answer.0 ≡ s → first_structural whole ≡ None → (z : Size) × (answer.0 ≡ Ok z)
-  unfolding theorem
-  clean_ok (Err fault) is clean = let bad : Some fault ≡ None = sym (theorem.fault fault is) ∙ clean in cc
-  clean_ok (Ok z) is clean = (z, is)
+  theorem = reads_tree alias_only resolve (finite.get texts) (finite.entries texts) (table_of texts) (sound_texts (finite.get texts)) deepest pattern
 
   weight_same : table_weight (λ text. length (resolve text)) (finite.entries texts) pattern whole ≡ reached_pieces texts pattern
   weight_same = ap (λ (weight : List ℕ → ℕ). table_weight weight (finite.entries texts) pattern whole) (λ i text. length-items_of (finite.get texts) text i)
@@ -69,9 +56,6 @@ module _ (texts : Texts) (alias_only : Bool) (pattern : List ℕ) where
     tallies : HasTallies answer.1 given.now
     tallies = stopped_tallies deepest r frames met answer given
 
-    pub answer_is : (m : Measured) → ((s : Result Size Fault) → result_view r ≡ shown_result s → m ≡ measured_size s) → m ≡ measured_tree alias_only whole
-    answer_is m h = h answer.0 given.same ∙ measured_from answer.0 refl
-
     pub pieces_most : met.looks.pieces ≤ counted (reached_pieces texts pattern)
     pieces_most = omega (arith, given.shows.pieces, tallies.looks, theorem.looks, weight_same)
 
@@ -79,10 +63,10 @@ module _ (texts : Texts) (alias_only : Bool) (pattern : List ℕ) where
     ends_most = omega (arith, given.shows.ends, tallies.ends, theorem.ends)
 
     pub pieces_all : first_structural whole ≡ None → met.looks.pieces ≡ counted (reached_pieces texts pattern)
-    pieces_all clean = let (z, is) = clean_ok answer.0 refl clean in (given.shows.pieces ∙ ap counted (sym tallies.looks)) ∙ ap counted (theorem.looks_exact z is ∙ weight_same)
+    pieces_all clean = given.shows.pieces ∙ ap counted (sym tallies.looks ∙ theorem.looks_exact clean ∙ weight_same)
 
     pub ends_all : first_structural whole ≡ None → met.looks.ends ≡ counted (reached_texts texts pattern)
-    ends_all clean = let (z, is) = clean_ok answer.0 refl clean in (given.shows.ends ∙ ap counted (sym tallies.ends)) ∙ ap counted (theorem.ends_exact z is)
+    ends_all clean = given.shows.ends ∙ ap counted (sym tallies.ends ∙ theorem.ends_exact clean)
 
     pub pieces_read : met.looks.pieces ≡ counted (reading_of texts alias_only pattern).looks
     pieces_read = given.shows.pieces ∙ ap counted (sym tallies.looks)

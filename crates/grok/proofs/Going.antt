@@ -14,11 +14,12 @@ use Rattle.grok.specs.declared.measure.Entry.TheVariants.{Measured, Text}
 use Rattle.grok.specs.declared.defs.items.Label.{Label as CodeLabel}
 use Rattle.grok.specs.Tree.{Fault, MalformedPiece, Missing, TooDeep, Label, Inline, Stored, Item, PlaceholderItem}
 use Rattle.grok.specs.Items.{fault_view, label_view}
-use Rattle.grok.specs.Sizes.{Size, no_size, plus, both, bracketed, wrapped}
+use Rattle.grok.specs.Sizes.{Size, no_size, plus, bracketed, wrapped}
 use Rattle.grok.specs.Remembered as kept
 use Rattle.grok.specs.Remembered.{Begun, Done, Failed, Deep, answered, reach_within, failed_mark, State, Reading, looked, ended, labelled, with_mark, with_reach, deeper, inlined, then_rest, finish, by_answer, by_mark, visit, item_within, opened_within, look_within}
 use Rattle.grok.specs.Measured.{counted}
 use Rattle.grok.specs.Met.{shown, shown_mark, shown_result, result_view, mark_view, mark_of, is_kept, Shows, HasReach, Wraps, Gives, Knows, IsMarked, IsMet, IsOpened, MatchEntry, unwound, Stops}
+use Rattle.grok.proofs.Readings.{behind}
 use Rattle.grok.proofs.SizeLaws.{both_none, both_assoc, same_size}
 
 -- ---- marks
@@ -133,19 +134,16 @@ unwinds_more levels n all left frame fault st met after mark height next u room 
 
 -- ---- the loop
 
-abbrev pub combined : Size → Reading → Reading
-combined sum answer = (both (Ok sum) answer.0, with_reach answer.1 (max sum.height answer.1.reach))
-
 reached : (st : State) (m n : ℕ) → m ≡ n → with_reach st m ≡ with_reach st n
 reached st m n e = ap (with_reach st) e
 
-combined_none : (answer : Reading) → combined no_size answer ≡ answer
-combined_none answer =
+behind_none : (answer : Reading) → behind no_size answer ≡ answer
+behind_none answer =
     let same : max 0 answer.1.reach ≡ answer.1.reach = omega arith in
     λ i. (both_none answer.0 i, reached answer.1 (max 0 answer.1.reach) answer.1.reach same i)
 
-combined_twice : (a b : Size) (answer : Reading) → combined a (combined b answer) ≡ combined (plus a b) answer
-combined_twice a b answer =
+behind_twice : (a b : Size) (answer : Reading) → behind a (behind b answer) ≡ behind (plus a b) answer
+behind_twice a b answer =
     let same : max a.height (max b.height answer.1.reach) ≡ max (max a.height b.height) answer.1.reach = omega arith in
     λ i. (sym (both_assoc (Ok a) (Ok b) answer.0) i, reached answer.1 (max a.height (max b.height answer.1.reach)) (max (max a.height b.height) answer.1.reach) same i)
 
@@ -161,7 +159,7 @@ module _ (alias_only : Bool) (resolve : List ℕ → List Item) where
   -- what a text comes to that has this sum so far, opens one that comes to `inner`, and goes on with these items
   abbrev pub around : ℕ → Label → List Item → Size → Reading → Reading
   around levels label items total inner =
-      combined total (then_rest (wrapped alias_only label (finish label.name levels inner).0) (deeper (finish label.name levels inner).1) (reads levels items))
+      behind total (then_rest (wrapped alias_only label (finish label.name levels inner).0) (deeper (finish label.name levels inner).1) (reads levels items))
 
   -- within these frames, of which the outermost is first, what the innermost text comes to makes the whole
   abbrev pub AreAround : ℕ → List Frame → Reading → Reading → Type 0
@@ -289,12 +287,12 @@ module _ (alias_only : Bool) (resolve : List ℕ → List Item) where
     pub total : Size
     pub is_sum : so_far ≡ shown total
     pub shows : Shows met now
-    pub rest : AreAround levels frames (combined total (reads (levels - length frames) left now)) whole
+    pub rest : AreAround levels frames (behind total (reads (levels - length frames) left now)) whole
 
   pub goes_on_start : (levels : ℕ) (all : List Item) (st : State) (so_far : Sum) (met : Met) → so_far ≡ shown no_size → Shows met st → GoesOn levels (reads levels all st) [] all so_far met
   goes_on_start levels all st so_far met e shows =
       let same : levels - 0 ≡ levels = omega arith in
-      record { now = st; total = no_size; is_sum = e; shows = shows; rest = sym (combined_none (reads levels all st)) ∙ ap (λ n. combined no_size (reads n all st)) (sym same) }
+      record { now = st; total = no_size; is_sum = e; shows = shows; rest = sym (behind_none (reads levels all st)) ∙ ap (λ n. behind no_size (reads n all st)) (sym same) }
 
   -- a text has ended, and the one around it goes on
   pub end_goes_on : (levels : ℕ) (whole : Reading) (frames : List Frame) (frame : Frame) (so_far sum : Sum) (met after : Met) → GoesOn levels whole (frames ++ frame ∷ []) [] so_far met
@@ -308,9 +306,9 @@ module _ (alias_only : Bool) (resolve : List ℕ → List Item) where
       let left = reads (levels - length frames) frame.items in
       let size = bracketed alias_only (label_view frame.label) g.total in
       let last = deeper (with_mark read frame.label.name.now (Done g.total)) in
-      let same : around (levels - length frames) (label_view frame.label) frame.items p.total inner ≡ combined (plus p.total size) (left last) =
+      let same : around (levels - length frames) (label_view frame.label) frame.items p.total inner ≡ behind (plus p.total size) (left last) =
       ap (λ (z : Size). around (levels - length frames) (label_view frame.label) frame.items p.total (Ok z, read)) (plus_none_right g.total)
-      ∙ combined_twice p.total size (left last) in
+      ∙ behind_twice p.total size (left last) in
       record {
         now = last;
         total = plus p.total size;
@@ -335,7 +333,7 @@ module _ (alias_only : Bool) (resolve : List ℕ → List Item) where
       fault_stops failure last is fault height =
           let p = shown_err here.0 (fault_view failure.fault) (sym (ap result_view is) ∙ gives.same) in
           let now = with_reach here.1 (max g.total.height here.1.reach) in
-          let over : combined g.total (reads room (item ∷ left) g.now) ≡ (Err (fault_view failure.fault), now) = ap (λ (a : Result Size Fault). combined g.total (then_rest a here.1 (reads room left))) p in
+          let over : behind g.total (reads room (item ∷ left) g.now) ≡ (Err (fault_view failure.fault), now) = ap (λ (a : Result Size Fault). behind g.total (then_rest a here.1 (reads room left))) p in
           let end : whole ≡ (Err (fault_view failure.fault), unwound levels frames (fault_view failure.fault) now) = around_fault levels frames (fault_view failure.fault) now whole (subst (λ a. AreAround levels frames a whole) over g.rest) in
           let same : fault_view last.fault ≡ fault_view failure.fault = ap fault_view fault in
           let reached : here.1.reach ≡ failure.height = subst (λ a. HasReach a here.1) is gives.reach in
@@ -352,8 +350,8 @@ module _ (alias_only : Bool) (resolve : List ℕ → List Item) where
       unfolding gives
       sum_goes_on one sum is adds =
           let (z, p, q) = shown_ok here.0 one (sym (ap result_view is) ∙ gives.same) in
-          let over : combined g.total (reads room (item ∷ left) g.now) ≡ combined (plus g.total z) (reads room left here.1) =
-          ap (λ (a : Result Size Fault). combined g.total (then_rest a here.1 (reads room left))) p ∙ combined_twice g.total z (reads room left here.1) in
+          let over : behind g.total (reads room (item ∷ left) g.now) ≡ behind (plus g.total z) (reads room left here.1) =
+          ap (λ (a : Result Size Fault). behind g.total (then_rest a here.1 (reads room left))) p ∙ behind_twice g.total z (reads room left here.1) in
           record {
             now = here.1;
             total = plus g.total z;
@@ -377,11 +375,11 @@ module _ (alias_only : Bool) (resolve : List ℕ → List Item) where
         ap (λ n. visit alias_only resolve n label.name.now o.text before) fewer
         ∙ ap (λ n. by_mark (before.marks label.name.now) n before (finish label.name.now n inner)) (sym fewer)
         ∙ o.unknown (looked g.now) (shows_piece met g.now g.shows) (finish label.name.now room inner) in
-        let over : combined g.total (reads room (item ∷ left) g.now) ≡ around room l left g.total inner =
-        ap (λ i. combined g.total (reads room (i ∷ left) g.now)) o.is
-        ∙ ap (λ (a : Reading). combined g.total (then_rest (wrapped alias_only l a.0) (deeper a.1) (reads room left))) visited in
-        let same : inner ≡ combined no_size (reads (levels - length (frames ++ frame ∷ [])) items now) =
-        sym (combined_none inner) ∙ ap (λ n. combined no_size (reads n (resolve o.text) now)) less ∙ ap (λ is. combined no_size (reads (levels - length (frames ++ frame ∷ [])) is now)) (sym o.starts) in
+        let over : behind g.total (reads room (item ∷ left) g.now) ≡ around room l left g.total inner =
+        ap (λ i. behind g.total (reads room (i ∷ left) g.now)) o.is
+        ∙ ap (λ (a : Reading). behind g.total (then_rest (wrapped alias_only l a.0) (deeper a.1) (reads room left))) visited in
+        let same : inner ≡ behind no_size (reads (levels - length (frames ++ frame ∷ [])) items now) =
+        sym (behind_none inner) ∙ ap (λ n. behind no_size (reads n (resolve o.text) now)) less ∙ ap (λ is. behind no_size (reads (levels - length (frames ++ frame ∷ [])) is now)) (sym o.starts) in
         record {
           now = now;
           total = no_size;

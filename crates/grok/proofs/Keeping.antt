@@ -11,7 +11,7 @@ use Rattle.grok.specs.Tree.{Fault, Item, items_of, deepest, tree}
 use Rattle.grok.specs.Expanded.{expanded, groups, nesting}
 use Rattle.grok.specs.Items.{fault_view}
 use Rattle.grok.specs.Sizes.{Size, sizes, size_or_fault}
-use Rattle.grok.specs.Remembered.{State, look_within}
+use Rattle.grok.specs.Remembered.{State, nothing_met, look_within}
 use Rattle.grok.specs.Measured.{Measured, size_within, fault_or, measured_tree}
 use Rattle.grok.specs.Met.{shown_result, result_view, measured_size, Shows, HasReach, unwound, Stops, IsTrue, IsShownTrue}
 use Rattle.grok.proofs.TreeSizes.{tree_sizes}
@@ -25,6 +25,9 @@ module _ (texts : Texts) (alias_only : Bool) where
   outcome : (levels : ℕ) (pattern : List ℕ) (st : State) → IsTrue texts alias_only st → RightAnswer alias_only resolve (finite.get texts) levels pattern st
   outcome levels pattern st t =
       look_right alias_only resolve (finite.get texts) (sound_texts (finite.get texts)) levels pattern st (λ name mark text is stored. inr (t.says name mark text is stored)) t.none_begun
+
+  pub nothing_true : IsTrue texts alias_only nothing_met
+  nothing_true = record { none_begun = λ name is. cc; says = λ name mark text is stored. cc }
 
   -- the plain sum is read off the tree
   tree_from : (pattern : List ℕ) (s : Result Size Fault) → sizes alias_only (size_or_fault alias_only resolve deepest) (resolve pattern) ≡ s → measured_size s ≡ measured_tree alias_only (tree (finite.get texts) pattern)

@@ -48,6 +48,7 @@ module _ (alias_only : Bool) (resolve : List ℕ → List Item) (definitions : D
     abbrev TextReads : ℕ → Type 0
     TextReads levels = (label : Label) (text : List ℕ) (st : State) → definitions label.name ≡ Some text → OfText levels label text st (visit alias_only resolve levels label.name text st)
 
+    -- an item, and the items behind it if it has a size
     then_reads : (levels : ℕ) (item : Item) (items : List Item) (st : State) (first : Reading) → OfItem levels item (looked st) first → ((st' : State) → OfItems levels items st' (look_within alias_only resolve levels items st'))
         → OfItems levels (item ∷ items) st (then_rest first.0 first.1 (look_within alias_only resolve levels items))
     then_reads levels item items st (Err fault, st') h rest = steps.failed levels item items st fault st' h
@@ -66,6 +67,7 @@ module _ (alias_only : Bool) (resolve : List ℕ → List Item) (definitions : D
         then_reads levels (PlaceholderItem label (Stored text)) items st (enclosed alias_only label inner)
         (steps.stored levels label text (looked st) inner (v label text (labelled label (looked st)) sound.0)) (λ st'. items_read levels v items st' sound.1)
 
+    -- a text whose name has this mark, or none
     by_mark_reads : (levels : ℕ) (label : Label) (text : List ℕ) (st : State) (answer : Reading) → definitions label.name ≡ Some text → OfItems levels (resolve text) (with_mark st label.name Begun) answer
         → (known : Option (Mark Size)) → st.marks label.name ≡ known → OfText (suc levels) label text st (by_mark known (suc levels) st (finish label.name (suc levels) answer))
     by_mark_reads levels label text st answer stored h None is =

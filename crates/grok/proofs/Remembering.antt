@@ -20,6 +20,7 @@ marked_cases marks name mark other = go (bytes_eq name other) refl
     go true e = inl ((bytes_eq-Decides name other).0 e, rw e refl)
     go false e = inr (λ same. true≢false (sym ((bytes_eq-Decides name other).1 same) ∙ e), rw e refl)
 
+-- how high a text reaches with brackets around it, or behind a size
 high_wrapped : (alias_only : Bool) (label : Label) (r : Result Size Fault) (reach : ℕ) → suc (high r reach) ≡ high (wrapped alias_only label r) (suc reach)
 high_wrapped alias_only label (Ok a) reach = refl
 high_wrapped alias_only label (Err f) reach = refl
@@ -51,6 +52,7 @@ module _ (alias_only : Bool) (resolve : List ℕ → List Item) (definitions : D
     pub honest : IsHonest answer.1
     pub opens : (name : List ℕ) → answer.1.marks name ≡ Some Begun → st.marks name ≡ Some Begun
 
+  -- where what encloses a part is too deep if the part is, the open texts lead to it, too
   lead_through : (st : State) (outer inner : ℕ → Result Size Fault) → ((levels : ℕ) → inner levels ≡ Err TooDeep → outer levels ≡ Err TooDeep) → OpenLead st outer → OpenLead st inner
   lead_through st outer inner h lead name text met stored = let (down, far) = lead name text met stored in (down, λ levels deep. far levels (h levels deep))
 

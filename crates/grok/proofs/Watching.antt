@@ -1,4 +1,5 @@
--- An open that is watched for, of a name or with an alias that ends in a number in brackets, is met where the tree reaches one. For where a fault stands in place of each such open, reading meets that fault just where it would have met the open, and the first fault of the tree tells where that is.
+-- An open that is watched for, of a name or with an alias that ends in a number in brackets, is met where the tree reaches one.
+-- For where a fault stands in place of each such open, reading meets that fault just where it would have met the open, and the first fault of the tree tells whether there is one.
 use Rattle.std.proofs.Common.{◌≡◌, ℕ, suc, Bool, true, false, cond, ◌||◌, List, [], ◌∷◌, Option, Result, Some, None, Ok, Err, refl, sym, ◌∙◌, ap, subst, ◌⊎◌, inl, inr}
 use Rattle.std.proofs.lemmas.Bool.{true≢false}
 use Rattle.std.proofs.lemmas.Slice.Eq.{bytes_eq-Decides}
@@ -27,7 +28,7 @@ or_right : (a b : Bool) → b ≡ true → (a || b) ≡ true
 or_right true b e = refl
 or_right false b e = e
 
--- What is watched for, labels and names whose stored text is opened; the flag that is on once reading has met one; and whether a list of events has one.
+-- What is watched for: labels, and names whose stored text is opened. The flag is on once reading has met one, and `has` tells whether a list of events has one.
 pub record Watch : Type 0 where
   pub of_label : Label → Bool
   pub of_name : List ℕ → Bool
@@ -41,6 +42,7 @@ is_watched w label (Stored text) = w.of_label label || w.of_name label.name
 abbrev pub is_on : Watch → State → Bool
 is_on w st = w.flag st.marks st.numbered_alias
 
+-- how the flag changes, and where the first fault is with a fault in place of each such open
 pub record IsWatch (w : Watch) : Type 0 where
   pub starts_off : is_on w nothing_met ≡ false
   pub labels : (label : Label) (st : State) → is_on w (labelled label st) ≡ (w.of_label label || is_on w st)
@@ -54,6 +56,7 @@ IsMet w answer = (is_on w answer.1 ≡ true) ⊎ ((fault : Fault) × (name : Lis
 
 -- ---- reading, and reading where a fault stands in place of each open that is watched for
 
+-- a text that has to be read
 unread_mark : (levels : ℕ) (st : State) (fresh : Reading) (known : Option (Mark Size)) → ((mark : Mark Size) → known ≡ Some mark → answered mark levels ≡ None) → by_mark known levels st fresh ≡ fresh
 unread_mark levels st fresh None unread = refl
 unread_mark levels st fresh (Some mark) unread = ap (λ o. by_answer o (with_reach st (reach_within mark levels)) fresh) (unread mark refl)
@@ -84,6 +87,7 @@ module _ (w : Watch) (is_watch : IsWatch w) (marker : Fault) (alias_only : Bool)
     same : w.of_name label.name ≡ false → is_on w st ≡ false → Alike answer (visit alias_only blocking levels label.name text st)
     met : w.of_name label.name ≡ true → IsMet w answer
 
+  -- what was met inside brackets, or behind a size
   met_enclosed : (label : Label) (answer : Reading) → IsMet w answer → IsMet w (enclosed alias_only label answer)
   met_enclosed label answer (inl on) = inl on
   met_enclosed label answer (inr (fault, name, e, watched)) = inr (fault, name, ap (wrapped alias_only label) e, watched)
@@ -92,6 +96,7 @@ module _ (w : Watch) (is_watch : IsWatch w) (marker : Fault) (alias_only : Bool)
   met_behind size later (inl on) = inl on
   met_behind size later (inr (fault, name, e, watched)) = inr (fault, name, ap (both (Ok size)) e, watched)
 
+  -- the flag stays on
   label_on : (label : Label) (st : State) → is_on w st ≡ true → is_on w (labelled label st) ≡ true
   label_on label st on = is_watch.labels label st ∙ or_right (w.of_label label) (is_on w st) on
 
@@ -181,11 +186,12 @@ module _ (w : Watch) (is_watch : IsWatch w) (marker : Fault) (alias_only : Bool)
 
 -- ---- the first fault
 
-abbrev fault_of : Result Size Fault → Option Fault
+abbrev pub fault_of : Result Size Fault → Option Fault
 fault_of (Ok size) = None
 fault_of (Err fault) = Some fault
 
-tree_fault : (alias_only : Bool) (resolve : List ℕ → List Item) (definitions : Definitions) → IsSound resolve definitions → (levels : ℕ) (pattern : List ℕ)
+-- the first fault of the tree is that of the answer
+pub tree_fault : (alias_only : Bool) (resolve : List ℕ → List Item) (definitions : Definitions) → IsSound resolve definitions → (levels : ℕ) (pattern : List ℕ)
     → first_structural (tree_within levels resolve pattern) ≡ fault_of (measure_within levels alias_only resolve pattern).0
 tree_fault alias_only resolve definitions sound levels pattern = go (measure_within levels alias_only resolve pattern).0 refl
   where
