@@ -17,6 +17,8 @@ pub(crate) fn call(rt: &HostRuntime, name: &str) -> Result<()> {
         "clash" => compile::<Heads>(rt, &TWO_LEVELS, "%{A:x[1]}%{A:x}%{A:x}", false),
         "too_deep" => compile::<Heads>(rt, &[("A", "%{A}%{missing}")], "%{A}", false),
         "missing" => compile::<Heads>(rt, &[("A", "%{missing}%{A}")], "%{A}", false),
+        "missing_behind" => compile::<Heads>(rt, &TWO_LEVELS, "%{A:x[1]}%{B}%{missing}", false),
+        "clash_before" => compile::<Heads>(rt, &TWO_LEVELS, "%{A:A[1]}%{B}%{missing}", false),
         "aliases" => compile::<Heads>(rt, &USERS, "%{USER:usr:text}", true),
         "all_names" => compile::<Heads>(rt, &USERS, "%{USER:usr:text}", false),
         "refused" => compile::<Refuser>(rt, &TWO_LEVELS, "%{A}", false),
