@@ -1,4 +1,4 @@
-use Rattle.std.proofs.Common.{◌≡◌, ℕ, false, List, Some, None, sym, ◌∙◌, ap, subst}
+use Rattle.std.proofs.Common.{rules, ◌≡◌, ℕ, false, List, Some, None, sym, ◌∙◌, ap, subst}
 use Rattle.std.specs.FinMap as finite
 use Rattle.grok.specs.Tree.{Event, tree, first_structural, reached, Fault}
 use Rattle.grok.specs.Keys.{has_numbered_alias}
@@ -59,3 +59,7 @@ pub returns-in_err-names-in-Fault : goal.returns-in_err-names-in-Fault
 returns-in_err-names-in-Fault g c =
     no_memory g.E.Engine.source_of g.E.Engine.group_names g.E.Engine.may_refuse (expansion_of c.args.self.now c.args.with_alias_only c.args.pattern.now)
     (some_bytes c.args.pattern.now (sym c.is_empty.ensures ∙ c.if-is_empty.false)) c.from_residual-in_err-names-in-Fault.result c.from_residual-in_err-names-in-Fault.ensures.1
+
+-- by one tactic, so that a wrong body is refused at once
+pub returns : goal.returns
+returns g c = search rules
