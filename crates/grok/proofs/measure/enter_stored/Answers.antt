@@ -27,3 +27,13 @@ returns-then-levels-eq0-clause-gives c st shows =
 
 pub returns-then-levels-eq0-clause-low : goal.returns-then-levels-eq0-clause-low
 returns-then-levels-eq0-clause-low c = c.wrap.ensures.low c.args.levels tt
+
+-- what follows says nothing of a text that is opened
+pub returns-clause-marks : goal.returns-clause-marks
+returns-clause-marks c = tt
+
+pub returns-clause-low : goal.returns-clause-low
+returns-clause-low c = tt
+
+pub returns-clause-reach : goal.returns-clause-reach
+returns-clause-reach c = tt

@@ -6,6 +6,6 @@ use Rattle.grok.proofs.engine.regex_engine.write_locations.Given as goal
 
 abbrev pub invariant-groups : goal.invariant-groups
 invariant-groups l =
-    (located_texts (captures_haystack l.found) l.locations.items ≡ texts_at (captures_haystack l.found) (captures_span l.found) l.number)
+    (vec_len l.locations ≡ l.number)
+    × (located_texts (captures_haystack l.found) l.locations.items ≡ texts_at (captures_haystack l.found) (captures_span l.found) l.number)
     × AreLocationsIn (captures_haystack l.found) l.locations.items
-    × (vec_len l.locations ≡ l.number)

@@ -1,4 +1,4 @@
-use Rattle.std.proofs.Common.{Some, IsTrue, true, sym, ap, subst, ◌∙◌}
+use Rattle.std.proofs.Common.{Some, IsTrue, length, true, sym, ap, subst, ◌∙◌}
 use Rattle.grok.specs.Locations.{AreLocationsIn, located_texts}
 use Rattle.grok.proofs.Captured.{captured}
 use Rattle.grok.proofs.engine.matcher.RegexMatcherEngineMatcher.captures_read.Goals as goal
@@ -13,3 +13,7 @@ pub returns-in_ok-write_locations-in-Some-clause-inside : goal.returns-in_ok-wri
 returns-in_ok-write_locations-in-Some-clause-inside c =
     subst (λ line. IsTrue true → AreLocationsIn line c.write_locations.new.locations.items) c.in-Some.ensures.found.2.0
     (λ _. c.in_ok-write_locations-in-Some.ensures.inside)
+
+pub returns-in_ok-write_locations-in-Some-clause-places : goal.returns-in_ok-write_locations-in-Some-clause-places
+returns-in_ok-write_locations-in-Some-clause-places c _ =
+    c.in_ok-write_locations-in-Some.ensures.count ∙ ap length c.in-Some.ensures.names
