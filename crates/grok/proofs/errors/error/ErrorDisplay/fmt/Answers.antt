@@ -1,6 +1,5 @@
-use Rattle.std.proofs.Common.{rules}
 use Rattle.grok.proofs.errors.error.ErrorDisplay.fmt.Goals as goal
 
--- by one tactic, so that a wrong body is refused at once
+-- a term, so that other words are refused at once
 pub returns-in-Memory-clause-writes : goal.returns-in-Memory-clause-writes
-returns-in-Memory-clause-writes g c = search rules
+returns-in-Memory-clause-writes g c = rw c.in-Memory.is c.write-in-Memory.ensures.writes
