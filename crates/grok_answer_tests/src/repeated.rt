@@ -159,6 +159,18 @@ const ROWS: &[Row] = &[
             ("-ab", "no match"),
         ],
     },
+    Row {
+        name: "words on lines that aren't ASCII, of over 100 bytes and shorter",
+        definitions: &[("WORD", "[a-z]+")],
+        pattern: r"\b%{WORD:word}\b!",
+        lines: &[
+            ("日本語 日本語 日本語 日本語 日本語 日本語 日本語 日本語 日本語 日本語 日本語 ab!", "word=ab"),
+            ("日本語 ab!", "word=ab"),
+            ("日本語 日本語 日本語 日本語 日本語 日本語 日本語 日本語 日本語 日本語 日本語ab!", "no match"),
+            ("日本語ab!", "no match"),
+            ("ab!", "word=ab"),
+        ],
+    },
 ];
 
 #[test]
@@ -172,23 +184,23 @@ fn lines_asked_again_and_again(rt: HostRuntime) -> Result<(), Fail> {
 /// Lines about as long as the tables serve: so many times `a`, what stands behind that, and the answer to the pattern
 /// `^a*(?<last>[^a!])?(?<end>z)?$`.
 const LONG_LINES: [(usize, &str, &str); 14] = [
-    // 511 bytes
-    (511, "", ""),
-    (509, "é", "last=é"),
-    (510, "!", "no match"),
-    // 512 bytes
-    (512, "", ""),
-    (510, "é", "last=é"),
-    (508, "日z", "end=z, last=日"),
-    (511, "!", "no match"),
-    // 513 bytes, the last ones with a character across the border
-    (513, "", ""),
-    (512, "!", "no match"),
-    (511, "é", "last=é"),
-    (510, "日", "last=日"),
-    (510, "é!", "no match"),
-    // 514 bytes, with a character across the border
-    (511, "éz", "end=z, last=é"),
+    // 399 bytes
+    (399, "", ""),
+    (397, "é", "last=é"),
+    (398, "!", "no match"),
+    // 400 bytes
+    (400, "", ""),
+    (398, "é", "last=é"),
+    (396, "日z", "end=z, last=日"),
+    (399, "!", "no match"),
+    // 401 bytes, the last ones with a character across the border
+    (401, "", ""),
+    (400, "!", "no match"),
+    (399, "é", "last=é"),
+    (398, "日", "last=日"),
+    (398, "é!", "no match"),
+    // 402 bytes, with a character across the border
+    (399, "éz", "end=z, last=é"),
     // A short one, so that the tables are made soon.
     (2, "b", "last=b"),
 ];
