@@ -253,12 +253,12 @@ module _ (alias_only : Bool) (resolve : List ℕ → List Item) where
   abbrev StoredEntry : ℕ → CodeLabel → List ℕ → Met → Met → Entry → Type 0
   StoredEntry levels label text before after entry = MatchEntry entry
       (λ r. (st : State) → Shows before st → Gives r after (opened_within alias_only resolve levels (label_view label) text st))
-      (λ opened items. (opened ≡ label) × (items ≡ resolve text) × (0 < levels) × IsMet label.name.now levels before after)
+      (λ opened it. (opened ≡ label) × (it ≡ text) × (0 < levels) × IsMet label.name.now levels before after)
 
   abbrev ItemEntry : ℕ → Item → Met → Met → Entry → Type 0
   ItemEntry levels item before after entry = MatchEntry entry
       (λ r. (st : State) → Shows before st → Gives r after (item_within alias_only resolve levels item st))
-      (λ label items. IsOpened resolve levels item label items before after)
+      (λ label text. IsOpened levels item label text before after)
 
   -- a text that is opened under a label
   pub labelled_entry : (levels : ℕ) (item : Item) (label : CodeLabel) (text : List ℕ) (before mid after : Met) (entry : Entry) → item ≡ PlaceholderItem (label_view label) (Stored text)
@@ -266,18 +266,17 @@ module _ (alias_only : Bool) (resolve : List ℕ → List Item) where
       → StoredEntry levels label text mid after entry → ItemEntry levels item before after entry
   labelled_entry levels item label text before mid after (Measured r) is shows same h = λ st s.
       subst (λ i. Gives r after (item_within alias_only resolve levels i st)) (sym is) (h (labelled (label_view label) st) (shows st s))
-  labelled_entry levels item label text before mid after (Text opened items) is shows same (it, starts, room, met) =
-      subst (λ l. IsOpened resolve levels item l items before after) (sym it)
+  labelled_entry levels item label text before mid after (Text opened stored) is shows same (it, read, room, met) =
+      subst (λ l. IsOpened levels item l stored.now before after) (sym it)
+      (subst (λ t. IsOpened levels item label t before after) (sym read)
       (record {
-        text = text;
         is = is;
-        starts = starts;
         room = room;
         unkept = sym (ap (λ m. is_kept (mark_of m label.name.now)) same) ∙ met.unkept;
         unknown = λ st s. met.unknown (labelled (label_view label) st) (shows st s);
         marked = λ other. met.marked other ∙ ap (λ m. cond (bytes_eq label.name.now other) (Some mark.Begun) (mark_of m other)) same;
         shows = λ st s. met.shows (labelled (label_view label) st) (shows st s);
-      })
+      }))
 
   -- ---- the loop
 
@@ -361,25 +360,25 @@ module _ (alias_only : Bool) (resolve : List ℕ → List Item) where
           }
 
     -- a text is opened, and the one around it waits
-    pub text_goes_on : (label : CodeLabel) (items : List Item) (start : Sum) → IsOpened resolve room item label items (piece_counted met) after → start ≡ shown no_size
-        → GoesOn levels whole (frames ++ record { label = label; items = left; sum = so_far } ∷ []) items start after
-    text_goes_on label items start o none_yet =
+    pub text_goes_on : (label : CodeLabel) (text : List ℕ) (start : Sum) → IsOpened room item label text (piece_counted met) after → start ≡ shown no_size
+        → GoesOn levels whole (frames ++ record { label = label; items = left; sum = so_far } ∷ []) (resolve text) start after
+    text_goes_on label text start o none_yet =
         let frame : Frame = record { label = label; items = left; sum = so_far } in
         let l = label_view label in
         let before = labelled l (looked g.now) in
         let now = with_mark before label.name.now Begun in
         let fewer : room ≡ suc (room - 1) = omega (arith, o.room) in
         let less : room - 1 ≡ levels - length (frames ++ frame ∷ []) = omega (arith, length-append frames (frame ∷ [])) in
-        let inner = reads (room - 1) (resolve o.text) now in
-        let visited : visit alias_only resolve room label.name.now o.text before ≡ finish label.name.now room inner =
-        ap (λ n. visit alias_only resolve n label.name.now o.text before) fewer
+        let inner = reads (room - 1) (resolve text) now in
+        let visited : visit alias_only resolve room label.name.now text before ≡ finish label.name.now room inner =
+        ap (λ n. visit alias_only resolve n label.name.now text before) fewer
         ∙ ap (λ n. by_mark (before.marks label.name.now) n before (finish label.name.now n inner)) (sym fewer)
         ∙ o.unknown (looked g.now) (shows_piece met g.now g.shows) (finish label.name.now room inner) in
         let over : behind g.total (reads room (item ∷ left) g.now) ≡ around room l left g.total inner =
         ap (λ i. behind g.total (reads room (i ∷ left) g.now)) o.is
         ∙ ap (λ (a : Reading). behind g.total (then_rest (wrapped alias_only l a.0) (deeper a.1) (reads room left))) visited in
-        let same : inner ≡ behind no_size (reads (levels - length (frames ++ frame ∷ [])) items now) =
-        sym (behind_none inner) ∙ ap (λ n. behind no_size (reads n (resolve o.text) now)) less ∙ ap (λ is. behind no_size (reads (levels - length (frames ++ frame ∷ [])) is now)) (sym o.starts) in
+        let same : inner ≡ behind no_size (reads (levels - length (frames ++ frame ∷ [])) (resolve text) now) =
+        sym (behind_none inner) ∙ ap (λ n. behind no_size (reads n (resolve text) now)) less in
         record {
           now = now;
           total = no_size;

@@ -123,12 +123,10 @@ pub record IsMet (name : List ℕ) (levels : ℕ) (before after : Met) : Type 0 
   pub marked : IsMarked name mark.Begun before after
   pub shows : (st : State) → Shows before st → Shows after (with_mark st name Begun)
 
--- the item opens a text of a name that has to be read, with these items
-pub record IsOpened (resolve : List ℕ → List tree.Item) (levels : ℕ) (item : tree.Item) (label : Label)
-    (items : List tree.Item) (before after : Met) : Type 0 where
-  pub text : List ℕ
+-- the item opens this text of a name that has to be read
+pub record IsOpened (levels : ℕ) (item : tree.Item) (label : Label) (text : List ℕ)
+    (before after : Met) : Type 0 where
   pub is : item ≡ tree.PlaceholderItem (label_view label) (tree.Stored text)
-  pub starts : items ≡ resolve text
   pub room : 0 < levels
   pub unkept : is_kept (mark_of before.marks label.name.now) ≡ false
   pub unknown : (st : State) → Shows before st → (fresh : Reading)
@@ -137,13 +135,13 @@ pub record IsOpened (resolve : List ℕ → List tree.Item) (levels : ℕ) (item
   pub shows : (st : State) → Shows before st → Shows after (with_mark
       (labelled (label_view label) st) label.name.now Begun)
 
-abbrev pub MatchEntry : Entry → (Result Sum Failure → Type 0) → (Label → List tree.Item → Type 0) → Type 0
+abbrev pub MatchEntry : Entry → (Result Sum Failure → Type 0) → (Label → List ℕ → Type 0) → Type 0
 MatchEntry (entry.Measured r) Is Opens = Is r
-MatchEntry (entry.Text label items) Is Opens = Opens label items
+MatchEntry (entry.Text label stored) Is Opens = Opens label stored.now
 
 abbrev pub IfMeasured : Entry → (Result Sum Failure → Type 0) → Type 0
 IfMeasured (entry.Measured r) Is = Is r
-IfMeasured (entry.Text label items) Is = Unit {0}
+IfMeasured (entry.Text label stored) Is = Unit {0}
 
 -- ---- from one pattern to the next
 

@@ -106,7 +106,7 @@ enum Entry<'a> {
     /// Its sum, or its fault.
     Measured(Result<Sum, Failure<'a>>),
     /// It opens a text that wasn't met before.
-    Text(Label<'a>, Items<'a>),
+    Text(Label<'a>, &'a Definition),
 }
 
 /// The definitions, and whether placeholders without an alias are left unrecorded.
@@ -369,8 +369,7 @@ fn enter_stored<'a>(
         (λ r. (st : State) → Shows met.old st → Gives r met.new
         (opened_within mode.entry.with_alias_only (items_in mode.entry.grok.now) levels
         (label_view label.entry) stored.now st))
-        (λ opened items. (opened ≡ label.entry) × (items ≡ items_in mode.entry.grok.now stored.now)
-        × (0 < levels)
+        (λ opened text. (opened ≡ label.entry) × (text ≡ stored.now) × (0 < levels)
         × IsMet label.entry.name.now levels met.old met.new)) }
     ensures marks { IfOk result (λ entry. IfMeasured entry (λ r. met.new.marks ≡ met.old.marks)) }
     ensures low { IfOk result
@@ -385,8 +384,7 @@ fn enter_stored<'a>(
         return Ok(Entry::Measured(wrap(mode, label, known)));
     }
     met.mark(label.name, Mark::Begun)?;
-    let items = Items::of_stored(mode.alloc, mode.grok, stored);
-    Ok(Entry::Text(label, items))
+    Ok(Entry::Text(label, stored))
 }
 
 /// What an item comes to that was taken, where so many levels may be opened.
@@ -401,8 +399,7 @@ fn enter<'a>(
         (λ r. (st : State) → Shows met.old st → Gives r met.new
         (item_within mode.entry.with_alias_only (items_in mode.entry.grok.now) levels
         (item_view item.entry) st))
-        (λ label items. IsOpened (items_in mode.entry.grok.now) levels
-        (item_view item.entry) label items met.old met.new)) }
+        (λ label text. IsOpened levels (item_view item.entry) label text met.old met.new)) }
     ensures marks { IfOk result (λ entry. IfMeasured entry (λ r. met.new.marks ≡ met.old.marks)) }
     ensures low { IfOk result
         (λ entry. IfMeasured entry (λ r. IfOk r (λ sum. sum.height ≤ levels))) }
@@ -456,9 +453,9 @@ fn measure_text<'a>(
             Some(item) => match enter(mode, met, item, levels - frames.len())? {
                 Entry::Measured(Ok(one)) => sum = add(sum, one),
                 Entry::Measured(Err(failure)) => return Ok(Err(behind(sum, failure))),
-                Entry::Text(label, inner) => {
+                Entry::Text(label, stored) => {
                     frames.push(Frame { label, items, sum })?;
-                    items = inner;
+                    items = Items::of_stored(mode.alloc, mode.grok, stored);
                     sum = sum_of_bytes("");
                 }
             },

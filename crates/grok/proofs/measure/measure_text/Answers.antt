@@ -73,16 +73,17 @@ items-smaller-in-Text c =
     let item = item_view c.in-Some.item in
     let met = c.items.met in
     let after = c.enter.new.met in
+    let text = c.in-Text.stored.now in
     let taken : (c.items.items ≡ item ∷ c.look.new.items) × (c.look.new.looks ≡ record { pieces = counted (met.looks.pieces + 1); ends = met.looks.ends }) = rw c.in-Some.is at c.in_ok-item.ensures in
     let room : levels - c.len.result ≡ levels - length frames = omega arith in
-    let opened : IsOpened resolve (levels - c.len.result) item c.in-Text.label c.in-Text.inner (record met { looks = c.look.new.looks }) after = rw c.in-Text.is at c.in_ok-one-in-Some.ensures.gives in
+    let opened : IsOpened (levels - c.len.result) item c.in-Text.label text (record met { looks = c.look.new.looks }) after = rw c.in-Text.is at c.in_ok-one-in-Some.ensures.gives in
     let frame : Frame = record { label = c.in-Text.label; items = c.look.new.items; sum = c.items.sum } in
     let pushed : c.push.new.self.items ≡ frames ++ frame ∷ [] = c.in_ok-push-in-Text.ensures.items in
     let sound : AreSound resolve (finite.get texts) (item ∷ c.look.new.items) = subst (AreSound resolve (finite.get texts)) taken.0 c.items.invariant.sound in
-    subst (λ items. work_left resolve (finite.get texts) (finite.entries texts) after c.in-Text.inner c.push.new.self.items < work_left resolve (finite.get texts) (finite.entries texts) met items frames) (sym taken.0)
-    (subst (λ items. work_left resolve (finite.get texts) (finite.entries texts) after items c.push.new.self.items < work_left resolve (finite.get texts) (finite.entries texts) met (item ∷ c.look.new.items) frames) (sym opened.starts)
-    (subst (λ fs. work_left resolve (finite.get texts) (finite.entries texts) after (resolve opened.text) fs < work_left resolve (finite.get texts) (finite.entries texts) met (item ∷ c.look.new.items) frames) (sym pushed)
-    (less_opened resolve (finite.get texts) (finite.entries texts) (table_of texts) met after item c.look.new.items frames frame (label_view c.in-Text.label) opened.text opened.is sound opened.unkept opened.marked refl)))
+    subst (λ items. work_left resolve (finite.get texts) (finite.entries texts) after c.of_stored-items.result c.push.new.self.items < work_left resolve (finite.get texts) (finite.entries texts) met items frames) (sym taken.0)
+    (subst (λ items. work_left resolve (finite.get texts) (finite.entries texts) after items c.push.new.self.items < work_left resolve (finite.get texts) (finite.entries texts) met (item ∷ c.look.new.items) frames) (sym c.of_stored-items.ensures)
+    (subst (λ fs. work_left resolve (finite.get texts) (finite.entries texts) after (resolve text) fs < work_left resolve (finite.get texts) (finite.entries texts) met (item ∷ c.look.new.items) frames) (sym pushed)
+    (less_opened resolve (finite.get texts) (finite.entries texts) (table_of texts) met after item c.look.new.items frames frame (label_view c.in-Text.label) text opened.is sound opened.unkept opened.marked refl)))
 
 pub items-preserved-in-Text : goal.items-preserved-in-Text
 items-preserved-in-Text c =
@@ -94,25 +95,27 @@ items-preserved-in-Text c =
     let item = item_view c.in-Some.item in
     let met = c.items.met in
     let after = c.enter.new.met in
+    let text = c.in-Text.stored.now in
     let taken : (c.items.items ≡ item ∷ c.look.new.items) × (c.look.new.looks ≡ record { pieces = counted (met.looks.pieces + 1); ends = met.looks.ends }) = rw c.in-Some.is at c.in_ok-item.ensures in
     let room : levels - c.len.result ≡ levels - length frames = omega arith in
-    let opened : IsOpened resolve (levels - c.len.result) item c.in-Text.label c.in-Text.inner (record met { looks = c.look.new.looks }) after = rw c.in-Text.is at c.in_ok-one-in-Some.ensures.gives in
+    let opened : IsOpened (levels - c.len.result) item c.in-Text.label text (record met { looks = c.look.new.looks }) after = rw c.in-Text.is at c.in_ok-one-in-Some.ensures.gives in
     let frame : Frame = record { label = c.in-Text.label; items = c.look.new.items; sum = c.items.sum } in
     let pushed : c.push.new.self.items ≡ frames ++ frame ∷ [] = c.in_ok-push-in-Text.ensures.items in
     let sound : AreSound resolve (finite.get texts) (item ∷ c.look.new.items) = subst (AreSound resolve (finite.get texts)) taken.0 c.items.invariant.sound in
-    let here : IsOpened resolve (levels - length frames) item c.in-Text.label c.in-Text.inner (piece_counted met) after =
-    subst (λ n. IsOpened resolve n item c.in-Text.label c.in-Text.inner (piece_counted met) after) room
-    (subst (λ (looks : Looks). IsOpened resolve (levels - c.len.result) item c.in-Text.label c.in-Text.inner (record met { looks = looks }) after) taken.1 opened) in
+    let here : IsOpened (levels - length frames) item c.in-Text.label text (piece_counted met) after =
+    subst (λ n. IsOpened n item c.in-Text.label text (piece_counted met) after) room
+    (subst (λ (looks : Looks). IsOpened (levels - c.len.result) item c.in-Text.label text (record met { looks = looks }) after) taken.1 opened) in
     let some = opened.room in
     record {
       goes_on = λ st shows.
           let whole = look_within alias_only resolve levels (resolve c.args.text.now) st in
-          subst (λ fs. GoesOn alias_only resolve levels whole fs c.in-Text.inner c.sum_of_bytes-sum-in-Text.result after) (sym pushed)
+          subst (λ items. GoesOn alias_only resolve levels whole c.push.new.self.items items c.sum_of_bytes-sum-in-Text.result after) (sym c.of_stored-items.ensures)
+          (subst (λ fs. GoesOn alias_only resolve levels whole fs (resolve text) c.sum_of_bytes-sum-in-Text.result after) (sym pushed)
           (text_goes_on alias_only resolve levels whole frames item c.look.new.items c.items.sum met after (subst (λ items. GoesOn alias_only resolve levels whole frames items c.items.sum met) taken.0 (c.items.invariant.goes_on st shows))
-          c.in-Text.label c.in-Text.inner c.sum_of_bytes-sum-in-Text.result here c.sum_of_bytes-sum-in-Text.ensures.shown);
+          c.in-Text.label text c.sum_of_bytes-sum-in-Text.result here c.sum_of_bytes-sum-in-Text.ensures.shown));
       fit = subst (AreFit resolve (finite.get texts) levels) (sym pushed) (fit_push resolve (finite.get texts) levels frames frame c.items.invariant.fit c.items.invariant.low (sound_rest resolve (finite.get texts) item c.look.new.items sound));
       low = omega (arith, c.sum_of_bytes-sum-in-Text.ensures.height);
-      sound = subst (AreSound resolve (finite.get texts)) (sym opened.starts) ((sound_texts (finite.get texts)).sound opened.text);
+      sound = subst (AreSound resolve (finite.get texts)) (sym c.of_stored-items.ensures) ((sound_texts (finite.get texts)).sound text);
       few = omega (arith, some, ap length pushed, length-append frames (frame ∷ []), room);
     }
 
