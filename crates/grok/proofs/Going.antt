@@ -10,11 +10,12 @@ use Rattle.grok.specs.declared.measure.Mark.TheVariants as mark
 use Rattle.grok.specs.declared.measure.Failure.{Failure}
 use Rattle.grok.specs.declared.measure.Frame.{Frame}
 use Rattle.grok.specs.declared.measure.Entry.{Entry}
-use Rattle.grok.specs.declared.measure.Entry.TheVariants.{Measured, Text}
+use Rattle.grok.specs.declared.measure.Entry.TheVariants.{Measured, Unread}
 use Rattle.grok.specs.declared.defs.items.Label.{Label as CodeLabel}
-use Rattle.grok.specs.Tree.{Fault, MalformedPiece, Missing, TooDeep, Label, Inline, Stored, Item, PlaceholderItem}
+use Rattle.grok.specs.Tree.{Fault, MalformedPiece, Missing, TooDeep, Label, Meaning, Inline, Stored, Item, TextItem, FaultItem, PlaceholderItem}
 use Rattle.grok.specs.Items.{fault_view, label_view}
-use Rattle.grok.specs.Sizes.{Size, no_size, plus, bracketed, wrapped}
+use Rattle.grok.specs.Keys.{is_recorded}
+use Rattle.grok.specs.Sizes.{Size, no_size, size_of_bytes, plus, in_brackets, sum_in_brackets, wrapped}
 use Rattle.grok.specs.Remembered as kept
 use Rattle.grok.specs.Remembered.{Begun, Done, Failed, Deep, answered, reach_within, failed_mark, State, Reading, looked, ended, labelled, with_mark, with_reach, deeper, inlined, then_rest, finish, by_answer, by_mark, visit, item_within, opened_within, look_within}
 use Rattle.grok.specs.Measured.{counted}
@@ -100,7 +101,7 @@ unwound_push levels [] frame fault st =
     ap (λ n. unwound n (frame ∷ []) fault st) all
 unwound_push levels (f ∷ frames) frame fault st =
     let fewer : levels - 1 - length frames ≡ levels - suc (length frames) = omega arith in
-    let outer : State → State = λ inner. with_reach (with_mark inner f.label.name.now (failed_mark fault levels inner.reach)) (max f.sum.height (suc inner.reach)) in
+    let outer : State → State = λ inner. with_reach (with_mark inner f.name.now (failed_mark fault levels inner.reach)) (max f.sum.height (suc inner.reach)) in
     ap outer (unwound_push (levels - 1) frames frame fault st ∙ ap (λ n. unwound (levels - 1) frames fault (unwound n (frame ∷ []) fault st)) fewer)
 
 pub shown_failed : (fault : Fault) (levels reach : ℕ) → failed_mark fault levels reach ≡ shown_mark (failed_mark fault levels reach)
@@ -117,10 +118,10 @@ pub record Unwinds (levels : ℕ) (all left : List Frame) (fault : Fault) (st : 
 
 pub unwinds_more : (levels n : ℕ) (all left : List Frame) (frame : Frame) (fault : Fault) (st : State) (met after : Met) (mark : Mark) (height next : ℕ)
     → Unwinds levels all (left ++ frame ∷ []) fault st met height → n ≡ levels - length left → mark_view mark ≡ failed_mark fault n height → next ≡ max frame.sum.height (suc height)
-    → ((st : State) (known : kept.Mark Size) → mark_view mark ≡ shown_mark known → Shows met st → Shows after (with_mark st frame.label.name.now known))
+    → ((st : State) (known : kept.Mark Size) → mark_view mark ≡ shown_mark known → Shows met st → Shows after (with_mark st frame.name.now known))
     → Unwinds levels all left fault st after next
 unwinds_more levels n all left frame fault st met after mark height next u room is high marks =
-    let name = frame.label.name.now in
+    let name = frame.name.now in
     let now = u.now in
     let marked : mark_view mark ≡ shown_mark (failed_mark fault (levels - length left) now.reach) =
     is ∙ ap (λ k. failed_mark fault k height) room ∙ ap (failed_mark fault (levels - length left)) (sym u.reach) ∙ shown_failed fault (levels - length left) now.reach in
@@ -157,29 +158,29 @@ module _ (alias_only : Bool) (resolve : List ℕ → List Item) where
   -- ---- frames
 
   -- what a text comes to that has this sum so far, opens one that comes to `inner`, and goes on with these items
-  abbrev pub around : ℕ → Label → List Item → Size → Reading → Reading
-  around levels label items total inner =
-      behind total (then_rest (wrapped alias_only label (finish label.name levels inner).0) (deeper (finish label.name levels inner).1) (reads levels items))
+  abbrev pub around : ℕ → List ℕ → Bool → List Item → Size → Reading → Reading
+  around levels name recorded items total inner =
+      behind total (then_rest (sum_in_brackets recorded (finish name levels inner).0) (deeper (finish name levels inner).1) (reads levels items))
 
   -- within these frames, of which the outermost is first, what the innermost text comes to makes the whole
   abbrev pub AreAround : ℕ → List Frame → Reading → Reading → Type 0
   AreAround levels [] inner whole = whole ≡ inner
   AreAround levels (frame ∷ frames) inner whole =
-      (total : Size) × (mid : Reading) × (frame.sum ≡ shown total) × (whole ≡ around levels (label_view frame.label) frame.items total mid) × AreAround (levels - 1) frames inner mid
+      (total : Size) × (mid : Reading) × (frame.sum ≡ shown total) × (whole ≡ around levels frame.name.now frame.is_recorded frame.items total mid) × AreAround (levels - 1) frames inner mid
 
   around_push : (levels : ℕ) (frames : List Frame) (frame : Frame) (total : Size) (inner whole : Reading) → frame.sum ≡ shown total
-      → AreAround levels frames (around (levels - length frames) (label_view frame.label) frame.items total inner) whole → AreAround levels (frames ++ frame ∷ []) inner whole
+      → AreAround levels frames (around (levels - length frames) frame.name.now frame.is_recorded frame.items total inner) whole → AreAround levels (frames ++ frame ∷ []) inner whole
   around_push levels [] frame total inner whole sum h =
       let all : levels - 0 ≡ levels = omega arith in
-      (total, inner, sum, h ∙ ap (λ n. around n (label_view frame.label) frame.items total inner) all, refl)
+      (total, inner, sum, h ∙ ap (λ n. around n frame.name.now frame.is_recorded frame.items total inner) all, refl)
   around_push levels (f ∷ frames) frame total inner whole sum (t, mid, s, is, h) =
       let fewer : levels - suc (length frames) ≡ levels - 1 - length frames = omega arith in
-      (t, mid, s, is, around_push (levels - 1) frames frame total inner mid sum (subst (λ n. AreAround (levels - 1) frames (around n (label_view frame.label) frame.items total inner) mid) fewer h))
+      (t, mid, s, is, around_push (levels - 1) frames frame total inner mid sum (subst (λ n. AreAround (levels - 1) frames (around n frame.name.now frame.is_recorded frame.items total inner) mid) fewer h))
 
   pub record Popped (levels : ℕ) (frames : List Frame) (frame : Frame) (inner whole : Reading) : Type 0 where
     pub total : Size
     pub is_sum : frame.sum ≡ shown total
-    pub rest : AreAround levels frames (around (levels - length frames) (label_view frame.label) frame.items total inner) whole
+    pub rest : AreAround levels frames (around (levels - length frames) frame.name.now frame.is_recorded frame.items total inner) whole
 
   around_pop : (levels : ℕ) (frames : List Frame) (frame : Frame) (inner whole : Reading) → AreAround levels (frames ++ frame ∷ []) inner whole → Popped levels frames frame inner whole
   around_pop levels [] frame inner whole (total, mid, sum, is, same) =
@@ -187,7 +188,7 @@ module _ (alias_only : Bool) (resolve : List ℕ → List Item) where
       record {
         total = total;
         is_sum = sum;
-        rest = is ∙ ap (around levels (label_view frame.label) frame.items total) same ∙ ap (λ n. around n (label_view frame.label) frame.items total inner) (sym all);
+        rest = is ∙ ap (around levels frame.name.now frame.is_recorded frame.items total) same ∙ ap (λ n. around n frame.name.now frame.is_recorded frame.items total inner) (sym all);
       }
   around_pop levels (f ∷ frames) frame inner whole (t, mid, s, is, h) =
       let p = around_pop (levels - 1) frames frame inner mid h in
@@ -195,7 +196,7 @@ module _ (alias_only : Bool) (resolve : List ℕ → List Item) where
       record {
         total = p.total;
         is_sum = p.is_sum;
-        rest = (t, mid, s, is, subst (λ n. AreAround (levels - 1) frames (around n (label_view frame.label) frame.items p.total inner) mid) fewer p.rest);
+        rest = (t, mid, s, is, subst (λ n. AreAround (levels - 1) frames (around n frame.name.now frame.is_recorded frame.items p.total inner) mid) fewer p.rest);
       }
 
   -- a fault ends all of them
@@ -204,8 +205,8 @@ module _ (alias_only : Bool) (resolve : List ℕ → List Item) where
   around_fault levels (f ∷ frames) fault st whole (t, mid, s, is, h) =
       let inner = unwound (levels - 1) frames fault st in
       let high : t.height ≡ f.sum.height = sym (ap (λ (z : Sum). z.height) s) in
-      is ∙ ap (around levels (label_view f.label) f.items t) (around_fault (levels - 1) frames fault st mid h)
-      ∙ ap (λ n. (Err fault, with_reach (with_mark inner f.label.name.now (failed_mark fault levels inner.reach)) (max n (suc inner.reach)))) high
+      is ∙ ap (around levels f.name.now f.is_recorded f.items t) (around_fault (levels - 1) frames fault st mid h)
+      ∙ ap (λ n. (Err fault, with_reach (with_mark inner f.name.now (failed_mark fault levels inner.reach)) (max n (suc inner.reach)))) high
 
   -- ---- opening a text
 
@@ -235,6 +236,15 @@ module _ (alias_only : Bool) (resolve : List ℕ → List Item) where
       let wrap = wraps (with_reach st 0) (Err TooDeep) is reach in
       record { same = wrap.same; reach = wrap.reach; leaves = with_reach_shows met st 1 shows }
 
+  -- a text stands for itself, and a fault opens nothing
+  pub text_gives : (levels : ℕ) (text : List ℕ) (st : State) (met : Met) (sum : Sum) → sum ≡ shown (size_of_bytes text) → Shows met st
+      → Gives (Ok sum) met (item_within alias_only resolve levels (TextItem text) st)
+  text_gives levels text st met sum is shows = record { same = ap Ok is; reach = tt; leaves = shows }
+
+  pub fault_gives : (levels : ℕ) (st : State) (met : Met) (failure : Failure) → failure.height ≡ 0 → Shows met st
+      → Gives (Err failure) met (item_within alias_only resolve levels (FaultItem (fault_view failure.fault)) st)
+  fault_gives levels st met failure low shows = record { same = refl; reach = sym low; leaves = with_reach_shows met st 0 shows }
+
   -- a definition that is written in the text
   pub inline_gives : (levels : ℕ) (item : Item) (label : Label) (text : List ℕ) (st : State) (after : Met) → item ≡ PlaceholderItem label (Inline text) → Shows after (labelled label st)
       → (r w : Result Sum Failure) → result_view r ≡ shown_result (inlined levels text) → IfErr r (λ failure. failure.height ≡ 0)
@@ -253,22 +263,21 @@ module _ (alias_only : Bool) (resolve : List ℕ → List Item) where
   abbrev StoredEntry : ℕ → CodeLabel → List ℕ → Met → Met → Entry → Type 0
   StoredEntry levels label text before after entry = MatchEntry entry
       (λ r. (st : State) → Shows before st → Gives r after (opened_within alias_only resolve levels (label_view label) text st))
-      (λ opened it. (opened ≡ label) × (it ≡ text) × (0 < levels) × IsMet label.name.now levels before after)
+      (λ it. (it ≡ text) × (0 < levels) × IsMet label.name.now levels before after)
 
-  abbrev ItemEntry : ℕ → Item → Met → Met → Entry → Type 0
-  ItemEntry levels item before after entry = MatchEntry entry
-      (λ r. (st : State) → Shows before st → Gives r after (item_within alias_only resolve levels item st))
-      (λ label text. IsOpened levels item label text before after)
+  abbrev LabelledEntry : ℕ → CodeLabel → Meaning → Met → Met → Entry → Type 0
+  LabelledEntry levels label meaning before after entry = MatchEntry entry
+      (λ r. (st : State) → Shows before st → Gives r after (item_within alias_only resolve levels (PlaceholderItem (label_view label) meaning) st))
+      (λ text. IsOpened levels label meaning text before after)
 
   -- a text that is opened under a label
-  pub labelled_entry : (levels : ℕ) (item : Item) (label : CodeLabel) (text : List ℕ) (before mid after : Met) (entry : Entry) → item ≡ PlaceholderItem (label_view label) (Stored text)
+  pub labelled_entry : (levels : ℕ) (label : CodeLabel) (meaning : Meaning) (text : List ℕ) (before mid after : Met) (entry : Entry) → meaning ≡ Stored text
       → ((st : State) → Shows before st → Shows mid (labelled (label_view label) st)) → mid.marks ≡ before.marks
-      → StoredEntry levels label text mid after entry → ItemEntry levels item before after entry
-  labelled_entry levels item label text before mid after (Measured r) is shows same h = λ st s.
-      subst (λ i. Gives r after (item_within alias_only resolve levels i st)) (sym is) (h (labelled (label_view label) st) (shows st s))
-  labelled_entry levels item label text before mid after (Text opened stored) is shows same (it, read, room, met) =
-      subst (λ l. IsOpened levels item l stored.now before after) (sym it)
-      (subst (λ t. IsOpened levels item label t before after) (sym read)
+      → StoredEntry levels label text mid after entry → LabelledEntry levels label meaning before after entry
+  labelled_entry levels label meaning text before mid after (Measured r) is shows same h = λ st s.
+      subst (λ m. Gives r after (item_within alias_only resolve levels (PlaceholderItem (label_view label) m) st)) (sym is) (h (labelled (label_view label) st) (shows st s))
+  labelled_entry levels label meaning text before mid after (Unread stored) is shows same (it, room, met) =
+      subst (λ t. IsOpened levels label meaning t before after) (sym it)
       (record {
         is = is;
         room = room;
@@ -276,7 +285,7 @@ module _ (alias_only : Bool) (resolve : List ℕ → List Item) where
         unknown = λ st s. met.unknown (labelled (label_view label) st) (shows st s);
         marked = λ other. met.marked other ∙ ap (λ m. cond (bytes_eq label.name.now other) (Some mark.Begun) (mark_of m other)) same;
         shows = λ st s. met.shows (labelled (label_view label) st) (shows st s);
-      }))
+      })
 
   -- ---- the loop
 
@@ -295,24 +304,24 @@ module _ (alias_only : Bool) (resolve : List ℕ → List Item) where
 
   -- a text has ended, and the one around it goes on
   pub end_goes_on : (levels : ℕ) (whole : Reading) (frames : List Frame) (frame : Frame) (so_far sum : Sum) (met after : Met) → GoesOn levels whole (frames ++ frame ∷ []) [] so_far met
-      → ((now : State) (size : Size) → so_far ≡ shown size → Shows (end_counted met) now → Shows after (with_mark now frame.label.name.now (Done size)))
-      → ((x y : Size) → frame.sum ≡ shown x → so_far ≡ shown y → sum ≡ shown (plus x (bracketed alias_only (label_view frame.label) y)))
+      → ((now : State) (size : Size) → so_far ≡ shown size → Shows (end_counted met) now → Shows after (with_mark now frame.name.now (Done size)))
+      → ((x y : Size) → frame.sum ≡ shown x → so_far ≡ shown y → sum ≡ shown (plus x (in_brackets frame.is_recorded y)))
       → GoesOn levels whole frames frame.items sum after
   end_goes_on levels whole frames frame so_far sum met after g marks adds =
       let read = with_reach (ended g.now) (max g.total.height g.now.reach) in
       let inner : Reading = (Ok (plus g.total no_size), read) in
       let p = around_pop levels frames frame inner whole g.rest in
       let left = reads (levels - length frames) frame.items in
-      let size = bracketed alias_only (label_view frame.label) g.total in
-      let last = deeper (with_mark read frame.label.name.now (Done g.total)) in
-      let same : around (levels - length frames) (label_view frame.label) frame.items p.total inner ≡ behind (plus p.total size) (left last) =
-      ap (λ (z : Size). around (levels - length frames) (label_view frame.label) frame.items p.total (Ok z, read)) (plus_none_right g.total)
+      let size = in_brackets frame.is_recorded g.total in
+      let last = deeper (with_mark read frame.name.now (Done g.total)) in
+      let same : around (levels - length frames) frame.name.now frame.is_recorded frame.items p.total inner ≡ behind (plus p.total size) (left last) =
+      ap (λ (z : Size). around (levels - length frames) frame.name.now frame.is_recorded frame.items p.total (Ok z, read)) (plus_none_right g.total)
       ∙ behind_twice p.total size (left last) in
       record {
         now = last;
         total = plus p.total size;
         is_sum = adds p.total g.total p.is_sum g.is_sum;
-        shows = with_reach_shows after (with_mark read frame.label.name.now (Done g.total)) (suc read.reach) (marks read g.total g.is_sum (with_reach_shows (end_counted met) (ended g.now) read.reach (shows_end met g.now g.shows)));
+        shows = with_reach_shows after (with_mark read frame.name.now (Done g.total)) (suc read.reach) (marks read g.total g.is_sum (with_reach_shows (end_counted met) (ended g.now) read.reach (shows_end met g.now g.shows)));
         rest = subst (λ a. AreAround levels frames a whole) same p.rest;
       }
 
@@ -360,10 +369,11 @@ module _ (alias_only : Bool) (resolve : List ℕ → List Item) where
           }
 
     -- a text is opened, and the one around it waits
-    pub text_goes_on : (label : CodeLabel) (text : List ℕ) (start : Sum) → IsOpened room item label text (piece_counted met) after → start ≡ shown no_size
-        → GoesOn levels whole (frames ++ record { label = label; items = left; sum = so_far } ∷ []) (resolve text) start after
-    text_goes_on label text start o none_yet =
-        let frame : Frame = record { label = label; items = left; sum = so_far } in
+    pub text_goes_on : (label : CodeLabel) (meaning : Meaning) (text : List ℕ) (recorded : Bool) (start : Sum) → item ≡ PlaceholderItem (label_view label) meaning
+        → IsOpened room label meaning text (piece_counted met) after → recorded ≡ is_recorded alias_only (label_view label) → start ≡ shown no_size
+        → GoesOn levels whole (frames ++ record { name = label.name; is_recorded = recorded; items = left; sum = so_far } ∷ []) (resolve text) start after
+    text_goes_on label meaning text recorded start is o has_key none_yet =
+        let frame : Frame = record { name = label.name; is_recorded = recorded; items = left; sum = so_far } in
         let l = label_view label in
         let before = labelled l (looked g.now) in
         let now = with_mark before label.name.now Begun in
@@ -374,9 +384,10 @@ module _ (alias_only : Bool) (resolve : List ℕ → List Item) where
         ap (λ n. visit alias_only resolve n label.name.now text before) fewer
         ∙ ap (λ n. by_mark (before.marks label.name.now) n before (finish label.name.now n inner)) (sym fewer)
         ∙ o.unknown (looked g.now) (shows_piece met g.now g.shows) (finish label.name.now room inner) in
-        let over : behind g.total (reads room (item ∷ left) g.now) ≡ around room l left g.total inner =
-        ap (λ i. behind g.total (reads room (i ∷ left) g.now)) o.is
-        ∙ ap (λ (a : Reading). behind g.total (then_rest (wrapped alias_only l a.0) (deeper a.1) (reads room left))) visited in
+        let over : behind g.total (reads room (item ∷ left) g.now) ≡ around room label.name.now recorded left g.total inner =
+        ap (λ i. behind g.total (reads room (i ∷ left) g.now)) (is ∙ ap (PlaceholderItem l) o.is)
+        ∙ ap (λ (a : Reading). behind g.total (then_rest (wrapped alias_only l a.0) (deeper a.1) (reads room left))) visited
+        ∙ ap (λ b. around room label.name.now b left g.total inner) (sym has_key) in
         let same : inner ≡ behind no_size (reads (levels - length (frames ++ frame ∷ [])) (resolve text) now) =
         sym (behind_none inner) ∙ ap (λ n. behind no_size (reads n (resolve text) now)) less in
         record {

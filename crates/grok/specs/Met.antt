@@ -123,10 +123,10 @@ pub record IsMet (name : List ℕ) (levels : ℕ) (before after : Met) : Type 0 
   pub marked : IsMarked name mark.Begun before after
   pub shows : (st : State) → Shows before st → Shows after (with_mark st name Begun)
 
--- the item opens this text of a name that has to be read
-pub record IsOpened (levels : ℕ) (item : tree.Item) (label : Label) (text : List ℕ)
+-- under the label this text of a name is opened, which has to be read
+pub record IsOpened (levels : ℕ) (label : Label) (meaning : tree.Meaning) (text : List ℕ)
     (before after : Met) : Type 0 where
-  pub is : item ≡ tree.PlaceholderItem (label_view label) (tree.Stored text)
+  pub is : meaning ≡ tree.Stored text
   pub room : 0 < levels
   pub unkept : is_kept (mark_of before.marks label.name.now) ≡ false
   pub unknown : (st : State) → Shows before st → (fresh : Reading)
@@ -135,13 +135,13 @@ pub record IsOpened (levels : ℕ) (item : tree.Item) (label : Label) (text : Li
   pub shows : (st : State) → Shows before st → Shows after (with_mark
       (labelled (label_view label) st) label.name.now Begun)
 
-abbrev pub MatchEntry : Entry → (Result Sum Failure → Type 0) → (Label → List ℕ → Type 0) → Type 0
+abbrev pub MatchEntry : Entry → (Result Sum Failure → Type 0) → (List ℕ → Type 0) → Type 0
 MatchEntry (entry.Measured r) Is Opens = Is r
-MatchEntry (entry.Text label stored) Is Opens = Opens label stored.now
+MatchEntry (entry.Unread stored) Is Opens = Opens stored.now
 
 abbrev pub IfMeasured : Entry → (Result Sum Failure → Type 0) → Type 0
 IfMeasured (entry.Measured r) Is = Is r
-IfMeasured (entry.Text label stored) Is = Unit {0}
+IfMeasured (entry.Unread stored) Is = Unit {0}
 
 -- ---- from one pattern to the next
 
@@ -151,7 +151,7 @@ abbrev pub unwound : ℕ → List Frame → tree.Fault → State → State
 unwound levels [] fault st = st
 unwound levels (frame ∷ frames) fault st =
     let inner = unwound (levels - 1) frames fault st in
-    with_reach (with_mark inner frame.label.name.now (failed_mark fault levels inner.reach))
+    with_reach (with_mark inner frame.name.now (failed_mark fault levels inner.reach))
     (max frame.sum.height (suc inner.reach))
 
 -- no sum is higher than this

@@ -26,17 +26,23 @@ both (Err fault) s = Err fault
 both (Ok a) (Err fault) = Err fault
 both (Ok a) (Ok b) = Ok (plus a b)
 
--- the brackets of an open around what is inside, without the number
-abbrev pub bracketed : Bool → Label → Size → Size
-bracketed alias_only label inner = record {
-  bytes = bracket_bytes (is_recorded alias_only label) + inner.bytes;
-  groups = (if is_recorded alias_only label then 1 else 0) + inner.groups;
+-- the brackets of an open, which is recorded or not, around what is inside, without the number
+abbrev pub in_brackets : Bool → Size → Size
+in_brackets recorded inner = record {
+  bytes = bracket_bytes recorded + inner.bytes;
+  groups = (if recorded then 1 else 0) + inner.groups;
   height = suc inner.height;
 }
 
+abbrev pub sum_in_brackets : Bool → Result Size Fault → Result Size Fault
+sum_in_brackets recorded (Err fault) = Err fault
+sum_in_brackets recorded (Ok inner) = Ok (in_brackets recorded inner)
+
+abbrev pub bracketed : Bool → Label → Size → Size
+bracketed alias_only label = in_brackets (is_recorded alias_only label)
+
 abbrev pub wrapped : Bool → Label → Result Size Fault → Result Size Fault
-wrapped alias_only label (Err fault) = Err fault
-wrapped alias_only label (Ok inner) = Ok (bracketed alias_only label inner)
+wrapped alias_only label = sum_in_brackets (is_recorded alias_only label)
 
 -- the size of an item, where `inner` is that of the text of an open
 abbrev pub size_of : Bool → (List ℕ → Result Size Fault) → Item → Result Size Fault

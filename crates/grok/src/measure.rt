@@ -1,12 +1,12 @@
 //! The size of what a pattern stands for, without expanding it.
 ghost use Rattle.std.specs.Prelude.{◌≡◌, ℕ, ◌+◌, ◌<◌, ◌≤◌, ◌^◌, max, false, [], ◌∷◌, Option, Result, OnOk, IfOk, IfErr, IfSome, MatchOption, map, length};
-ghost use Rattle.grok.specs.Tree.{Fault as ItemFault, reached};
+ghost use Rattle.grok.specs.Tree.{Fault as ItemFault, PlaceholderItem, reached};
 ghost use Rattle.grok.specs.Keys.{has_numbered_alias};
-ghost use Rattle.grok.specs.Sizes.{Size, plus, bracketed as bracket, wrapped, length_of, places_from, size_of_bytes};
+ghost use Rattle.grok.specs.Sizes.{Size, plus, in_brackets, wrapped, length_of, places_from, size_of_bytes};
 ghost use Rattle.grok.specs.Remembered.{Mark as Known, State, Reading, inlined, labelled, with_mark, failed_mark, by_mark, nothing_met, look_within, item_within, opened_within, deeper};
 ghost use Rattle.grok.specs.Measured.{tree_of, IsClean, measured_tree, size_within, counted, reached_pieces, reached_texts};
 ghost use Rattle.grok.specs.Met.{items_in, reading_of, fit, shown, shown_result, result_view, shown_mark, mark_view, mark_of, is_kept, measured_size, measure_view, Shows, Gives, Knows, IsUnknown, HasReach, Wraps, IsMarked, IsMet, IsOpened, MatchEntry, IfMeasured, unwound, AreLow, Stops, IsTrue, IsShownTrue};
-ghost use Rattle.grok.specs.Items.{fault_view, label_view, item_view};
+ghost use Rattle.grok.specs.Items.{fault_view, label_view, meaning_view, item_view};
 
 use crate::defs::Grok;
 use crate::defs::definition::Definition;
@@ -92,21 +92,22 @@ struct Met<'a> {
 /// A text that opened another one, which is read first.
 #[derive(Drop)]
 struct Frame<'a> {
-    /// What was opened.
-    label: Label<'a>,
+    /// Whose text was opened, and whether the placeholder gets a key.
+    name: &'a str,
+    is_recorded: bool,
     /// The items behind it.
     items: Items<'a>,
     /// The sum of the items before it.
     sum: Sum,
 }
 
-/// What an item comes to.
+/// What a placeholder comes to.
 #[derive(Drop)]
 enum Entry<'a> {
     /// Its sum, or its fault.
     Measured(Result<Sum, Failure<'a>>),
-    /// It opens a text that wasn't met before.
-    Text(Label<'a>, &'a Definition),
+    /// It opens this text, which has to be read first.
+    Unread(&'a Definition),
 }
 
 /// The definitions, and whether placeholders without an alias are left unrecorded.
@@ -152,14 +153,14 @@ fn sum_of_bytes(text: &str) -> Sum
 }
 
 /// The brackets of an open around what is inside.
-fn bracketed(label: Label<'_>, with_alias_only: bool, inner: Sum) -> Sum
+fn bracketed(is_recorded: bool, inner: Sum) -> Sum
     requires { inner.height < 2 ^ 32 }
     ensures height { result.height ≡ inner.height + 1 }
     ensures brackets { (z : Size) → inner ≡ shown z →
-        result ≡ shown (bracket with_alias_only (label_view label.entry) z) }
+        result ≡ shown (in_brackets is_recorded z) }
 {
     // Numbers are counted apart.
-    let (bytes, groups) = if label.is_recorded(with_alias_only) {
+    let (bytes, groups) = if is_recorded {
         (NAMED_BYTES, 1)
     } else {
         (UNNAMED_BYTES, 0)
@@ -294,7 +295,7 @@ fn wrap<'a>(
         IfErr result (λ failure. failure.height ≤ most + 1) }
 {
     match inner {
-        Ok(sum) => Ok(bracketed(label, mode.with_alias_only, sum)),
+        Ok(sum) => Ok(bracketed(label.is_recorded(mode.with_alias_only), sum)),
         Err(failure) => Err(Failure {
             fault: failure.fault,
             height: failure.height + 1,
@@ -369,7 +370,7 @@ fn enter_stored<'a>(
         (λ r. (st : State) → Shows met.old st → Gives r met.new
         (opened_within mode.entry.with_alias_only (items_in mode.entry.grok.now) levels
         (label_view label.entry) stored.now st))
-        (λ opened text. (opened ≡ label.entry) × (text ≡ stored.now) × (0 < levels)
+        (λ text. (text ≡ stored.now) × (0 < levels)
         × IsMet label.entry.name.now levels met.old met.new)) }
     ensures marks { IfOk result (λ entry. IfMeasured entry (λ r. met.new.marks ≡ met.old.marks)) }
     ensures low { IfOk result
@@ -384,43 +385,38 @@ fn enter_stored<'a>(
         return Ok(Entry::Measured(wrap(mode, label, known)));
     }
     met.mark(label.name, Mark::Begun)?;
-    Ok(Entry::Text(label, stored))
+    Ok(Entry::Unread(stored))
 }
 
-/// What an item comes to that was taken, where so many levels may be opened.
+/// What a placeholder comes to that was taken, where so many levels may be opened.
 fn enter<'a>(
     mode: Mode<'a>,
     met: &mut Met<'a>,
-    item: Item<'a>,
+    label: Label<'a>,
+    meaning: Meaning<'a>,
     levels: usize,
 ) -> Result<Entry<'a>, AllocError>
     requires { levels < 2 ^ 31 }
     ensures gives { IfOk result (λ entry. MatchEntry entry
         (λ r. (st : State) → Shows met.old st → Gives r met.new
         (item_within mode.entry.with_alias_only (items_in mode.entry.grok.now) levels
-        (item_view item.entry) st))
-        (λ label text. IsOpened levels (item_view item.entry) label text met.old met.new)) }
+        (PlaceholderItem (label_view label.entry) (meaning_view meaning.entry)) st))
+        (λ text. IsOpened levels label.entry (meaning_view meaning.entry) text met.old met.new)) }
     ensures marks { IfOk result (λ entry. IfMeasured entry (λ r. met.new.marks ≡ met.old.marks)) }
     ensures low { IfOk result
         (λ entry. IfMeasured entry (λ r. IfOk r (λ sum. sum.height ≤ levels))) }
     ensures reach { IfOk result
         (λ entry. IfMeasured entry (λ r. IfErr r (λ failure. failure.height ≤ levels + 1))) }
 {
-    match item {
-        Item::Text(text) => Ok(Entry::Measured(Ok(sum_of_bytes(text)))),
-        Item::Fault(fault) => Ok(Entry::Measured(Err(Failure { fault, height: 0 }))),
-        Item::Placeholder(label, meaning) => {
-            met.label(label);
-            match meaning {
-                Meaning::Inline(text) => {
-                    let inner = measure_inline(text, levels);
-                    Ok(Entry::Measured(wrap(mode, label, inner)))
-                }
-                Meaning::Stored(stored) => {
-                    let entry = enter_stored(mode, met, label, stored, levels)?;
-                    Ok(entry)
-                }
-            }
+    met.label(label);
+    match meaning {
+        Meaning::Inline(text) => {
+            let inner = measure_inline(text, levels);
+            Ok(Entry::Measured(wrap(mode, label, inner)))
+        }
+        Meaning::Stored(stored) => {
+            let entry = enter_stored(mode, met, label, stored, levels)?;
+            Ok(entry)
         }
     }
 }
@@ -450,20 +446,31 @@ fn measure_text<'a>(
     let mut sum = sum_of_bytes("");
     'items: loop {
         match look(&mut items, &mut met.looks)? {
-            Some(item) => match enter(mode, met, item, levels - frames.len())? {
-                Entry::Measured(Ok(one)) => sum = add(sum, one),
-                Entry::Measured(Err(failure)) => return Ok(Err(behind(sum, failure))),
-                Entry::Text(label, stored) => {
-                    frames.push(Frame { label, items, sum })?;
-                    items = Items::of_stored(mode.alloc, mode.grok, stored);
-                    sum = sum_of_bytes("");
+            Some(Item::Text(text)) => sum = add(sum, sum_of_bytes(text)),
+            Some(Item::Fault(fault)) => {
+                return Ok(Err(behind(sum, Failure { fault, height: 0 })));
+            }
+            Some(Item::Placeholder(label, meaning)) => {
+                match enter(mode, met, label, meaning, levels - frames.len())? {
+                    Entry::Measured(Ok(one)) => sum = add(sum, one),
+                    Entry::Measured(Err(failure)) => return Ok(Err(behind(sum, failure))),
+                    Entry::Unread(stored) => {
+                        frames.push(Frame {
+                            name: label.name,
+                            is_recorded: label.is_recorded(mode.with_alias_only),
+                            items,
+                            sum,
+                        })?;
+                        items = Items::of_stored(mode.alloc, mode.grok, stored);
+                        sum = sum_of_bytes("");
+                    }
                 }
-            },
+            }
             None => match frames.pop() {
                 None => return Ok(Ok(sum)),
                 Some(frame) => {
-                    met.mark(frame.label.name, Mark::Done(sum))?;
-                    let inner = bracketed(frame.label, mode.with_alias_only, sum);
+                    met.mark(frame.name, Mark::Done(sum))?;
+                    let inner = bracketed(frame.is_recorded, sum);
                     sum = add(frame.sum, inner);
                     items = frame.items;
                 }
@@ -501,7 +508,7 @@ fn remember<'a>(
 {
     'frames: while let Some(frame) = frames.pop() {
         let mark = mark_of_failure(failure, levels - frames.len());
-        met.mark(frame.label.name, mark)?;
+        met.mark(frame.name, mark)?;
         failure.height += 1;
         failure = behind(frame.sum, failure);
     }

@@ -17,7 +17,7 @@ returns-in-Some-clause-low c = c.wrap-in-Some.ensures.low c.args.levels c.in-Som
 pub returns-clause-gives : goal.returns-clause-gives
 returns-clause-gives c =
     let some : 0 < c.args.levels = omega arith in
-    (refl, refl, some, record { unkept = c.in_default.ensures.known.0; unknown = c.in_default.ensures.known.1; marked = c.in_ok-mark.ensures.marks; shows = λ st shows. c.in_ok-mark.ensures.shows st Begun refl shows })
+    (refl, some, record { unkept = c.in_default.ensures.known.0; unknown = c.in_default.ensures.known.1; marked = c.in_ok-mark.ensures.marks; shows = λ st shows. c.in_ok-mark.ensures.shows st Begun refl shows })
 
 pub returns-then-levels-eq0-clause-gives : goal.returns-then-levels-eq0-clause-gives
 returns-then-levels-eq0-clause-gives c st shows =
