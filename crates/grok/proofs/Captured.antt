@@ -1,5 +1,5 @@
 -- The captures that a search gives are those of its match.
-use Rattle.std.proofs.Common.{◌≡◌, ℕ, zero, suc, List, Option, Some, length, ap, ap₂, arith}
+use Rattle.std.proofs.Common.{◌≡◌, ℕ, zero, suc, List, Option, Some, None, length, refl, ap, ap₂, arith}
 use mathlib.Core.Path.{fun_ext}
 use Rattle.regex.specs.Patterns.{Re, Match, find_str}
 use Rattle.regex.specs.Search.{group_span}
@@ -19,3 +19,6 @@ pub captured : (pattern : Re) (names : List (Option (List ℕ))) (line : List �
     Some texts ≡ captures_in pattern (length names) line
 captured pattern names line found m texts at is same e =
     rw (at, e, same) (ap₂ (λ whole spans. Some (texts_at whole spans (length names))) is.0 (fun_ext (same_span line m found is)))
+
+pub uncaptured : (pattern : Re) (count : ℕ) (line : List ℕ) → find_str pattern line 0 ≡ None → None ≡ captures_in pattern count line
+uncaptured pattern count line e = rw e refl

@@ -1,5 +1,6 @@
-use Rattle.std.proofs.Common.{◌∙◌}
-use Rattle.grok.proofs.Captured.{captured}
+use Rattle.std.proofs.Common.{◌∙◌, ap, subst, length}
+use Rattle.grok.specs.Captures.{AreSlicesOf, capture_texts}
+use Rattle.grok.proofs.Captured.{captured, uncaptured}
 use Rattle.grok.proofs.engine.regex_engine.captures_afresh.Goals as goal
 
 pub returns-in-Some-clause-answer : goal.returns-in-Some-clause-answer
@@ -10,5 +11,10 @@ returns-in-Some-clause-answer c =
 
 pub returns-in-Some-clause-slices : goal.returns-in-Some-clause-slices
 returns-in-Some-clause-slices c =
-    let found = c.in-Some.ensures.found in
-    rw found.2.0 at c.in_ok-group_texts-in-Some.ensures.slices
+    subst (λ line. AreSlicesOf line (capture_texts c.in_ok-group_texts-in-Some.field-0.items)) c.in-Some.ensures.found.2.0 c.in_ok-group_texts-in-Some.ensures.slices
+
+pub returns-in-Some-clause-places : goal.returns-in-Some-clause-places
+returns-in-Some-clause-places c = c.in_ok-group_texts-in-Some.ensures.count ∙ ap length (c.in-Some.ensures.names ∙ c.in_ok-matcher.ensures.names)
+
+pub returns-clause-answer : goal.returns-clause-answer
+returns-clause-answer c = uncaptured _ _ _ (rw c.in_ok-matcher.ensures.pattern at c.in-None.ensures.found)
