@@ -1,4 +1,4 @@
-use Rattle.std.proofs.Common.{◌≡◌, ◌-◌, ◌<◌, length, List, [], ◌∷◌, ◌++◌, refl, sym, ◌∙◌, ap, subst, arith}
+use Rattle.std.proofs.Common.{◌≡◌, ◌-◌, ◌<◌, length, List, [], ◌∷◌, ◌++◌, refl, sym, ◌∙◌, ap, subst}
 use Rattle.grok.specs.Tree.{tree, Item, deepest}
 use Rattle.grok.specs.Items.{item_view}
 use Rattle.grok.specs.Tallied.{resolve}
@@ -20,7 +20,7 @@ items-preserved-in-Passes c =
     let item = item_view c.in-Some.item in
     let cut : c.items.items ≡ item ∷ c.next.new.self = rw c.in-Some.is at c.in_ok-item.ensures in
     let w : IsWalking mode all around c.items.items c.items.total = c.items.invariant in
-    let room : 1023 - c.len.result ≡ deepest - length around = omega arith in
+    let room : 1023 - c.len.result ≡ deepest - length around = ap (λ n. deepest - n) (c.len.ensures ∙ c.items.around.ok.0) in
     let stepped : Enters mode (deepest - length around) item (walked mode all around c.items.items c.items.total w) c.enter.new.total c.in_ok-enter-in-Some.field-0 =
     walk_steps mode all around c.items.items c.items.total w item c.next.new.self cut (1023 - c.len.result) room c.enter.new.total c.in_ok-enter-in-Some.field-0 c.in_ok-enter-in-Some.ensures in
     walk_passes mode all around c.items.items c.items.total w item c.next.new.self cut c.enter.new.total
@@ -43,7 +43,7 @@ items-preserved-in-Continue-branch-5 c =
     let rest = c.next.new.self in
     let cut : c.items.items ≡ item ∷ rest = rw c.in-Some.is at c.in_ok-item.ensures in
     let w : IsWalking mode all around c.items.items c.items.total = c.items.invariant in
-    let room : 1023 - c.len.result ≡ deepest - length around = omega arith in
+    let room : 1023 - c.len.result ≡ deepest - length around = ap (λ n. deepest - n) (c.len.ensures ∙ c.items.around.ok.0) in
     let stepped : Enters mode (deepest - length around) item (walked mode all around c.items.items c.items.total w) c.enter.new.total c.in_ok-enter-in-Some.field-0 =
     walk_steps mode all around c.items.items c.items.total w item rest cut (1023 - c.len.result) room c.enter.new.total c.in_ok-enter-in-Some.field-0 c.in_ok-enter-in-Some.ensures in
     let entered : Entered mode (deepest - length around) item c.in-Opens.inner (walked mode all around c.items.items c.items.total w) c.enter.new.total =
@@ -61,7 +61,7 @@ items-smaller-in-Continue-branch-5 c =
     let rest = c.next.new.self in
     let cut : c.items.items ≡ item ∷ rest = rw c.in-Some.is at c.in_ok-item.ensures in
     let w : IsWalking mode all around c.items.items c.items.total = c.items.invariant in
-    let room : 1023 - c.len.result ≡ deepest - length around = omega arith in
+    let room : 1023 - c.len.result ≡ deepest - length around = ap (λ n. deepest - n) (c.len.ensures ∙ c.items.around.ok.0) in
     let stepped : Enters mode (deepest - length around) item (walked mode all around c.items.items c.items.total w) c.enter.new.total c.in_ok-enter-in-Some.field-0 =
     walk_steps mode all around c.items.items c.items.total w item rest cut (1023 - c.len.result) room c.enter.new.total c.in_ok-enter-in-Some.field-0 c.in_ok-enter-in-Some.ensures in
     let entered : Entered mode (deepest - length around) item c.in-Opens.inner (walked mode all around c.items.items c.items.total w) c.enter.new.total =
@@ -79,7 +79,7 @@ returns-in-Finds c =
     let item = item_view c.in-Some.item in
     let cut : c.items.items ≡ item ∷ c.next.new.self = rw c.in-Some.is at c.in_ok-item.ensures in
     let w : IsWalking mode all around c.items.items c.items.total = c.items.invariant in
-    let room : 1023 - c.len.result ≡ deepest - length around = omega arith in
+    let room : 1023 - c.len.result ≡ deepest - length around = ap (λ n. deepest - n) (c.len.ensures ∙ c.items.around.ok.0) in
     let stepped : Enters mode (deepest - length around) item (walked mode all around c.items.items c.items.total w) c.enter.new.total c.in_ok-enter-in-Some.field-0 =
     walk_steps mode all around c.items.items c.items.total w item c.next.new.self cut (1023 - c.len.result) room c.enter.new.total c.in_ok-enter-in-Some.field-0 c.in_ok-enter-in-Some.ensures in
     sym (walk_finds mode all around c.items.items c.items.total w item c.next.new.self cut c.in-Finds.finding
@@ -105,4 +105,4 @@ returns-in-None-pop c =
     let mode = c.args.mode in
     let all = left_of mode [] (resolve mode c.args.pattern.now) in
     let over = rw c.in-None.is at c.in_ok-item.ensures in
-    sym (walk_ends mode all c.items.around.items c.items.items c.items.total c.items.invariant over.0 (nil_from_length c.items.around.items (omega (arith, c.in-None-pop.ensures.cases.0))))
+    sym (walk_ends mode all c.items.around.items c.items.items c.items.total c.items.invariant over.0 (nil_from_length c.items.around.items (sym c.items.around.ok.0 ∙ c.in-None-pop.ensures.cases.0)))
