@@ -161,7 +161,11 @@ impl Grok {
                 Err(self.first_error(pattern, with_alias_only, &names)?)
             }
             Measure::Fault(fault) => Err(fault.to_error(self.alloc())?),
-            Measure::Size { length, .. } => self.compile_clean(pattern, with_alias_only, length),
+            Measure::Size { length, .. } => {
+                // What is known of the names isn't kept beside the text.
+                drop(found);
+                self.compile_clean(pattern, with_alias_only, length)
+            }
         }
     }
 
