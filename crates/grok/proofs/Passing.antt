@@ -1,5 +1,5 @@
 -- How a walk to the first fault goes past events, and counts what they want.
-use Rattle.std.proofs.Common.{◌≡◌, ℕ, suc, ◌+◌, ◌-◌, ◌<◌, ◌≤◌, Bool, true, false, cond, List, [], ◌∷◌, ◌++◌, length, Some, None, refl, sym, ◌∙◌, ap, subst, inl, inr, arith, append_assoc, append-nil, length-append}
+use Rattle.std.proofs.Common.{◌≡◌, ℕ, zero, suc, ◌+◌, ◌-◌, ◌<◌, ◌≤◌, Bool, true, false, cond, List, [], ◌∷◌, ◌++◌, length, drop, Some, None, refl, sym, ◌∙◌, ap, subst, inl, inr, arith, append_assoc, append-nil, length-append}
 use Rattle.std.specs.Prelude.{Decides}
 use Rattle.std.specs.FinMap as finite
 use Rattle.std.specs.Str.{bytes_eq}
@@ -7,21 +7,22 @@ use Rattle.std.specs.String.{string_bytes}
 use Rattle.std.specs.Global.{Global}
 use Rattle.std.specs.declared.string.String.{String}
 use Rattle.std.proofs.lemmas.Bool.{true≢false, cases_Bool}
-use Rattle.grok.specs.Tree.{Label, Meaning, meaning_text, Item, TextItem, FaultItem, PlaceholderItem, Event, Open, Close, events, inside, deepest}
+use Rattle.std.proofs.Math.Seq.{drop-append_seam}
+use Rattle.grok.specs.Tree.{Label, meaning_text, Item, TextItem, FaultItem, PlaceholderItem, Event, Open, Close, events, inside, deepest}
 use Rattle.grok.specs.Keys as keys
-use Rattle.grok.specs.Keys.{is_recorded, wanted, numbered, how_often, key_after, is_among, recorded, first_fault}
-use Rattle.grok.specs.OpensSoFar.{onto, taken_of, faults, after}
+use Rattle.grok.specs.Keys.{wanted, numbered, how_often, key_after, is_among, first_fault}
+use Rattle.grok.specs.OpensSoFar.{taken_of, faults, after}
 use Rattle.grok.specs.Events.{events_left}
 use Rattle.grok.specs.Wanted.{Counts, IsFree}
 use Rattle.grok.specs.Walks.{Clashes, finding_view}
-use Rattle.grok.specs.Tallied.{resolve, opened, IsSoundItem, IsTallyOf}
-use Rattle.grok.specs.Passing.{Keeps, Wanted, Passed, Goes, Entered, Enters}
+use Rattle.grok.specs.Tallied.{resolve, opened, IsSoundItem, HasTallied, IsFrontOf}
+use Rattle.grok.specs.Passing.{Keeps, Wanted, Passed, events_inside, IsOpened, Entered, Enters}
 use Rattle.grok.specs.declared.expand.wanted.WantedCounts.{WantedCounts}
 use Rattle.grok.specs.declared.expand.tallies.Mode.{Mode}
 use Rattle.grok.specs.declared.expand.tallies.Tally.{Tally}
+use Rattle.grok.specs.declared.expand.tallies.Front.{Front}
 use Rattle.grok.specs.declared.expand.walk.Finding.{Finding}
 use Rattle.grok.specs.declared.expand.first_fault.Step.{Step}
-use Rattle.grok.specs.declared.expand.first_fault.Step.TheVariants.{Passes, Opens, Finds}
 use Rattle.grok.proofs.KeyLaws.{how_often_more}
 use Rattle.grok.proofs.Cuts.{or_then, faults-append, after-append}
 use Rattle.grok.proofs.Clashing.{how_often-after, stays_free, clash_is_not_free, free_events}
@@ -67,22 +68,25 @@ module _ (before : List Label) (label : Label) (want : List ℕ) (is : want ≡ 
 
 -- ---- what an open holds
 
-module _ (mode : Mode) (text : List ℕ) (levels : ℕ) (before : List Label) (tally : Tally) (t : IsTallyOf mode text tally) (high : tally.height < levels) where
+module _ (mode : Mode) (items : List Item) (levels : ℕ) (before : List Label) (tally : Tally) (t : HasTallied mode items tally) (high : tally.height < levels) where
   abbrev held : List Event
-  held = opened mode levels text
+  held = events_inside mode levels items
 
-  -- how often each key is wanted with all that the text wants
+  enough : tally.height ≤ levels - 1
+  enough = omega arith
+
+  -- how often each key is wanted with all that the items want
   abbrev pub with_text : List ℕ → ℕ
   with_text key = t.wanted key + how_often before key
 
   text_is : (key : List ℕ) → with_text key ≡ how_often (after mode.with_alias_only before held) key
-  text_is key = omega (arith, how_often-after mode.with_alias_only before held key, t.often levels high key)
+  text_is key = omega (arith, how_often-after mode.with_alias_only before held key, t.often (levels - 1) enough key)
 
   pub text_passed : (total : WantedCounts) (free : Bool) → free ≡ true → Decides free (IsFree with_text) → Counts total with_text → Passed mode.with_alias_only before held total
   text_passed total free is_so decides counts =
       let later : IsFree (how_often (after mode.with_alias_only before held)) = subst (λ (P : Type 0). P) (ap IsFree (λ i key. text_is key i)) (decides.0 is_so) in
       record {
-        none = free_events mode.with_alias_only before held (t.clean levels high) later;
+        none = free_events mode.with_alias_only before held (t.clean (levels - 1) enough) later;
         keeps = record { counts = counts_same total with_text (how_often (after mode.with_alias_only before held)) text_is counts; free = later };
       }
 
@@ -98,45 +102,30 @@ module _ (alias_only : Bool) (before : List Label) (xs : List Event) (mid : Want
   pub stopped-append : (finding : keys.Finding) → faults alias_only (after alias_only before xs) ys ≡ Some finding → faults alias_only before (xs ++ ys) ≡ Some finding
   stopped-append finding stops = faults-append alias_only before xs ys ∙ ap (λ o. or_then o (faults alias_only (after alias_only before xs) ys)) p.none ∙ stops
 
--- ---- one item
+-- ---- behind a front
 
-module _ (alias_only : Bool) (before : List Label) (label : Label) (meaning : Meaning) where
-  abbrev pub own_event : List Event
-  own_event = Open label meaning ∷ []
+module _ (mode : Mode) (text : List ℕ) (front : Front) (f : IsFrontOf mode text front) (levels : ℕ) (room : 0 < levels) (before : List Label) where
+  -- nothing of the text was counted
+  pub opens_all : (items : List Item) (total : WantedCounts) → items ≡ resolve mode text → Keeps total before → IsOpened mode levels text items before total
+  opens_all items total is keeps = record { room = room; front = []; cut = sym is; passed = record { none = refl; keeps = keeps } }
 
-  pub recorded_passed : (total : WantedCounts) → is_recorded alias_only label ≡ true → Wanted before label total → Passed alias_only before own_event total
-  recorded_passed total is w = record {
-    none = rw (is, w.free) refl;
-    keeps = subst (λ b. Keeps total (onto before (cond b (label ∷ []) []))) (sym is) w.keeps;
-  }
+  module _ (total : WantedCounts) (passed : Passed mode.with_alias_only before (events_inside mode levels f.items) total) where
+    pub opens_behind : (items : List Item) → items ≡ drop front.items (resolve mode text) → IsOpened mode levels text items before total
+    opens_behind items is =
+        let left : items ≡ f.left = is ∙ ap (λ n. drop n (resolve mode text)) (sym f.many) ∙ ap (drop (length f.items)) f.cut ∙ drop-append_seam f.items f.left in
+        record { room = room; front = f.items; cut = f.cut ∙ ap (λ left. f.items ++ left) (sym left); passed = passed }
 
-  pub unrecorded_passed : (total : WantedCounts) → is_recorded alias_only label ≡ false → Keeps total before → Passed alias_only before own_event total
-  unrecorded_passed total is keeps = record {
-    none = rw is refl;
-    keeps = subst (λ b. Keeps total (onto before (cond b (label ∷ []) []))) (sym is) keeps;
-  }
-
-  pub clash_found : (inner : List Event) (key : String Global) → is_recorded alias_only label ≡ true → Clashes before label key → faults alias_only before (Open label meaning ∷ inner) ≡ Some (keys.Clash (string_bytes key))
-  clash_found inner key is clash = rw (is, clash.taken) (ap (λ k. Some (keys.Clash k)) (sym clash.named))
-
-pub placeholder_entered : (mode : Mode) (levels : ℕ) (before : List Label) (item : Item) (label : Label) (meaning : Meaning) (mid total : WantedCounts) (step : Step) → item ≡ PlaceholderItem label meaning
-    → Passed mode.with_alias_only before (Open label meaning ∷ []) mid → Goes mode levels meaning (after mode.with_alias_only before (Open label meaning ∷ [])) total step → Enters mode levels item before total step
-placeholder_entered mode levels before item label meaning mid total Passes is p q =
-    subst (λ i. Passed mode.with_alias_only before (events (opened mode levels) (i ∷ [])) total) (sym is)
-    (subst (λ es. Passed mode.with_alias_only before (Open label meaning ∷ es) total) (sym (append-nil (opened mode levels (meaning_text meaning))))
-    (passed-append mode.with_alias_only before (Open label meaning ∷ []) mid p (opened mode levels (meaning_text meaning)) total q))
-placeholder_entered mode levels before item label meaning mid total (Opens items) is p q = record {
-  label = label;
-  meaning = meaning;
-  is = is;
-  room = q.room;
-  starts = q.starts;
-  passed = record { none = p.none; keeps = q.keeps };
-}
-placeholder_entered mode levels before item label meaning mid total (Finds finding) is p q =
-    subst (λ i. faults mode.with_alias_only before (events (opened mode levels) (i ∷ [])) ≡ Some (finding_view finding)) (sym is)
-    (subst (λ es. faults mode.with_alias_only before (Open label meaning ∷ es) ≡ Some (finding_view finding)) (sym (append-nil (opened mode levels (meaning_text meaning))))
-    (stopped-append mode.with_alias_only before (Open label meaning ∷ []) mid p (opened mode levels (meaning_text meaning)) (finding_view finding) q))
+    pub passes_whole : front.is_whole ≡ true → Passed mode.with_alias_only before (opened mode levels text) total
+    passes_whole whole =
+        let all : f.items ≡ resolve mode text = sym (f.cut ∙ ap (λ left. f.items ++ left) (f.whole whole) ∙ append-nil f.items) in
+        let same : events_inside mode levels f.items ++ Close ∷ [] ≡ opened mode levels text =
+        ap (λ items. events_inside mode levels items ++ Close ∷ []) all ∙ inside_is levels room in
+        subst (λ es. Passed mode.with_alias_only before es total) same
+        (passed-append mode.with_alias_only before (events_inside mode levels f.items) total passed (Close ∷ []) total (record { none = refl; keeps = passed.keeps }))
+      where
+        inside_is : (levels : ℕ) → 0 < levels → events_inside mode levels (resolve mode text) ++ Close ∷ [] ≡ opened mode levels text
+        inside_is zero none = absurd (omega arith)
+        inside_is (suc n) some = let same : suc n - 1 ≡ n = omega arith in ap (λ k. events (opened mode k) (resolve mode text) ++ Close ∷ []) same
 
 -- ---- the whole walk
 
@@ -181,6 +170,20 @@ left_item items levels (outer ∷ around) item rest =
     ap (λ es. es ++ end) (left_item items (levels - 1) around item rest)
     ∙ append_assoc (events (inside items ((levels - 1) - length around)) (item ∷ [])) more end
     ∙ ap (λ n. events (inside items n) (item ∷ []) ++ (more ++ end)) same
+
+left_items : (items : List ℕ → List Item) (levels : ℕ) (around : List (List Item)) (front rest : List Item)
+    → events_left items levels around None (front ++ rest) ≡ events (inside items (levels - length around)) front ++ events_left items levels around None rest
+left_items items levels around [] rest = refl
+left_items items levels around (item ∷ front) rest =
+    let inner = inside items (levels - length around) in
+    left_item items levels around item (front ++ rest)
+    ∙ ap (λ es. events inner (item ∷ []) ++ es) (left_items items levels around front rest)
+    ∙ sym (append_assoc (events inner (item ∷ [])) (events inner front) (events_left items levels around None rest))
+    ∙ ap (λ es. es ++ events_left items levels around None rest) (sym (first_item inner item front))
+
+sound_behind : (mode : Mode) (front rest : List Item) → AreSound (resolve mode) (finite.get mode.grok.now) (front ++ rest) → AreSound (resolve mode) (finite.get mode.grok.now) rest
+sound_behind mode [] rest sound = sound
+sound_behind mode (item ∷ front) rest sound = sound_behind mode front rest (sound_rest (resolve mode) (finite.get mode.grok.now) item (front ++ rest) sound)
 
 module _ (mode : Mode) (all : List Event) (total : WantedCounts) where
   pub start_passed : Counts total (λ key. 0) → HasPassed mode all all total
@@ -293,22 +296,30 @@ module _ (mode : Mode) (all : List Event) where
       walk_finds finding stops = fault_found mode all total (left_of mode around items) w.passed its_events (left_of mode around rest) goes (finding_view finding) stops
 
       module _ (inner : List Item) (later : WantedCounts) (e : Entered mode (deepest - length around) item inner walked later) (deeper : List (List Item)) (is : deeper ≡ around ++ rest ∷ []) where
-        enters : left_of mode around items ≡ Open e.label e.meaning ∷ left_of mode deeper inner
+        abbrev its_front : List Event
+        its_front = Open e.label e.meaning ∷ events_inside mode (deepest - length around) e.front
+
+        enters : left_of mode around items ≡ its_front ++ left_of mode deeper inner
         enters =
+            let long : length (around ++ rest ∷ []) ≡ length around + 1 = length-append around (rest ∷ []) in
+            let same : deepest - length (around ++ rest ∷ []) ≡ deepest - length around - 1 = omega (arith, long) in
             ap (λ items. left_of mode around items) (cut ∙ ap (λ i. i ∷ rest) e.is)
             ∙ left_step (resolve mode) deepest around (PlaceholderItem e.label e.meaning ∷ rest) rest (Some e.meaning) (Open e.label e.meaning) (λ n. refl)
             ∙ ap (λ es. Open e.label e.meaning ∷ es) (left_open (resolve mode) deepest around rest e.meaning (omega (arith, e.room))
-            ∙ ap (λ items. left_of mode (around ++ rest ∷ []) items) (sym e.starts) ∙ ap (λ around. left_of mode around inner) (sym is))
+            ∙ ap (λ items. left_of mode (around ++ rest ∷ []) items) e.cut
+            ∙ left_items (resolve mode) deepest (around ++ rest ∷ []) e.front inner
+            ∙ ap (λ n. events (opened mode n) e.front ++ left_of mode (around ++ rest ∷ []) inner) same
+            ∙ ap (λ around'. events_inside mode (deepest - length around) e.front ++ left_of mode around' inner) (sym is))
 
         pub walk_enters : IsWalking mode all deeper inner later
         walk_enters =
             let long : length deeper ≡ length around + 1 = ap length is ∙ length-append around (rest ∷ []) in
             record {
               room = omega (arith, e.room);
-              sound = subst (AreSound (resolve mode) (finite.get mode.grok.now)) (sym e.starts) ((sound_texts (finite.get mode.grok.now)).sound (meaning_text e.meaning));
+              sound = sound_behind mode e.front inner (subst (AreSound (resolve mode) (finite.get mode.grok.now)) e.cut ((sound_texts (finite.get mode.grok.now)).sound (meaning_text e.meaning)));
               all_sound = subst (AreAllSound mode) (sym is) (all_sound-push mode around rest w.all_sound rest_sound);
-              passed = more_passed mode all total (left_of mode around items) w.passed (Open e.label e.meaning ∷ []) (left_of mode deeper inner) enters later e.passed;
+              passed = more_passed mode all total (left_of mode around items) w.passed its_front (left_of mode deeper inner) enters later e.passed;
             }
 
         pub enter_smaller : length (left_of mode deeper inner) < length (left_of mode around items)
-        enter_smaller = omega (arith, ap length enters)
+        enter_smaller = omega (arith, ap length enters, length-append its_front (left_of mode deeper inner))

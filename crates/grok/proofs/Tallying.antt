@@ -1,14 +1,15 @@
 -- How a text is counted, item by item.
-use Rattle.std.proofs.Common.{◌≡◌, ℕ, zero, suc, ◌+◌, ◌<◌, ◌≤◌, Bool, true, false, cond, List, [], ◌∷◌, ◌++◌, Some, None, Result, Ok, Err, IfOk, IsTrue, refl, sym, ◌∙◌, ap, subst, arith, inl, inr}
+use Rattle.std.proofs.Common.{◌≡◌, ℕ, zero, suc, ◌+◌, ◌<◌, ◌≤◌, Bool, true, false, cond, List, [], ◌∷◌, ◌++◌, Some, None, Result, Ok, Err, IfOk, refl, sym, ◌∙◌, ap, subst, arith, inl, inr, append_assoc, append-nil, length, length-append}
 use Rattle.std.specs.Str.{bytes_eq}
 use Rattle.std.specs.FinMap as finite
-use Rattle.grok.specs.Tree.{Label, Meaning, Inline, Stored, meaning_text, Item, TextItem, FaultItem, PlaceholderItem, Event, Open, Close, events, first_structural}
+use Rattle.grok.specs.Tree.{Label, Meaning, Inline, Stored, meaning_text, Item, TextItem, FaultItem, PlaceholderItem, Event, Text, Open, Close, FaultEvent, events, first_structural}
 use Rattle.grok.specs.Keys.{is_recorded, recorded, how_often, wanted}
 use Rattle.grok.specs.Wanted.{Counts}
-use Rattle.grok.specs.Tallied.{resolve, opened, OpensNothing, IsSoundItem, IsTallyOf, HasTallied, tally_of, AreTallied}
+use Rattle.grok.specs.Tallied.{resolve, opened, OpensNothing, IsSoundItem, IsTallyOf, HasTallied, IsFrontOf, with_item, front_of, AreTallied}
 use Rattle.grok.specs.declared.expand.wanted.WantedCounts.{WantedCounts}
 use Rattle.grok.specs.declared.expand.tallies.Mode.{Mode}
 use Rattle.grok.specs.declared.expand.tallies.Tally.{Tally}
+use Rattle.grok.specs.declared.expand.tallies.Front.{Front}
 use Rattle.grok.specs.declared.expand.tallies.Tallies.{Tallies}
 use Rattle.std.proofs.lemmas.Bool.{cases_Bool}
 use Rattle.grok.proofs.SameText.{same_text}
@@ -66,80 +67,131 @@ module _ (mode : Mode) where
 
   -- ---- one item more
 
-  pub nothing_tallied : (all : List Item) (tally : Tally) → Counts tally.wanted (λ key. 0) → HasTallied mode all all tally
-  nothing_tallied all tally counts = record {
+  pub nothing_tallied : (tally : Tally) → Counts tally.wanted (λ key. 0) → HasTallied mode [] tally
+  nothing_tallied tally counts = record {
     wanted = λ key. 0;
     counts = counts;
     clean = λ levels high. refl;
-    often = λ levels high key. omega arith;
+    often = λ levels high key. refl;
   }
 
-  pub text_tallied : (all rest : List Item) (text : List ℕ) (tally : Tally) → HasTallied mode all (TextItem text ∷ rest) tally → HasTallied mode all rest tally
-  text_tallied all rest text tally h = record { wanted = h.wanted; counts = h.counts; clean = h.clean; often = h.often }
+  events_both : (inner : List ℕ → List Event) (xs ys : List Item) → events inner (xs ++ ys) ≡ events inner xs ++ events inner ys
+  events_both inner [] ys = refl
+  events_both inner (TextItem text ∷ xs) ys = ap (λ es. Text text ∷ es) (events_both inner xs ys)
+  events_both inner (FaultItem fault ∷ xs) ys = ap (λ es. FaultEvent fault ∷ es) (events_both inner xs ys)
+  events_both inner (PlaceholderItem label meaning ∷ xs) ys =
+      ap (λ es. Open label meaning ∷ inner (meaning_text meaning) ++ es) (events_both inner xs ys)
+      ∙ ap (λ es. Open label meaning ∷ es) (sym (append_assoc (inner (meaning_text meaning)) (events inner xs) (events inner ys)))
 
-  pub opened_tallied : (all rest : List Item) (label : Label) (meaning : Meaning) (old new inner : Tally) → HasTallied mode all (PlaceholderItem label meaning ∷ rest) old
-      → IsTallyOf mode (meaning_text meaning) inner → inner.height < new.height → old.height ≤ new.height
-      → ((others wants : List ℕ → ℕ) → Counts inner.wanted others → Counts old.wanted wants → Counts new.wanted (λ key. others key + (own mode label key + wants key)))
-      → HasTallied mode all rest new
-  opened_tallied all rest label meaning old new inner h t above more counts = record {
-    wanted = λ key. t.wanted key + (own mode label key + h.wanted key);
-    counts = counts t.wanted h.wanted t.counts h.counts;
-    clean = λ levels high.
-        let enough : old.height ≤ levels = omega arith in
+  often_both : (xs ys : List Event) (key : List ℕ) → how_often (recorded mode.with_alias_only (xs ++ ys)) key
+      ≡ how_often (recorded mode.with_alias_only xs) key + how_often (recorded mode.with_alias_only ys) key
+  often_both xs ys key =
+      ap (λ labels. how_often labels key) (recorded-append mode.with_alias_only xs ys) ∙ how_often-append (recorded mode.with_alias_only xs) (recorded mode.with_alias_only ys) key
+
+  module _ (items : List Item) (old new : Tally) (h : HasTallied mode items old) (above : old.height ≤ new.height) where
+    -- one more item, which has no fault and wants these keys
+    more_tallied : (item : Item) (more : List ℕ → ℕ)
+        → ((levels : ℕ) → new.height ≤ levels → first_structural (events (opened mode levels) (item ∷ [])) ≡ None)
+        → ((levels : ℕ) → new.height ≤ levels → (key : List ℕ) → how_often (recorded mode.with_alias_only (events (opened mode levels) (item ∷ []))) key ≡ more key)
+        → Counts new.wanted (λ key. more key + h.wanted key)
+        → HasTallied mode (items ++ item ∷ []) new
+    more_tallied item more clean often counts = record {
+      wanted = λ key. more key + h.wanted key;
+      counts = counts;
+      clean = λ levels high.
+          let enough : old.height ≤ levels = omega arith in
+          let inner = opened mode levels in
+          ap first_structural (events_both inner items (item ∷ []))
+          ∙ first_structural-append (events inner items) (events inner (item ∷ []))
+          ∙ ap (λ o. or_else o (first_structural (events inner (item ∷ [])))) (h.clean levels enough)
+          ∙ clean levels high;
+      often = λ levels high key.
+          let enough : old.height ≤ levels = omega arith in
+          let inner = opened mode levels in
+          let both : how_often (recorded mode.with_alias_only (events inner (items ++ item ∷ []))) key
+          ≡ how_often (recorded mode.with_alias_only (events inner items)) key + how_often (recorded mode.with_alias_only (events inner (item ∷ []))) key =
+          ap (λ es. how_often (recorded mode.with_alias_only es) key) (events_both inner items (item ∷ [])) ∙ often_both (events inner items) (events inner (item ∷ [])) key in
+          omega (arith, both, h.often levels enough key, often levels high key);
+    }
+
+    pub opened_tallied : (label : Label) (meaning : Meaning) (inner : Tally) → IsTallyOf mode (meaning_text meaning) inner → inner.height < new.height
+        → ((others wants : List ℕ → ℕ) → Counts inner.wanted others → Counts old.wanted wants → Counts new.wanted (λ key. own mode label key + (others key + wants key)))
+        → HasTallied mode (items ++ PlaceholderItem label meaning ∷ []) new
+    opened_tallied label meaning inner t high counts =
+        more_tallied (PlaceholderItem label meaning) (λ key. own mode label key + t.wanted key)
+        (λ levels le.
         let deep : inner.height < levels = omega arith in
-        h.clean levels enough
-        ∙ first_structural-append (opened mode levels (meaning_text meaning)) (events (opened mode levels) rest)
-        ∙ ap (λ o. or_else o (first_structural (events (opened mode levels) rest))) (t.clean levels deep);
-    often = λ levels high key.
-        let enough : old.height ≤ levels = omega arith in
+        ap first_structural (append-nil (opened mode levels (meaning_text meaning))) ∙ t.clean levels deep)
+        (λ levels le key.
         let deep : inner.height < levels = omega arith in
-        let one = often_open label meaning (opened mode levels (meaning_text meaning)) (events (opened mode levels) rest) key in
-        let before = h.often levels enough key in
-        let within = t.often levels deep key in
-        omega (arith, one, before, within);
-  }
+        let one = often_open label meaning (opened mode levels (meaning_text meaning)) [] key in
+        omega (arith, one, t.often levels deep key))
+        (counts_same new.wanted (λ key. own mode label key + (t.wanted key + h.wanted key)) (λ key. own mode label key + t.wanted key + h.wanted key) (λ key. omega arith)
+        (counts t.wanted h.wanted t.counts h.counts))
+
+  pub text_tallied : (items : List Item) (text : List ℕ) (tally : Tally) → HasTallied mode items tally → HasTallied mode (items ++ TextItem text ∷ []) tally
+  text_tallied items text tally h =
+      more_tallied items tally tally h (omega arith) (TextItem text) (λ key. 0) (λ levels high. refl) (λ levels high key. refl)
+      (counts_same tally.wanted h.wanted (λ key. 0 + h.wanted key) (λ key. omega arith) h.counts)
 
   -- a placeholder, by what counting it answered
-  pub placeholder_tallied : {E : Type 0} (item : Item) (label : Label) (meaning : Meaning) (before mid after inner : Tally) (r : Result Bool E) → item ≡ PlaceholderItem label meaning
-      → (IsSoundItem mode (PlaceholderItem label meaning) → IsTallyOf mode (meaning_text meaning) inner) → mid.height ≡ before.height
-      → ((wants : List ℕ → ℕ) → Counts before.wanted wants → Counts mid.wanted (λ key. own mode label key + wants key))
-      → IfOk r (λ added. IsTrue added → (inner.height < after.height) × (mid.height ≤ after.height))
-      → IfOk r (λ added. IsTrue added → (wants others : List ℕ → ℕ) → Counts mid.wanted wants → Counts inner.wanted others → Counts after.wanted (λ key. others key + wants key))
-      → IfOk r (λ known. IsTrue known → IsSoundItem mode item → (all rest : List Item) → HasTallied mode all (item ∷ rest) before → HasTallied mode all rest after)
-  placeholder_tallied item label meaning before mid after inner (Err e) is within kept opens heights counts = tt
-  placeholder_tallied item label meaning before mid after inner (Ok added) is within kept opens heights counts = λ yes sound all rest h.
-      let high = heights yes in
-      let above : inner.height < after.height = high.0 in
-      let more : before.height ≤ after.height = omega (arith, high.1, kept) in
-      opened_tallied all rest label meaning before after inner (subst (λ i. HasTallied mode all (i ∷ rest) before) is h) (within (subst (IsSoundItem mode) is sound)) above more
-      (λ others wants has_others has_wants. counts yes (λ key. own mode label key + wants key) others (opens wants has_wants) has_others)
+  pub placeholder_tallied : {E : Type 0} (item : Item) (label : Label) (meaning : Meaning) (old new inner : Tally) (r : Result Bool E) → item ≡ PlaceholderItem label meaning
+      → (IsSoundItem mode (PlaceholderItem label meaning) → IsTallyOf mode (meaning_text meaning) inner)
+      → IfOk r (λ added. (m : Mode) (meaning : Meaning) (items : List Item) → m.with_alias_only ≡ mode.with_alias_only → IsTallyOf m (meaning_text meaning) inner → HasTallied m items old
+      → HasTallied m (with_item added items (PlaceholderItem label meaning)) new)
+      → IfOk r (λ known. IsSoundItem mode item → (items : List Item) → HasTallied mode items old → HasTallied mode (with_item known items item) new)
+  placeholder_tallied item label meaning old new inner (Err e) is within h = tt
+  placeholder_tallied item label meaning old new inner (Ok added) is within h = λ sound items t.
+      subst (λ i. HasTallied mode (with_item added items i) new) (sym is) (h mode meaning items refl (within (subst (IsSoundItem mode) is sound)) t)
 
   -- ---- whole texts
 
-  pub all_tallied : (text : List ℕ) (left : List Item) (tally : Tally) → left ≡ [] → HasTallied mode (resolve mode text) left tally → IsTallyOf mode text tally
-  all_tallied text (item ∷ left) tally over h = cc
-  all_tallied text [] tally over h = record {
-    wanted = h.wanted;
-    counts = h.counts;
+  -- so many items of a text were counted, and these are left
+  pub record IsCounting (text : List ℕ) (left : List Item) (counted : ℕ) (tally : Tally) : Type 0 where
+    pub items : List Item
+    pub cut : resolve mode text ≡ items ++ left
+    pub many : length items ≡ counted
+    pub tallied : HasTallied mode items tally
+
+  pub counting_starts : (text : List ℕ) (left : List Item) (tally : Tally) → left ≡ resolve mode text → Counts tally.wanted (λ key. 0) → IsCounting text left 0 tally
+  counting_starts text left tally is counts = record { items = []; cut = sym is; many = refl; tallied = nothing_tallied tally counts }
+
+  pub counting_goes_on : (text : List ℕ) (left rest : List Item) (item : Item) (counted more : ℕ) (old new : Tally) → left ≡ item ∷ rest → more ≡ counted + 1
+      → IsCounting text left counted old → ((items : List Item) → HasTallied mode items old → HasTallied mode (items ++ item ∷ []) new) → IsCounting text rest more new
+  counting_goes_on text left rest item counted more old new cut one h tallies = record {
+    items = h.items ++ item ∷ [];
+    cut = h.cut ∙ ap (λ left. h.items ++ left) cut ∙ sym (append_assoc h.items (item ∷ []) rest);
+    many = omega (arith, length-append h.items (item ∷ []), h.many, one);
+    tallied = tallies h.items h.tallied;
+  }
+
+  pub front_counted : (text : List ℕ) (left : List Item) (front : Front) → (front.is_whole ≡ true → left ≡ []) → IsCounting text left front.items front.tally → IsFrontOf mode text front
+  front_counted text left front whole h = record { items = h.items; left = left; cut = h.cut; many = h.many; whole = whole; tallied = h.tallied }
+
+  pub whole_tallied : (text : List ℕ) (front : Front) → IsFrontOf mode text front → front.is_whole ≡ true → IsTallyOf mode text front.tally
+  whole_tallied text front f whole = record {
+    wanted = f.tallied.wanted;
+    counts = f.tallied.counts;
     clean = clean;
     often = often;
   }
     where
-      clean : (levels : ℕ) → tally.height < levels → first_structural (opened mode levels text) ≡ None
+      all : resolve mode text ≡ f.items
+      all = f.cut ∙ ap (λ left. f.items ++ left) (f.whole whole) ∙ append-nil f.items
+
+      clean : (levels : ℕ) → front.tally.height < levels → first_structural (opened mode levels text) ≡ None
       clean zero high = absurd (omega arith)
       clean (suc levels) high =
           first_structural-append (events (opened mode levels) (resolve mode text)) (Close ∷ [])
-          ∙ ap (λ o. or_else o None) (h.clean levels (omega arith))
+          ∙ ap (λ o. or_else o None) (ap (λ items. first_structural (events (opened mode levels) items)) all ∙ f.tallied.clean levels (omega arith))
 
-      often : (levels : ℕ) → tally.height < levels → (key : List ℕ) → how_often (recorded mode.with_alias_only (opened mode levels text)) key ≡ h.wanted key
+      often : (levels : ℕ) → front.tally.height < levels → (key : List ℕ) → how_often (recorded mode.with_alias_only (opened mode levels text)) key ≡ f.tallied.wanted key
       often zero high key = absurd (omega arith)
       often (suc levels) high key =
           let es = events (opened mode levels) (resolve mode text) in
-          let alone = recorded mode.with_alias_only in
-          let both : how_often (alone (es ++ Close ∷ [])) key ≡ how_often (alone es) key + 0 =
-          ap (λ labels. how_often labels key) (recorded-append mode.with_alias_only es (Close ∷ [])) ∙ how_often-append (alone es) [] key in
-          let before = h.often levels (omega arith) key in
-          omega (arith, both, before)
+          let same : how_often (recorded mode.with_alias_only es) key ≡ f.tallied.wanted key =
+          ap (λ items. how_often (recorded mode.with_alias_only (events (opened mode levels) items)) key) all ∙ f.tallied.often levels (omega arith) key in
+          omega (arith, often_both es (Close ∷ []) key, same)
 
   -- a definition that is written in a text
   pub nothing_counted : (text : List ℕ) (tally : Tally) → OpensNothing mode text → Counts tally.wanted (λ key. 0) → IsTallyOf mode text tally
@@ -159,17 +211,17 @@ module _ (mode : Mode) where
       often (suc levels) high key = ap (λ labels. how_often labels key) (nothing.none levels)
 
 -- one name more
-pub name_tallied : (mode : Mode) (old new : Tallies) (name text : List ℕ) (tally : Tally) → AreTallied mode old → finite.get mode.grok.now name ≡ Some text → IsTallyOf mode text tally
-    → ((other : List ℕ) → tally_of new.by_name other ≡ cond (bytes_eq name other) (Some tally) (tally_of old.by_name other)) → AreTallied mode new
-name_tallied mode old new name text tally tallied defined is updates other its found at defines = elim (cases_Bool (bytes_eq name other)) [
+pub name_tallied : (mode : Mode) (old new : Tallies) (name text : List ℕ) (front : Front) → AreTallied mode old → finite.get mode.grok.now name ≡ Some text → IsFrontOf mode text front
+    → ((other : List ℕ) → front_of new.by_name other ≡ cond (bytes_eq name other) (Some front) (front_of old.by_name other)) → AreTallied mode new
+name_tallied mode old new name text front tallied defined is updates other its found at defines = elim (cases_Bool (bytes_eq name other)) [
   | inl same ↦
       let e : name ≡ other = same_text name other same in
-      let now : tally_of new.by_name other ≡ Some tally = updates other ∙ ap (λ b. cond b (Some tally) (tally_of old.by_name other)) same in
-      let this : Some tally ≡ Some found = sym now ∙ at in
+      let now : front_of new.by_name other ≡ Some front = updates other ∙ ap (λ b. cond b (Some front) (front_of old.by_name other)) same in
+      let this : Some front ≡ Some found = sym now ∙ at in
       let text_is : Some text ≡ Some its = sym defined ∙ ap (λ n. finite.get mode.grok.now n) e ∙ defines in
-      let one : tally ≡ found = cc in
+      let one : front ≡ found = cc in
       let two : text ≡ its = cc in
-      subst (IsTallyOf mode its) one (subst (λ t. IsTallyOf mode t tally) two is)
+      subst (IsFrontOf mode its) one (subst (λ t. IsFrontOf mode t front) two is)
   | inr apart ↦
-      tallied other its found (sym (updates other ∙ ap (λ b. cond b (Some tally) (tally_of old.by_name other)) apart) ∙ at) defines
+      tallied other its found (sym (updates other ∙ ap (λ b. cond b (Some front) (front_of old.by_name other)) apart) ∙ at) defines
 ]

@@ -1,5 +1,5 @@
 -- What a walk to the first fault keeps of the recorded opens so far, and what each of its steps does.
-use Rattle.std.specs.Prelude.{◌≡◌, ℕ, ◌<◌, List, [], ◌∷◌, Bool, true, false, Option, Some, None, MatchOption}
+use Rattle.std.specs.Prelude.{◌≡◌, ℕ, ◌-◌, ◌<◌, List, [], ◌∷◌, ◌++◌, Bool, true, false, Option, Some, None, MatchOption}
 use Rattle.std.specs.Global.{Global}
 use Rattle.std.specs.declared.string.String.{String}
 use Rattle.grok.specs.Tree.{Label, Meaning, meaning_text, Item, PlaceholderItem, Event, Open, events}
@@ -34,37 +34,40 @@ pub record Passed (alias_only : Bool) (before : List Label) (es : List Event)
   pub none : faults alias_only before es ≡ None
   pub keeps : Keeps total (after alias_only before es)
 
--- what stands behind an open was counted at once, or nothing was counted
-abbrev pub Skips : Mode → List ℕ → ℕ → List Label → WantedCounts → WantedCounts → Bool → Type 0
-Skips mode text levels before old new true = Passed mode.with_alias_only before (opened mode levels text) new
-Skips mode text levels before old new false = Keeps new before
+-- the events of items in a text, where so many levels may be opened, the text among them
+abbrev pub events_inside : Mode → ℕ → List Item → List Event
+events_inside mode levels = events (opened mode (levels - 1))
 
--- the text is opened, where one level may be opened at least
+-- items of a text were counted at once, or nothing was counted
+abbrev pub Skips : Mode → List Item → ℕ → List Label → WantedCounts → WantedCounts → Bool → Type 0
+Skips mode items levels before old new true = Passed mode.with_alias_only before (events_inside mode levels items) new
+Skips mode items levels before old new false = Keeps new before
+
+-- the text is opened, where one level may be opened at least, and these of its items passed
 pub record IsOpened (mode : Mode) (levels : ℕ) (text : List ℕ) (items : List Item) (before : List Label)
     (total : WantedCounts) : Type 0 where
   pub room : 0 < levels
-  pub starts : items ≡ resolve mode text
-  pub keeps : Keeps total before
+  pub front : List Item
+  pub cut : resolve mode text ≡ front ++ items
+  pub passed : Passed mode.with_alias_only before (events_inside mode levels front) total
 
--- the walk goes past what stands behind an open, or into it, or finds its fault
-abbrev pub Goes : Mode → ℕ → Meaning → List Label → WantedCounts → Step → Type 0
-Goes mode levels meaning before total Passes =
-    Passed mode.with_alias_only before (opened mode levels (meaning_text meaning)) total
-Goes mode levels meaning before total (Opens items) =
-    IsOpened mode levels (meaning_text meaning) items before total
-Goes mode levels meaning before total (Finds finding) =
-    faults mode.with_alias_only before (opened mode levels (meaning_text meaning))
-    ≡ Some (finding_view finding)
+-- the walk goes past what stands behind an open of the text, or into it, or finds its fault
+abbrev pub Goes : Mode → ℕ → List ℕ → List Label → WantedCounts → Step → Type 0
+Goes mode levels text before total Passes = Passed mode.with_alias_only before (opened mode levels text) total
+Goes mode levels text before total (Opens items) = IsOpened mode levels text items before total
+Goes mode levels text before total (Finds finding) =
+    faults mode.with_alias_only before (opened mode levels text) ≡ Some (finding_view finding)
 
--- the item is a placeholder, which passed, and its text is opened
+-- the item is a placeholder, its text is opened, and both it and these items of the text passed
 pub record Entered (mode : Mode) (levels : ℕ) (item : Item) (items : List Item) (before : List Label)
     (total : WantedCounts) : Type 0 where
   pub label : Label
   pub meaning : Meaning
   pub is : item ≡ PlaceholderItem label meaning
   pub room : 0 < levels
-  pub starts : items ≡ resolve mode (meaning_text meaning)
-  pub passed : Passed mode.with_alias_only before (Open label meaning ∷ []) total
+  pub front : List Item
+  pub cut : resolve mode (meaning_text meaning) ≡ front ++ items
+  pub passed : Passed mode.with_alias_only before (Open label meaning ∷ events_inside mode levels front) total
 
 -- the walk goes past an item, with all that it opens, or into what it opens, or finds its fault
 abbrev pub Enters : Mode → ℕ → Item → List Label → WantedCounts → Step → Type 0

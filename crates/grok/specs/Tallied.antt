@@ -1,5 +1,5 @@
 -- What is counted of the texts of names before a walk to the first fault.
-use Rattle.std.specs.Prelude.{◌≡◌, ℕ, suc, ◌+◌, ◌<◌, ◌≤◌, List, [], Option, Some, None}
+use Rattle.std.specs.Prelude.{◌≡◌, ℕ, suc, ◌<◌, ◌≤◌, Bool, true, false, List, [], ◌∷◌, ◌++◌, length, Option, Some, None}
 use Rattle.std.specs.FinMap as finite
 use Rattle.std.specs.Ordering.{nat_cmp}
 use Rattle.std.specs.Cmp.Lexicographic.{slice_cmp}
@@ -10,6 +10,7 @@ use Rattle.grok.specs.Keys.{how_often, recorded}
 use Rattle.grok.specs.Wanted.{Counts}
 use Rattle.grok.specs.declared.expand.tallies.Mode.{Mode}
 use Rattle.grok.specs.declared.expand.tallies.Tally.{Tally}
+use Rattle.grok.specs.declared.expand.tallies.Front.{Front}
 use Rattle.grok.specs.declared.expand.tallies.Tallies.{Tallies}
 
 -- the items of a text over the definitions of the mode
@@ -45,22 +46,34 @@ pub record IsTallyOf (mode : Mode) (text : List ℕ) (tally : Tally) : Type 0 wh
   pub often : (levels : ℕ) → tally.height < levels → (key : List ℕ)
       → how_often (recorded mode.with_alias_only (opened mode levels text)) key ≡ wanted key
 
--- All items of a text but these that are left were counted. Where as many levels as the height may be opened
--- in the text, those before have no structural fault, and the counts are those of their recorded opens.
-pub record HasTallied (mode : Mode) (all left : List Item) (tally : Tally) : Type 0 where
+-- These items were counted. Where as many levels as the height may be opened in them, they have no structural
+-- fault, and the counts are those of their recorded opens.
+pub record HasTallied (mode : Mode) (items : List Item) (tally : Tally) : Type 0 where
   pub wanted : List ℕ → ℕ
   pub counts : Counts tally.wanted wanted
-  pub clean : (levels : ℕ) → tally.height ≤ levels → first_structural (events (opened mode levels) all)
-      ≡ first_structural (events (opened mode levels) left)
+  pub clean : (levels : ℕ) → tally.height ≤ levels → first_structural (events (opened mode levels) items) ≡ None
   pub often : (levels : ℕ) → tally.height ≤ levels → (key : List ℕ)
-      → how_often (recorded mode.with_alias_only (events (opened mode levels) all)) key
-      ≡ wanted key + how_often (recorded mode.with_alias_only (events (opened mode levels) left)) key
+      → how_often (recorded mode.with_alias_only (events (opened mode levels) items)) key ≡ wanted key
+
+-- the items with one more behind them, if it was counted
+abbrev pub with_item : Bool → List Item → Item → List Item
+with_item true items item = items ++ item ∷ []
+with_item false items item = items
+
+-- what was counted of a text: so many of its items from the first, and all of them if it is said so
+pub record IsFrontOf (mode : Mode) (text : List ℕ) (front : Front) : Type 0 where
+  pub items : List Item
+  pub left : List Item
+  pub cut : resolve mode text ≡ items ++ left
+  pub many : length items ≡ front.items
+  pub whole : front.is_whole ≡ true → left ≡ []
+  pub tallied : HasTallied mode items front.tally
 
 -- what was counted for a name
-abbrev pub tally_of : BTreeMap (Bor (List ℕ)) Tally → List ℕ → Option Tally
-tally_of by_name name = get_by (λ (key : Bor (List ℕ)). slice_cmp nat_cmp name key.now) by_name
+abbrev pub front_of : BTreeMap (Bor (List ℕ)) Front → List ℕ → Option Front
+front_of by_name name = get_by (λ (key : Bor (List ℕ)). slice_cmp nat_cmp name key.now) by_name
 
--- each name that has a tally has that of its text
+-- what was counted for a name is a front of its text
 abbrev pub AreTallied : Mode → Tallies → Type 0
-AreTallied mode tallies = (name text : List ℕ) (tally : Tally) → tally_of tallies.by_name name ≡ Some tally
-    → finite.get mode.grok.now name ≡ Some text → IsTallyOf mode text tally
+AreTallied mode tallies = (name text : List ℕ) (front : Front) → front_of tallies.by_name name ≡ Some front
+    → finite.get mode.grok.now name ≡ Some text → IsFrontOf mode text front

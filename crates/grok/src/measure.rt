@@ -545,12 +545,13 @@ fn measure_next<'a>(
 
 impl<'a> Findings<'a> {
     /// The names whose texts were read to their ends, each with how deep the opens in its text go:
-    /// a name stands behind those that its text opens.
+    /// a name stands behind those that its text opens. Those whose texts were read in part come last.
     pub(crate) fn read_names(&self, alloc: Global) -> Result<Vec<(usize, &'a str)>, AllocError> {
         let mut names = Vec::new(alloc);
         for (name, mark) in &self.marks {
-            if let Mark::Done(sum) = mark {
-                names.push((sum.height, *name))?;
+            match mark {
+                Mark::Done(sum) => names.push((sum.height, *name))?,
+                _ => names.push((usize::MAX, *name))?,
             }
         }
         names.sort()?;

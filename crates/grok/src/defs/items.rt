@@ -1,6 +1,6 @@
 //! The pieces of a text with what they stand for.
 
-ghost use Rattle.std.specs.Prelude.{◌≡◌, [], ◌∷◌, Option, Some, option_map, IfOk, OnOk, MatchOption, List, ℕ, not, ◌&&◌, if◌then◌else◌};
+ghost use Rattle.std.specs.Prelude.{◌≡◌, drop, [], ◌∷◌, Option, Some, option_map, IfOk, OnOk, MatchOption, List, ℕ, not, ◌&&◌, if◌then◌else◌};
 ghost use Rattle.std.specs.Str.{bytes_eq};
 ghost use Rattle.std.specs.FinMap as finite;
 ghost use Rattle.grok.specs.Pieces.{pieces};
@@ -126,6 +126,17 @@ impl<'a> Items<'a> {
         ensures { result ≡ items_of (finite.get grok.now) stored.now }
     {
         Items::new(alloc, grok, pieces_kept(stored))
+    }
+
+    /// Passes over so many items, or over all where there are fewer. An error is as that of
+    /// [`Items::next`].
+    pub fn pass_over(&mut self, count: usize) -> Result<(), AllocError>
+        ensures { OnOk result (self.new ≡ drop count self.old) }
+    {
+        'items: for _index in 0..count {
+            self.next()?;
+        }
+        Ok(())
     }
 
     /// The next item, if there is one. An error is want of memory for a definition that the text writes.

@@ -1,20 +1,20 @@
-//! The walk through a tree up to its first fault. It leaves out what stays without a fault: what a
-//! name opens whose text was counted, where no two of the keys clash that are wanted there and
+//! The walk through a tree up to its first fault. It leaves out what stays without a fault: what was
+//! counted of the text that a name opens, where no two of the keys clash that are wanted there and
 //! before.
-ghost use Rattle.std.specs.Prelude.{◌≡◌, ℕ, List, IfOk, option_map};
+ghost use Rattle.std.specs.Prelude.{◌≡◌, ◌<◌, ℕ, List, IfOk, option_map};
 ghost use Rattle.std.specs.FinMap as finite;
 ghost use Rattle.grok.specs.Tree as tree;
 ghost use Rattle.grok.specs.Tree.{tree as tree_of};
 ghost use Rattle.grok.specs.Keys.{first_fault};
 ghost use Rattle.grok.specs.Items.{label_view, meaning_view, item_view};
 ghost use Rattle.grok.specs.Walks.{finding_view};
-ghost use Rattle.grok.specs.Tallied.{AreTallied, IsTallyOf, IsSoundItem};
+ghost use Rattle.grok.specs.Tallied.{AreTallied, HasTallied, IsFrontOf, IsSoundItem, resolve};
 ghost use Rattle.grok.specs.Passing.{Keeps, Wants, Skips, Goes, Enters};
 
 use crate::defs::items::{Item, Items, Label, Meaning};
 use crate::errors::fault::{Fault, LEVELS};
 use crate::expand::key_assigner::{numbered_key, wanted_key};
-use crate::expand::tallies::{Mode, Tallies, Tally};
+use crate::expand::tallies::{Front, Mode, Tallies, Tally};
 use crate::expand::walk::Finding;
 use crate::expand::wanted::WantedCounts;
 use std::alloc::AllocError;
@@ -52,22 +52,45 @@ fn want<'a>(
     Ok(Some(key))
 }
 
-/// Counts all that a text wants at once, if so many levels are enough for it and no two keys clash
-/// then.
+/// Counts all that items of a text want at once, if so many levels are enough, the text among them,
+/// and no two keys clash then.
 fn pass<'a>(
     total: &mut WantedCounts<'a>,
     tally: &Tally<'a>,
     levels: usize,
 ) -> Result<bool, AllocError>
-    ensures { IfOk result (λ passed. (mode : Mode) (text : List ℕ) → IsTallyOf mode text tally.now
-        → (before : List tree.Label) → Keeps total.old before →
-        Skips mode text levels before total.old total.new passed) }
+    ensures { IfOk result (λ passed. (mode : Mode) (items : List tree.Item)
+        → HasTallied mode items tally.now → (before : List tree.Label) → Keeps total.old before →
+        Skips mode items levels before total.old total.new passed) }
 {
     if tally.height >= levels || !total.is_free_with(&tally.wanted)? {
         return Ok(false);
     }
     total.add_all(&tally.wanted)?;
     Ok(true)
+}
+
+/// Goes into a stored text behind what was counted of it, where so many levels may be opened, or
+/// past all of it.
+fn open_behind<'a>(
+    total: &mut WantedCounts<'a>,
+    front: &Front<'a>,
+    mut items: Items<'a>,
+    levels: usize,
+) -> Result<Step<'a>, AllocError>
+    requires { 0 < levels }
+    ensures { IfOk result (λ step. (mode : Mode) (text : List ℕ) → IsFrontOf mode text front.now
+        → items.entry ≡ resolve mode text → (before : List tree.Label) → Keeps total.old before →
+        Goes mode levels text before total.new step) }
+{
+    if !pass(total, &front.tally, levels)? {
+        return Ok(Step::Opens(items));
+    }
+    if front.is_whole {
+        return Ok(Step::Passes);
+    }
+    items.pass_over(front.items)?;
+    Ok(Step::Opens(items))
 }
 
 /// Goes into what a placeholder opens, where so many levels may be opened, or past it.
@@ -82,8 +105,8 @@ fn open<'a>(
     requires { AreTallied mode tallies.now }
     ensures { IfOk result (λ step. IsSoundItem mode.entry (tree.PlaceholderItem
         (label_view label.entry) (meaning_view meaning.entry)) → (before : List tree.Label) →
-        Keeps total.old before → Goes mode.entry levels (meaning_view meaning.entry) before
-        total.new step) }
+        Keeps total.old before → Goes mode.entry levels
+        (tree.meaning_text (meaning_view meaning.entry)) before total.new step) }
 {
     let alloc = mode.grok.alloc();
     if levels == 0 {
@@ -92,12 +115,11 @@ fn open<'a>(
     match meaning {
         Meaning::Inline(text) => Ok(Step::Opens(Items::of_text(alloc, mode.grok, text))),
         Meaning::Stored(stored) => {
-            if let Some(tally) = tallies.of_name(label.name) {
-                if pass(total, tally, levels)? {
-                    return Ok(Step::Passes);
-                }
+            let items = Items::of_stored(alloc, mode.grok, stored);
+            match tallies.of_name(label.name) {
+                Some(front) => open_behind(total, front, items, levels),
+                None => Ok(Step::Opens(items)),
             }
-            Ok(Step::Opens(Items::of_stored(alloc, mode.grok, stored)))
         }
     }
 }

@@ -1,13 +1,13 @@
-//! What the texts of names come to that have no fault: how deep their opens go, and which keys
-//! these want. Each text is read once, and then never again.
-ghost use Rattle.std.specs.Prelude.{◌≡◌, ℕ, ◌+◌, ◌<◌, ◌≤◌, List, ◌∷◌, if◌then◌else◌, IsTrue, IfOk, OnOk, IfSome, Some};
+//! What the texts of names come to, up to their first faults: how deep their opens go, and which
+//! keys these want. Each text is read once for that.
+ghost use Rattle.std.specs.Prelude.{◌≡◌, ℕ, ◌+◌, ◌<◌, ◌≤◌, List, if◌then◌else◌, IsTrue, IfOk, OnOk, IfSome, Some, false};
 ghost use Rattle.std.specs.Str.{bytes_eq};
 ghost use Rattle.std.specs.FinMap as finite;
 ghost use Rattle.grok.specs.Tree as tree;
 ghost use Rattle.grok.specs.Keys.{is_recorded, wanted as wanted_by};
 ghost use Rattle.grok.specs.Items.{label_view, item_view};
 ghost use Rattle.grok.specs.Wanted.{Counts};
-ghost use Rattle.grok.specs.Tallied.{IsTallyOf, HasTallied, AreTallied, IsSoundItem};
+ghost use Rattle.grok.specs.Tallied.{IsTallyOf, HasTallied, IsFrontOf, AreTallied, IsSoundItem, with_item};
 
 use crate::defs::Grok;
 use crate::defs::definition::Definition;
@@ -21,8 +21,8 @@ use std::collections::BTreeMap;
 /// More recorded opens than this aren't counted, so that no count of a tally is too large.
 const MOST_OPENS: usize = 1 << 62;
 
-/// What a text comes to where more levels than its height may be opened, itself among them: it has
-/// no structural fault, and its recorded opens want these keys.
+/// What items come to where as many levels as their height may be opened: they have no structural
+/// fault, and their recorded opens want these keys.
 #[derive(Drop)]
 pub(crate) struct Tally<'a> {
     pub height: usize,
@@ -38,10 +38,19 @@ pub(crate) struct Mode<'a> {
     pub with_alias_only: bool,
 }
 
-/// The tallies of names.
+/// What was counted of a text: its first items, or all of them.
+#[derive(Drop)]
+pub(crate) struct Front<'a> {
+    pub tally: Tally<'a>,
+    /// How many items were counted.
+    pub items: usize,
+    pub is_whole: bool,
+}
+
+/// What was counted of the texts of names.
 #[derive(Drop)]
 pub(crate) struct Tallies<'a> {
-    by_name: BTreeMap<&'a str, Tally<'a>>,
+    by_name: BTreeMap<&'a str, Front<'a>>,
 }
 
 impl<'a> Tally<'a> {
@@ -79,6 +88,7 @@ impl<'a> Tally<'a> {
         ensures counts { IfOk result (λ added. IsTrue added → (wanted others : List ℕ → ℕ)
             → Counts self.old.wanted wanted → Counts inner.now.wanted others →
             Counts self.new.wanted (λ key. others key + wanted key)) }
+        ensures unchanged { IfOk result (λ added. added ≡ false → self.new ≡ self.old) }
     {
         let opens = self.opens.saturating_add(inner.opens);
         if inner.height >= LEVELS || opens > MOST_OPENS {
@@ -89,13 +99,33 @@ impl<'a> Tally<'a> {
         self.wanted.add_all(&inner.wanted)?;
         Ok(true)
     }
+
+    /// Counts an open with what it holds, if that isn't too much.
+    fn add_placeholder(
+        &mut self,
+        label: Label<'a>,
+        with_alias_only: bool,
+        inner: &Tally<'a>,
+    ) -> Result<bool, AllocError>
+        ensures { IfOk result (λ added. (mode : Mode) (meaning : tree.Meaning)
+            (front : List tree.Item) → mode.with_alias_only ≡ with_alias_only
+            → IsTallyOf mode (tree.meaning_text meaning) inner.now
+            → HasTallied mode front self.old → HasTallied mode
+            (with_item added front (tree.PlaceholderItem (label_view label.entry) meaning)) self.new) }
+    {
+        if !self.add_opened(inner)? {
+            return Ok(false);
+        }
+        self.add_open(label, with_alias_only)?;
+        Ok(true)
+    }
 }
 
 impl<'a> Tallies<'a> {
-    /// The tally of a name, if it has one.
-    pub fn of_name(&self, name: &'a str) -> Option<&Tally<'a>>
-        ensures { IfSome result (λ tally. (mode : Mode) → AreTallied mode self.now → (text : List ℕ)
-            → finite.get mode.grok.now name.now ≡ Some text → IsTallyOf mode text tally.now) }
+    /// What was counted of the text of a name, if that was.
+    pub fn of_name(&self, name: &'a str) -> Option<&Front<'a>>
+        ensures { IfSome result (λ front. (mode : Mode) → AreTallied mode self.now → (text : List ℕ)
+            → finite.get mode.grok.now name.now ≡ Some text → IsFrontOf mode text front.now) }
     {
         self.by_name.get(&name)
     }
@@ -109,63 +139,76 @@ impl<'a> Tallies<'a> {
         tally: &mut Tally<'a>,
     ) -> Result<bool, AllocError>
         requires { AreTallied mode self.now }
-        ensures { IfOk result (λ known. IsTrue known → IsSoundItem mode.entry (item_view item.entry)
-            → (all rest : List tree.Item) →
-            HasTallied mode.entry all (item_view item.entry ∷ rest) tally.old →
-            HasTallied mode.entry all rest tally.new) }
+        ensures { IfOk result (λ known. IsSoundItem mode.entry (item_view item.entry)
+            → (front : List tree.Item) → HasTallied mode.entry front tally.old →
+            HasTallied mode.entry (with_item known front (item_view item.entry)) tally.new) }
     {
         match item {
             Item::Text(_) => Ok(true),
             Item::Fault(_) => Ok(false),
-            Item::Placeholder(label, meaning) => {
-                tally.add_open(label, mode.with_alias_only)?;
-                match meaning {
-                    Meaning::Inline(_) => tally.add_opened(&Tally::new(mode.grok.alloc())),
-                    Meaning::Stored(_) => match self.of_name(label.name) {
-                        Some(inner) => tally.add_opened(inner),
-                        None => Ok(false),
-                    },
+            Item::Placeholder(label, meaning) => match meaning {
+                Meaning::Inline(_) => {
+                    let nothing = Tally::new(mode.grok.alloc());
+                    tally.add_placeholder(label, mode.with_alias_only, &nothing)
                 }
-            }
+                Meaning::Stored(_) => match self.of_name(label.name) {
+                    Some(front) if front.is_whole => {
+                        tally.add_placeholder(label, mode.with_alias_only, &front.tally)
+                    }
+                    _ => Ok(false),
+                },
+            },
         }
     }
 
-    /// The tally of a stored text, if those of the names that it opens are known.
-    fn count_text(
-        &self,
-        mode: Mode<'a>,
-        stored: &'a Definition,
-    ) -> Result<Option<Tally<'a>>, AllocError>
+    /// Counts the items of a stored text up to the first that isn't known to have no fault.
+    fn count_text(&self, mode: Mode<'a>, stored: &'a Definition) -> Result<Front<'a>, AllocError>
         requires { AreTallied mode self.now }
-        ensures { IfOk result (λ found. IfSome found
-            (λ tally. IsTallyOf mode.entry stored.now tally)) }
+        ensures { IfOk result (λ front. IsFrontOf mode.entry stored.now front) }
     {
         let alloc = mode.grok.alloc();
         let mut tally = Tally::new(alloc);
+        let mut counted: usize = 0;
         let mut items = Items::of_stored(alloc, mode.grok, stored);
         'items: while let Some(item) = items.next()? {
+            let more = counted.checked_add(1);
+            let Some(more) = more else {
+                return Ok(Front {
+                    tally,
+                    items: counted,
+                    is_whole: false,
+                });
+            };
             if !self.count_item(mode, item, &mut tally)? {
-                return Ok(None);
+                return Ok(Front {
+                    tally,
+                    items: counted,
+                    is_whole: false,
+                });
             }
+            counted = more;
         }
-        Ok(Some(tally))
+        Ok(Front {
+            tally,
+            items: counted,
+            is_whole: true,
+        })
     }
 
-    /// Counts the text of a name, if those of the names that it opens were counted.
+    /// Counts the text of a name.
     fn add_name(&mut self, mode: Mode<'a>, name: &'a str) -> Result<(), AllocError>
         requires { AreTallied mode self.old }
         ensures { OnOk result (AreTallied mode.entry self.new) }
     {
         if let Some(stored) = mode.grok.definition(name) {
-            if let Some(tally) = self.count_text(mode, stored)? {
-                self.by_name.insert(name, tally)?;
-            }
+            let front = self.count_text(mode, stored)?;
+            self.by_name.insert(name, front)?;
         }
         Ok(())
     }
 
-    /// The tallies of these names, of which each stands behind those that its text opens: one that
-    /// doesn't gets none.
+    /// What is counted of the texts of these names, of which each stands behind those that its text
+    /// opens: else its text is counted up to there.
     pub fn of_names(mode: Mode<'a>, names: &[(usize, &'a str)]) -> Result<Tallies<'a>, AllocError>
         ensures { IfOk result (λ tallies. AreTallied mode.entry tallies) }
     {

@@ -1,34 +1,49 @@
-use Rattle.std.proofs.Common.{◌≡◌, ◌∷◌, sym, subst}
+use Rattle.std.proofs.Common.{◌≡◌, ◌+◌, ◌∷◌, sym, subst, arith}
 use Rattle.std.specs.FinMap as finite
 use Rattle.grok.specs.Items.{item_view}
-use Rattle.grok.specs.Tallied.{resolve, HasTallied}
+use Rattle.grok.specs.Tallied.{resolve, HasTallied, with_item}
 use Rattle.grok.proofs.Flat.{AreSound, sound_rest}
 use Rattle.grok.proofs.Sound.{sound_texts}
-use Rattle.grok.proofs.Tallying.{nothing_tallied, sound_first, all_tallied}
+use Rattle.grok.proofs.Tallying.{sound_first, counting_starts, counting_goes_on}
 use Rattle.grok.proofs.expand.tallies.Tallies.count_text.Goals as goal
 
 pub items-init : goal.items-init
 items-init c =
     let mode = c.args.mode in
-    let all = resolve mode c.args.stored.now in
     record {
       sound = subst (AreSound (resolve mode) (finite.get mode.grok.now)) (sym c.of_stored-items.ensures) ((sound_texts (finite.get mode.grok.now)).sound c.args.stored.now);
-      tallied = subst (λ left. HasTallied mode all left c.new-tally.result) (sym c.of_stored-items.ensures) (nothing_tallied mode all c.new-tally.result c.new-tally.ensures.counts);
+      counting = counting_starts mode c.args.stored.now c.of_stored-items.result c.new-tally.result c.of_stored-items.ensures c.new-tally.ensures.counts;
     }
 
 pub items-preserved : goal.items-preserved
 items-preserved c =
     let mode = c.args.mode in
-    let all = resolve mode c.args.stored.now in
     let item = item_view c.in-Some.item in
-    let cut : c.items.items ≡ item ∷ c.next.new.self = rw c.in-Some.is at c.in_ok-item.ensures in
-    let sound : AreSound (resolve mode) (finite.get mode.grok.now) (item ∷ c.next.new.self) = subst (AreSound (resolve mode) (finite.get mode.grok.now)) cut c.items.invariant.sound in
+    let rest = c.next.new.self in
+    let new = c.count_item.new.tally in
+    let cut : c.items.items ≡ item ∷ rest = rw c.in-Some.is at c.in_ok-item.ensures in
+    let sound : AreSound (resolve mode) (finite.get mode.grok.now) (item ∷ rest) = subst (AreSound (resolve mode) (finite.get mode.grok.now)) cut c.items.invariant.sound in
+    let one : c.in-Some-more.more ≡ c.items.counted + 1 = omega (arith, c.in-Some-more.ensures) in
     record {
-      sound = sound_rest (resolve mode) (finite.get mode.grok.now) item c.next.new.self sound;
-      tallied = c.in_ok-count_item.ensures c.if-not-branch.false (sound_first mode item c.next.new.self sound) all c.next.new.self (subst (λ left. HasTallied mode all left c.items.tally) cut c.items.invariant.tallied);
+      sound = sound_rest (resolve mode) (finite.get mode.grok.now) item rest sound;
+      counting = counting_goes_on mode c.args.stored.now c.items.items rest item c.items.counted c.in-Some-more.more c.items.tally new cut one c.items.invariant.counting
+          (λ items h. subst (λ b. HasTallied mode (with_item b items item) new) c.if-not-branch.false (c.in_ok-count_item.ensures (sound_first mode item rest sound) items h));
     }
 
-pub returns : goal.returns
-returns c =
-    let over = rw c.in_default.is at c.in_ok-item.ensures in
-    all_tallied c.args.mode c.args.stored.now c.items.items c.items.tally over.0 c.items.invariant.tallied
+pub returns-then-not-branch : goal.returns-then-not-branch
+returns-then-not-branch c =
+    let mode = c.args.mode in
+    let item = item_view c.in-Some.item in
+    let rest = c.next.new.self in
+    let new = c.count_item.new.tally in
+    let cut : c.items.items ≡ item ∷ rest = rw c.in-Some.is at c.in_ok-item.ensures in
+    let sound : AreSound (resolve mode) (finite.get mode.grok.now) (item ∷ rest) = subst (AreSound (resolve mode) (finite.get mode.grok.now)) cut c.items.invariant.sound in
+    let so_far = c.items.invariant.counting in
+    record {
+      items = so_far.items;
+      left = c.items.items;
+      cut = so_far.cut;
+      many = so_far.many;
+      whole = λ is. cc;
+      tallied = subst (λ b. HasTallied mode (with_item b so_far.items item) new) c.if-not-branch.true (c.in_ok-count_item.ensures (sound_first mode item rest sound) so_far.items so_far.tallied);
+    }

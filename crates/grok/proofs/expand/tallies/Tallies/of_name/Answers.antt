@@ -2,13 +2,13 @@ use Rattle.std.proofs.Common.{◌≡◌, List, ℕ, Option, Some, None, IfSome, 
 use Rattle.std.specs.Option.{option_copied}
 use Rattle.std.specs.FinMap as finite
 use Rattle.grok.specs.declared.expand.tallies.Mode.{Mode}
-use Rattle.grok.specs.declared.expand.tallies.Tally.{Tally}
-use Rattle.grok.specs.Tallied.{IsTallyOf, AreTallied, tally_of}
+use Rattle.grok.specs.declared.expand.tallies.Front.{Front}
+use Rattle.grok.specs.Tallied.{IsFrontOf, AreTallied, front_of}
 use Rattle.grok.proofs.expand.tallies.Tallies.of_name.Goals as goal
 
 pub returns : goal.returns
 returns c = found c.get.result c.get.ensures.value
   where
-    found : (o : Option (Bor Tally)) → option_copied o ≡ tally_of c.args.self.now.by_name c.args.name.now → IfSome o (λ tally. (mode : Mode) → AreTallied mode c.args.self.now → (text : List ℕ) → finite.get mode.grok.now c.args.name.now ≡ Some text → IsTallyOf mode text tally.now)
+    found : (o : Option (Bor Front)) → option_copied o ≡ front_of c.args.self.now.by_name c.args.name.now → IfSome o (λ front. (mode : Mode) → AreTallied mode c.args.self.now → (text : List ℕ) → finite.get mode.grok.now c.args.name.now ≡ Some text → IsFrontOf mode text front.now)
     found None e = tt
-    found (Some tally) e = λ mode tallied text is. tallied c.args.name.now text tally.now (sym e) is
+    found (Some front) e = λ mode tallied text is. tallied c.args.name.now text front.now (sym e) is
