@@ -171,8 +171,7 @@ impl<'a> Tallies<'a> {
         let mut counted: usize = 0;
         let mut items = Items::of_stored(alloc, mode.grok, stored);
         'items: while let Some(item) = items.next()? {
-            let more = counted.checked_add(1);
-            let Some(more) = more else {
+            let Some(more) = counted.checked_add(1) else {
                 return Ok(Front {
                     tally,
                     items: counted,

@@ -23,10 +23,10 @@ items-preserved c =
     let new = c.count_item.new.tally in
     let cut : c.items.items ≡ item ∷ rest = rw c.in-Some.is at c.in_ok-item.ensures in
     let sound : AreSound (resolve mode) (finite.get mode.grok.now) (item ∷ rest) = subst (AreSound (resolve mode) (finite.get mode.grok.now)) cut c.items.invariant.sound in
-    let one : c.in-Some-more.more ≡ c.items.counted + 1 = omega (arith, c.in-Some-more.ensures) in
+    let one : c.in-Some-checked_add.more ≡ c.items.counted + 1 = omega (arith, c.in-Some-checked_add.ensures) in
     record {
       sound = sound_rest (resolve mode) (finite.get mode.grok.now) item rest sound;
-      counting = counting_goes_on mode c.args.stored.now c.items.items rest item c.items.counted c.in-Some-more.more c.items.tally new cut one c.items.invariant.counting
+      counting = counting_goes_on mode c.args.stored.now c.items.items rest item c.items.counted c.in-Some-checked_add.more c.items.tally new cut one c.items.invariant.counting
           (λ items h. subst (λ b. HasTallied mode (with_item b items item) new) c.if-not-branch.false (c.in_ok-count_item.ensures (sound_first mode item rest sound) items h));
     }
 
