@@ -52,22 +52,10 @@ impl OwnSearch {
     pub(crate) fn build(alloc: Global, text: &str) -> Result<OwnSearch, Declined>
         ensures { IfOk result (λ search. string_bytes search.source ≡ text.now) }
     {
-        let Ok(parsed) = regex_syntax::parse(alloc, text, &Config::default()) else {
-            return Err(Declined);
-        };
-        let Parsed { hir, names } = parsed;
-        let Ok(groups) = u32::try_from(names.len()) else {
-            return Err(Declined);
-        };
-        let Ok(nfa) = regex_compile::compile(alloc, &hir, groups, LIMIT) else {
-            return Err(Declined);
-        };
-        let Ok(dfa) = Dfa::new(alloc, nfa) else {
-            return Err(Declined);
-        };
+        let source = String::from_str(alloc, text)?;
+        let (hir, dfa) = automaton_of(alloc, text)?;
         let tagged = Tagged::new(alloc, &dfa)?;
         let cells = vec![in alloc; 0usize; (dfa.nfa.slot_count as usize).saturating_sub(2)]?;
-        let source = String::from_str(alloc, text)?;
         Ok(OwnSearch {
             source,
             hir,
@@ -154,6 +142,26 @@ impl OwnSearch {
         self.matched_at_start = matches!(found, Some((0, _)));
         Ok(found)
     }
+}
+
+/// The tree that a text is read as, and its automaton, unless the text is refused or large.
+fn automaton_of(alloc: Global, text: &str) -> Result<(Hir, Dfa), Declined>
+    ensures read { IfOk result (λ made. ∥ IsTreeOf text.now made.0 ∥₁) }
+    ensures implements { IfOk result (λ made. ∥ Implements made.1.nfa (meaning made.0) ∥₁) }
+{
+    let Ok(Parsed { hir, names }) = regex_syntax::parse(alloc, text, &Config::default()) else {
+        return Err(Declined);
+    };
+    let Ok(groups) = u32::try_from(names.len()) else {
+        return Err(Declined);
+    };
+    let Ok(nfa) = regex_compile::compile(alloc, &hir, groups, LIMIT) else {
+        return Err(Declined);
+    };
+    let Ok(dfa) = Dfa::new(alloc, nfa) else {
+        return Err(Declined);
+    };
+    Ok((hir, dfa))
 }
 
 /// Whether the text asks where words start or end.
