@@ -1,6 +1,6 @@
 //! The pieces of a text with what they stand for.
 
-ghost use Rattle.std.specs.Prelude.{◌≡◌, drop, [], ◌∷◌, Option, Some, option_map, IfOk, OnOk, MatchOption, List, ℕ, not, ◌&&◌, if◌then◌else◌};
+ghost use Rattle.std.specs.Prelude.{◌≡◌, drop, [], ◌∷◌, Option, Some, option_map, IfOk, OnOk, MatchOption, List, ℕ, not, ◌&&◌, ◌++◌, IsTrue, IsFalse, if◌then◌else◌};
 ghost use Rattle.std.specs.Str.{bytes_eq};
 ghost use Rattle.std.specs.FinMap as finite;
 ghost use Rattle.grok.specs.Pieces.{pieces};
@@ -17,6 +17,7 @@ use crate::parser::GrokComponent;
 use std::alloc::{AllocError, Global};
 use std::collections::BTreeMap;
 use std::marker::Model;
+use std::mem;
 
 /// What a placeholder opens under.
 #[derive(Clone, Copy)]
@@ -170,5 +171,33 @@ impl<'a> Items<'a> {
                 Ok(Some(open_label(self.grok, label, written)))
             }
         }
+    }
+}
+
+/// Goes into a text: its items are read next, and those of the text around it after them.
+pub(crate) fn descend<'a>(
+    around: &mut Vec<Items<'a>>,
+    items: &mut Items<'a>,
+    inner: Items<'a>,
+) -> Result<(), AllocError>
+    ensures around { IfOk result (λ _. around.new.items ≡ around.old.items ++ items.old ∷ []) }
+    ensures items { IfOk result (λ _. items.new ≡ inner.entry) }
+{
+    around.push(mem::replace(items, inner))?;
+    Ok(())
+}
+
+/// Goes back to the text around, if there is one.
+pub(crate) fn ascend<'a>(around: &mut Vec<Items<'a>>, items: &mut Items<'a>) -> bool
+    ensures inside { IsTrue result → around.old.items ≡ around.new.items ++ items.new ∷ [] }
+    ensures outside { IsFalse result → (around.old.items ≡ []) × (around.new.items ≡ [])
+        × (items.new ≡ items.old) }
+{
+    match around.pop() {
+        Some(outer) => {
+            *items = outer;
+            true
+        }
+        None => false,
     }
 }

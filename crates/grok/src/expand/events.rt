@@ -6,11 +6,10 @@ ghost use Rattle.grok.specs.Items.{meaning_view};
 ghost use Rattle.grok.specs.Events.{event_view};
 
 use crate::defs::Grok;
-use crate::defs::items::{Item, Items, Label, Meaning};
+use crate::defs::items::{Item, Items, Label, Meaning, ascend, descend};
 use crate::errors::fault::{Fault, LEVELS};
 use std::alloc::AllocError;
 use std::marker::Model;
-use std::mem;
 
 /// What is read of a pattern in which each placeholder stands with all that it opens.
 #[derive(Clone, Copy)]
@@ -89,7 +88,7 @@ impl<'a> Events<'a> {
                 return Ok(Some(Event::Fault(Fault::TooDeep)));
             }
             let inner = items_inside(self.grok, meaning);
-            self.around.push(mem::replace(&mut self.items, inner))?;
+            descend(&mut self.around, &mut self.items, inner)?;
         }
         match self.items.next()? {
             Some(Item::Text(text)) => Ok(Some(Event::Text(text))),
@@ -98,13 +97,12 @@ impl<'a> Events<'a> {
                 self.opening = Some(meaning);
                 Ok(Some(Event::Open(label, meaning)))
             }
-            None => match self.around.pop() {
-                Some(outer) => {
-                    self.items = outer;
-                    Ok(Some(Event::Close))
+            None => {
+                if !ascend(&mut self.around, &mut self.items) {
+                    return Ok(None);
                 }
-                None => Ok(None),
-            },
+                Ok(Some(Event::Close))
+            }
         }
     }
 }

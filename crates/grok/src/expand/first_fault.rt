@@ -11,14 +11,13 @@ ghost use Rattle.grok.specs.Walks.{finding_view};
 ghost use Rattle.grok.specs.Tallied.{AreTallied, HasTallied, IsFrontOf, IsSoundItem, resolve};
 ghost use Rattle.grok.specs.Passing.{Keeps, Wants, Skips, Goes, Enters};
 
-use crate::defs::items::{Item, Items, Label, Meaning};
+use crate::defs::items::{Item, Items, Label, Meaning, ascend, descend};
 use crate::errors::fault::{Fault, LEVELS};
 use crate::expand::key_assigner::{numbered_key, wanted_key};
 use crate::expand::tallies::{Front, Mode, Tallies, Tally};
 use crate::expand::walk::Finding;
 use crate::expand::wanted::WantedCounts;
 use std::alloc::AllocError;
-use std::mem;
 
 /// What an item does to the walk.
 #[derive(Drop)]
@@ -169,13 +168,14 @@ pub(crate) fn first_finding<'a>(
         match items.next()? {
             Some(item) => match enter(mode, tallies, &mut total, item, LEVELS - around.len())? {
                 Step::Passes => {}
-                Step::Opens(inner) => around.push(mem::replace(&mut items, inner))?,
+                Step::Opens(inner) => descend(&mut around, &mut items, inner)?,
                 Step::Finds(finding) => return Ok(Some(finding)),
             },
-            None => match around.pop() {
-                Some(outer) => items = outer,
-                None => return Ok(None),
-            },
+            None => {
+                if !ascend(&mut around, &mut items) {
+                    return Ok(None);
+                }
+            }
         }
     }
 }

@@ -3,7 +3,6 @@ use Rattle.grok.specs.Tree.{tree, Item, deepest}
 use Rattle.grok.specs.Items.{item_view}
 use Rattle.grok.specs.Tallied.{resolve}
 use Rattle.grok.specs.Passing.{Entered, Enters}
-use Rattle.std.proofs.lemmas.List.{nil_from_length}
 use Rattle.grok.proofs.Passing.{left_of, IsWalking, walked, walk_starts, walk_ends, walk_closes, close_smaller, walk_steps, walk_passes, pass_smaller, walk_finds, walk_enters, enter_smaller}
 use Rattle.grok.proofs.expand.first_fault.first_finding.Goals as goal
 
@@ -48,9 +47,9 @@ items-preserved-in-Continue-branch-5 c =
     walk_steps mode all around c.items.items c.items.total w item rest cut (1023 - c.len.result) room c.enter.new.total c.in_ok-enter-in-Some.field-0 c.in_ok-enter-in-Some.ensures in
     let entered : Entered mode (deepest - length around) item c.in-Opens.inner (walked mode all around c.items.items c.items.total w) c.enter.new.total =
     subst (Enters mode (deepest - length around) item (walked mode all around c.items.items c.items.total w) c.enter.new.total) c.in-Opens.is stepped in
-    let deeper : c.push.new.self.items ≡ around ++ rest ∷ [] = c.in_ok-push-in-Opens.ensures.items ∙ ap (λ (items : List Item). around ++ items ∷ []) c.replace.ensures.value in
-    subst (λ items. IsWalking mode all c.push.new.self.items items c.enter.new.total) (sym c.replace.ensures.after)
-    (walk_enters mode all around c.items.items c.items.total w item rest cut c.in-Opens.inner c.enter.new.total entered c.push.new.self.items deeper)
+    let deeper : c.descend.new.around.items ≡ around ++ rest ∷ [] = c.in_ok-descend-in-Opens.ensures.around in
+    subst (λ items. IsWalking mode all c.descend.new.around.items items c.enter.new.total) (sym c.in_ok-descend-in-Opens.ensures.items)
+    (walk_enters mode all around c.items.items c.items.total w item rest cut c.in-Opens.inner c.enter.new.total entered c.descend.new.around.items deeper)
 
 pub items-smaller-in-Continue-branch-5 : goal.items-smaller-in-Continue-branch-5
 items-smaller-in-Continue-branch-5 c =
@@ -66,9 +65,9 @@ items-smaller-in-Continue-branch-5 c =
     walk_steps mode all around c.items.items c.items.total w item rest cut (1023 - c.len.result) room c.enter.new.total c.in_ok-enter-in-Some.field-0 c.in_ok-enter-in-Some.ensures in
     let entered : Entered mode (deepest - length around) item c.in-Opens.inner (walked mode all around c.items.items c.items.total w) c.enter.new.total =
     subst (Enters mode (deepest - length around) item (walked mode all around c.items.items c.items.total w) c.enter.new.total) c.in-Opens.is stepped in
-    let deeper : c.push.new.self.items ≡ around ++ rest ∷ [] = c.in_ok-push-in-Opens.ensures.items ∙ ap (λ (items : List Item). around ++ items ∷ []) c.replace.ensures.value in
-    subst (λ items. length (left_of mode c.push.new.self.items items) < length (left_of mode around c.items.items)) (sym c.replace.ensures.after)
-    (enter_smaller mode all around c.items.items c.items.total w item rest cut c.in-Opens.inner c.enter.new.total entered c.push.new.self.items deeper)
+    let deeper : c.descend.new.around.items ≡ around ++ rest ∷ [] = c.in_ok-descend-in-Opens.ensures.around in
+    subst (λ items. length (left_of mode c.descend.new.around.items items) < length (left_of mode around c.items.items)) (sym c.in_ok-descend-in-Opens.ensures.items)
+    (enter_smaller mode all around c.items.items c.items.total w item rest cut c.in-Opens.inner c.enter.new.total entered c.descend.new.around.items deeper)
 
 pub returns-in-Finds : goal.returns-in-Finds
 unfolding tree
@@ -90,19 +89,19 @@ items-preserved c =
     let mode = c.args.mode in
     let all = left_of mode [] (resolve mode c.args.pattern.now) in
     let over = rw c.in-None.is at c.in_ok-item.ensures in
-    walk_closes mode all c.items.around.items c.items.items c.items.total c.items.invariant c.in-Some-pop.outer c.pop.new.self.items over.0 c.in-Some-pop.ensures.items
+    walk_closes mode all c.items.around.items c.items.items c.items.total c.items.invariant c.ascend.new.items c.ascend.new.around.items over.0 (c.if-not-ascend.ensures.inside refl)
 
 pub items-smaller : goal.items-smaller
 items-smaller c =
     let mode = c.args.mode in
     let all = left_of mode [] (resolve mode c.args.pattern.now) in
     let over = rw c.in-None.is at c.in_ok-item.ensures in
-    close_smaller mode all c.items.around.items c.items.items c.items.total c.items.invariant c.in-Some-pop.outer c.pop.new.self.items over.0 c.in-Some-pop.ensures.items
+    close_smaller mode all c.items.around.items c.items.items c.items.total c.items.invariant c.ascend.new.items c.ascend.new.around.items over.0 (c.if-not-ascend.ensures.inside refl)
 
-pub returns-in-None-pop : goal.returns-in-None-pop
+pub returns-then-not-ascend : goal.returns-then-not-ascend
 unfolding tree
-returns-in-None-pop c =
+returns-then-not-ascend c =
     let mode = c.args.mode in
     let all = left_of mode [] (resolve mode c.args.pattern.now) in
     let over = rw c.in-None.is at c.in_ok-item.ensures in
-    sym (walk_ends mode all c.items.around.items c.items.items c.items.total c.items.invariant over.0 (nil_from_length c.items.around.items (sym c.items.around.ok.0 ∙ c.in-None-pop.ensures.cases.0)))
+    sym (walk_ends mode all c.items.around.items c.items.items c.items.total c.items.invariant over.0 (c.if-not-ascend.ensures.outside refl).0)

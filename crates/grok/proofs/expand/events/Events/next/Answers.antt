@@ -4,7 +4,7 @@ use Rattle.grok.specs.Items.{label_view, fault_view, item_view}
 use Rattle.grok.specs.declared.expand.events.Events.TheInside.{Inside}
 use Rattle.grok.proofs.Stacking.{IsSettled, settled_already, settled_now, too_deep, settled_text, settled_fault, settled_opens, settled_close}
 use Rattle.grok.proofs.expand.events.Events.next.Goals as goal
-use Rattle.grok.proofs.expand.events.Events.next.Goals.{in-Some+else-len-ge-LEVELS+in_ok-push, in_default}
+use Rattle.grok.proofs.expand.events.Events.next.Goals.{in-Some+else-len-ge-LEVELS+in_ok-descend, in_default}
 
 pub returns-then-len-ge-LEVELS : goal.returns-then-len-ge-LEVELS
 returns-then-len-ge-LEVELS c =
@@ -14,11 +14,11 @@ returns-then-len-ge-LEVELS c =
 pub returns-in-Some-Text : goal.returns-in-Some-Text
 returns-in-Some-Text c =
     let settled : IsSettled c.args.self.now c.match-take.self-inside = elim c.match-take.branch [
-      | in-Some+else-len-ge-LEVELS+in_ok-push w ↦
-          let opened : Inside = record { grok = c.self.inside.grok; around = w.push.new.self; items = w.replace.new.dest; opening = c.take.new.self } in
+      | in-Some+else-len-ge-LEVELS+in_ok-descend w ↦
+          let opened : Inside = record { grok = c.self.inside.grok; around = w.descend.new.around; items = w.descend.new.items; opening = c.take.new.self } in
           subst (IsSettled c.args.self.now) (sym w.self-inside-is)
           (settled_now c.args.self.now c.self.inside w.in-Some.meaning (sym w.in-Some.ensures.value) c.self.view_is opened refl c.take.ensures.after (omega arith)
-          (w.in_ok-push.ensures.items ∙ ap (λ (xs : List Item). c.self.inside.around.items ++ xs ∷ []) w.replace.ensures.value) (w.replace.ensures.after ∙ w.items_inside-inner.ensures))
+          w.in_ok-descend.ensures.around (w.in_ok-descend.ensures.items ∙ w.items_inside-inner.ensures))
       | in_default w ↦
           subst (IsSettled c.args.self.now) (sym w.self-inside-is) (settled_already c.args.self.now c.self.inside (sym c.take.ensures.value ∙ w.in_default.is) c.self.view_is c.take.new.self c.take.ensures.after)
     ] in
@@ -28,11 +28,11 @@ returns-in-Some-Text c =
 pub returns-in-Some-Fault : goal.returns-in-Some-Fault
 returns-in-Some-Fault c =
     let settled : IsSettled c.args.self.now c.match-take.self-inside = elim c.match-take.branch [
-      | in-Some+else-len-ge-LEVELS+in_ok-push w ↦
-          let opened : Inside = record { grok = c.self.inside.grok; around = w.push.new.self; items = w.replace.new.dest; opening = c.take.new.self } in
+      | in-Some+else-len-ge-LEVELS+in_ok-descend w ↦
+          let opened : Inside = record { grok = c.self.inside.grok; around = w.descend.new.around; items = w.descend.new.items; opening = c.take.new.self } in
           subst (IsSettled c.args.self.now) (sym w.self-inside-is)
           (settled_now c.args.self.now c.self.inside w.in-Some.meaning (sym w.in-Some.ensures.value) c.self.view_is opened refl c.take.ensures.after (omega arith)
-          (w.in_ok-push.ensures.items ∙ ap (λ (xs : List Item). c.self.inside.around.items ++ xs ∷ []) w.replace.ensures.value) (w.replace.ensures.after ∙ w.items_inside-inner.ensures))
+          w.in_ok-descend.ensures.around (w.in_ok-descend.ensures.items ∙ w.items_inside-inner.ensures))
       | in_default w ↦
           subst (IsSettled c.args.self.now) (sym w.self-inside-is) (settled_already c.args.self.now c.self.inside (sym c.take.ensures.value ∙ w.in_default.is) c.self.view_is c.take.new.self c.take.ensures.after)
     ] in
@@ -42,28 +42,28 @@ returns-in-Some-Fault c =
 pub returns-in-Some-Placeholder : goal.returns-in-Some-Placeholder
 returns-in-Some-Placeholder c =
     let settled : IsSettled c.args.self.now c.match-take.self-inside = elim c.match-take.branch [
-      | in-Some+else-len-ge-LEVELS+in_ok-push w ↦
-          let opened : Inside = record { grok = c.self.inside.grok; around = w.push.new.self; items = w.replace.new.dest; opening = c.take.new.self } in
+      | in-Some+else-len-ge-LEVELS+in_ok-descend w ↦
+          let opened : Inside = record { grok = c.self.inside.grok; around = w.descend.new.around; items = w.descend.new.items; opening = c.take.new.self } in
           subst (IsSettled c.args.self.now) (sym w.self-inside-is)
           (settled_now c.args.self.now c.self.inside w.in-Some.meaning (sym w.in-Some.ensures.value) c.self.view_is opened refl c.take.ensures.after (omega arith)
-          (w.in_ok-push.ensures.items ∙ ap (λ (xs : List Item). c.self.inside.around.items ++ xs ∷ []) w.replace.ensures.value) (w.replace.ensures.after ∙ w.items_inside-inner.ensures))
+          w.in_ok-descend.ensures.around (w.in_ok-descend.ensures.items ∙ w.items_inside-inner.ensures))
       | in_default w ↦
           subst (IsSettled c.args.self.now) (sym w.self-inside-is) (settled_already c.args.self.now c.self.inside (sym c.take.ensures.value ∙ w.in_default.is) c.self.view_is c.take.new.self c.take.ensures.after)
     ] in
     let later : Inside = record { grok = c.match-take.self-inside.grok; around = c.match-take.self-inside.around; items = c.next.new.self; opening = Some c.in-Some-Placeholder.meaning } in
     settled_opens c.args.self.now c.match-take.self-inside settled later refl refl (item_view c.in-Some-Placeholder.field-0) (rw c.in-Some-Placeholder.is at c.in_ok-text.ensures) (label_view c.in-Some-Placeholder.label) c.in-Some-Placeholder.meaning (ap item_view c.in-Some-Placeholder.field-0-is) refl
 
-pub returns-in-Some-pop : goal.returns-in-Some-pop
-returns-in-Some-pop c =
+pub returns-else-not-ascend : goal.returns-else-not-ascend
+returns-else-not-ascend c =
     let settled : IsSettled c.args.self.now c.match-take.self-inside = elim c.match-take.branch [
-      | in-Some+else-len-ge-LEVELS+in_ok-push w ↦
-          let opened : Inside = record { grok = c.self.inside.grok; around = w.push.new.self; items = w.replace.new.dest; opening = c.take.new.self } in
+      | in-Some+else-len-ge-LEVELS+in_ok-descend w ↦
+          let opened : Inside = record { grok = c.self.inside.grok; around = w.descend.new.around; items = w.descend.new.items; opening = c.take.new.self } in
           subst (IsSettled c.args.self.now) (sym w.self-inside-is)
           (settled_now c.args.self.now c.self.inside w.in-Some.meaning (sym w.in-Some.ensures.value) c.self.view_is opened refl c.take.ensures.after (omega arith)
-          (w.in_ok-push.ensures.items ∙ ap (λ (xs : List Item). c.self.inside.around.items ++ xs ∷ []) w.replace.ensures.value) (w.replace.ensures.after ∙ w.items_inside-inner.ensures))
+          w.in_ok-descend.ensures.around (w.in_ok-descend.ensures.items ∙ w.items_inside-inner.ensures))
       | in_default w ↦
           subst (IsSettled c.args.self.now) (sym w.self-inside-is) (settled_already c.args.self.now c.self.inside (sym c.take.ensures.value ∙ w.in_default.is) c.self.view_is c.take.new.self c.take.ensures.after)
     ] in
-    let later : Inside = record { grok = c.match-take.self-inside.grok; around = c.pop.new.self; items = c.in-Some-pop.outer; opening = c.match-take.self-inside.opening } in
+    let later : Inside = record { grok = c.match-take.self-inside.grok; around = c.ascend.new.around; items = c.ascend.new.items; opening = c.match-take.self-inside.opening } in
     let over = rw c.in-None.is at c.in_ok-text.ensures in
-    settled_close c.args.self.now c.match-take.self-inside settled later refl c.in-Some-pop.ensures.items refl over.0
+    settled_close c.args.self.now c.match-take.self-inside settled later refl (c.if-not-ascend.ensures.inside refl) refl over.0
