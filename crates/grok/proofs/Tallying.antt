@@ -156,6 +156,16 @@ module _ (mode : Mode) where
   pub counting_starts : (text : List ℕ) (left : List Item) (tally : Tally) → left ≡ resolve mode text → Counts tally.wanted (λ key. 0) → IsCounting text left 0 tally
   counting_starts text left tally is counts = record { items = []; cut = sym is; many = refl; tallied = nothing_tallied tally counts }
 
+  pub counted_in_part : (text : List ℕ) (left : List Item) (front : Front) → front.is_whole ≡ false → IsCounting text left front.items front.tally → IsFrontOf mode text front
+  counted_in_part text left front part h = record {
+    items = h.items;
+    left = left;
+    cut = h.cut;
+    many = h.many;
+    whole = λ is. let bad : false ≡ true = sym part ∙ is in cc;
+    tallied = h.tallied;
+  }
+
   pub counting_goes_on : (text : List ℕ) (left rest : List Item) (item : Item) (counted more : ℕ) (old new : Tally) → left ≡ item ∷ rest → more ≡ counted + 1
       → IsCounting text left counted old → ((items : List Item) → HasTallied mode items old → HasTallied mode (items ++ item ∷ []) new) → IsCounting text rest more new
   counting_goes_on text left rest item counted more old new cut one h tallies = record {

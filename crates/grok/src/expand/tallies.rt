@@ -167,31 +167,23 @@ impl<'a> Tallies<'a> {
         ensures { IfOk result (λ front. IsFrontOf mode.entry stored.now front) }
     {
         let alloc = mode.grok.alloc();
-        let mut tally = Tally::new(alloc);
-        let mut counted: usize = 0;
         let mut items = Items::of_stored(alloc, mode.grok, stored);
+        let mut front = Front {
+            tally: Tally::new(alloc),
+            items: 0,
+            is_whole: false,
+        };
         'items: while let Some(item) = items.next()? {
-            let Some(more) = counted.checked_add(1) else {
-                return Ok(Front {
-                    tally,
-                    items: counted,
-                    is_whole: false,
-                });
+            let Some(more) = front.items.checked_add(1) else {
+                return Ok(front);
             };
-            if !self.count_item(mode, item, &mut tally)? {
-                return Ok(Front {
-                    tally,
-                    items: counted,
-                    is_whole: false,
-                });
+            if !self.count_item(mode, item, &mut front.tally)? {
+                return Ok(front);
             }
-            counted = more;
+            front.items = more;
         }
-        Ok(Front {
-            tally,
-            items: counted,
-            is_whole: true,
-        })
+        front.is_whole = true;
+        Ok(front)
     }
 
     /// Counts the text of a name.

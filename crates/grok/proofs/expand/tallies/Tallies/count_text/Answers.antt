@@ -1,10 +1,10 @@
-use Rattle.std.proofs.Common.{◌≡◌, ◌+◌, ◌∷◌, sym, subst, arith}
+use Rattle.std.proofs.Common.{◌≡◌, ◌+◌, ◌∷◌, refl, sym, subst, arith}
 use Rattle.std.specs.FinMap as finite
 use Rattle.grok.specs.Items.{item_view}
 use Rattle.grok.specs.Tallied.{resolve, HasTallied, with_item}
 use Rattle.grok.proofs.Flat.{AreSound, sound_rest}
 use Rattle.grok.proofs.Sound.{sound_texts}
-use Rattle.grok.proofs.Tallying.{sound_first, counting_starts, counting_goes_on}
+use Rattle.grok.proofs.Tallying.{sound_first, counting_starts, counting_goes_on, counted_in_part}
 use Rattle.grok.proofs.expand.tallies.Tallies.count_text.Goals as goal
 
 pub items-init : goal.items-init
@@ -12,7 +12,8 @@ items-init c =
     let mode = c.args.mode in
     record {
       sound = subst (AreSound (resolve mode) (finite.get mode.grok.now)) (sym c.of_stored-items.ensures) ((sound_texts (finite.get mode.grok.now)).sound c.args.stored.now);
-      counting = counting_starts mode c.args.stored.now c.of_stored-items.result c.new-tally.result c.of_stored-items.ensures c.new-tally.ensures.counts;
+      part = refl;
+      counting = counting_starts mode c.args.stored.now c.of_stored-items.result c.new.result c.of_stored-items.ensures c.new.ensures.counts;
     }
 
 pub items-preserved : goal.items-preserved
@@ -23,10 +24,11 @@ items-preserved c =
     let new = c.count_item.new.tally in
     let cut : c.items.items ≡ item ∷ rest = rw c.in-Some.is at c.in_ok-item.ensures in
     let sound : AreSound (resolve mode) (finite.get mode.grok.now) (item ∷ rest) = subst (AreSound (resolve mode) (finite.get mode.grok.now)) cut c.items.invariant.sound in
-    let one : c.in-Some-checked_add.more ≡ c.items.counted + 1 = omega (arith, c.in-Some-checked_add.ensures) in
+    let one : c.in-Some-checked_add.more ≡ c.items.front.items + 1 = omega (arith, c.in-Some-checked_add.ensures) in
     record {
       sound = sound_rest (resolve mode) (finite.get mode.grok.now) item rest sound;
-      counting = counting_goes_on mode c.args.stored.now c.items.items rest item c.items.counted c.in-Some-checked_add.more c.items.tally new cut one c.items.invariant.counting
+      part = c.items.invariant.part;
+      counting = counting_goes_on mode c.args.stored.now c.items.items rest item c.items.front.items c.in-Some-checked_add.more c.items.front.tally new cut one c.items.invariant.counting
           (λ items h. subst (λ b. HasTallied mode (with_item b items item) new) c.if-not-branch.false (c.in_ok-count_item.ensures (sound_first mode item rest sound) items h));
     }
 
@@ -39,11 +41,9 @@ returns-then-not-branch c =
     let cut : c.items.items ≡ item ∷ rest = rw c.in-Some.is at c.in_ok-item.ensures in
     let sound : AreSound (resolve mode) (finite.get mode.grok.now) (item ∷ rest) = subst (AreSound (resolve mode) (finite.get mode.grok.now)) cut c.items.invariant.sound in
     let so_far = c.items.invariant.counting in
-    record {
-      items = so_far.items;
-      left = c.items.items;
-      cut = so_far.cut;
-      many = so_far.many;
-      whole = λ is. cc;
-      tallied = subst (λ b. HasTallied mode (with_item b so_far.items item) new) c.if-not-branch.true (c.in_ok-count_item.ensures (sound_first mode item rest sound) so_far.items so_far.tallied);
-    }
+    counted_in_part mode c.args.stored.now c.items.items (record c.items.front { tally = new }) c.items.invariant.part
+    (record { items = so_far.items; cut = so_far.cut; many = so_far.many; tallied = subst (λ b. HasTallied mode (with_item b so_far.items item) new) c.if-not-branch.true (c.in_ok-count_item.ensures (sound_first mode item rest sound) so_far.items so_far.tallied) })
+
+pub returns-in_default-checked_add : goal.returns-in_default-checked_add
+returns-in_default-checked_add c =
+    counted_in_part c.args.mode c.args.stored.now c.items.items c.items.front c.items.invariant.part c.items.invariant.counting
