@@ -59,8 +59,7 @@ impl fmt::Debug for Definition {
     ghost debug_output = { debug_str };
 
     fn fmt<W: fmt::Write>(&self, f: &mut fmt::Formatter<W>) -> fmt::Result {
-        let text = self.text();
-        write!(f, "{text:?}")
+        fmt::Debug::fmt(self.text(), f)
     }
 }
 

@@ -110,5 +110,8 @@ impl Tables {
 
 fn boxed(alloc: Global, text: &str) -> Result<Box<OwnSearch>, Declined> {
     let search = OwnSearch::build(alloc, text)?;
-    Box::new(alloc, search).map_err(|_| Declined)
+    let Ok(search) = Box::new(alloc, search) else {
+        return Err(Declined);
+    };
+    Ok(search)
 }
