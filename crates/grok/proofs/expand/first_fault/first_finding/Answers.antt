@@ -1,5 +1,5 @@
-use Rattle.std.proofs.Common.{◌≡◌, ◌-◌, ◌<◌, length, List, [], ◌∷◌, ◌++◌, refl, sym, ◌∙◌, ap, subst}
-use Rattle.grok.specs.Tree.{tree, Item, deepest}
+use Rattle.std.proofs.Common.{◌≡◌, ◌-◌, ◌<◌, length, [], ◌∷◌, ◌++◌, refl, sym, ◌∙◌, ap, subst}
+use Rattle.grok.specs.Tree.{tree, deepest}
 use Rattle.grok.specs.Items.{item_view}
 use Rattle.grok.specs.Tallied.{resolve}
 use Rattle.grok.specs.Passing.{Entered, Enters}

@@ -1,5 +1,4 @@
-use Rattle.std.proofs.Common.{◌++◌, [], ◌∷◌, List, ap, ◌∙◌, subst, sym, refl, arith, Some}
-use Rattle.grok.specs.Tree.{Item}
+use Rattle.std.proofs.Common.{ap, ◌∙◌, subst, sym, refl, arith, Some}
 use Rattle.grok.specs.Items.{label_view, fault_view, item_view}
 use Rattle.grok.specs.declared.expand.events.Events.TheInside.{Inside}
 use Rattle.grok.proofs.Stacking.{IsSettled, settled_already, settled_now, too_deep, settled_text, settled_fault, settled_opens, settled_close}
