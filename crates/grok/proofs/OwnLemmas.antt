@@ -1,5 +1,5 @@
 -- What an automaton of a text finds is what `regex` finds for that text.
-use Rattle.std.proofs.Common.{◌≡◌, ℕ, zero, suc, ◌+◌, ◌-◌, ◌*◌, ◌/◌, ◌<◌, ◌≤◌, ◌==◌, List, ◌∷◌, length, map, get_or, slice_index, Option, None, Some, IfSome, IsSome, IsSomeAnd, option_map, true, true≢false, refl, sym, ap, ap₂, subst, ◌∙◌, ⊎_elim, arith, ne_eqb, IsCharBoundary, slice_range}
+use Rattle.std.proofs.Common.{◌≡◌, Bool, ℕ, zero, suc, ◌+◌, ◌-◌, ◌*◌, ◌/◌, ◌<◌, ◌≤◌, ◌==◌, List, ◌∷◌, length, map, get_or, slice_index, Option, None, Some, IfSome, IsSome, IsSomeAnd, option_map, true, true≢false, refl, sym, ap, ap₂, subst, ◌∙◌, ⊎_elim, arith, ne_eqb, IsCharBoundary, slice_range}
 use Rattle.std.specs.List.{range_with_len}
 use Rattle.std.specs.Option.{option_or}
 use Rattle.std.specs.Str.{chars}
@@ -17,7 +17,11 @@ use Rattle.regex_hir.proofs.FindLemmas.{first_between_cong, first_between_of_IsF
 use Rattle.regex_hir.proofs.OptionLemmas.{option_cases, option_or-None}
 use Rattle.regex_nfa.specs.declared.nfa.Nfa.{Nfa}
 use Rattle.regex_nfa.specs.Run.{run}
-use Rattle.regex_compile.specs.Implements.{Implements}
+use Rattle.regex_extract.specs.Bounds.{IsAnchored}
+use Rattle.regex_meta.specs.declared.program.Program.{Program}
+use Rattle.regex_meta.specs.Programs.{pattern_of, leftmost}
+use Rattle.regex_meta.proofs.ProgramLemmas.{first_match_at_start}
+use Rattle.regex_meta.proofs.PlansLemmas.{only_at_start}
 use Rattle.regex_syntax.specs.Grammar.{Names, read}
 use Rattle.regex_syntax.specs.Verdict.{Reads, default_config}
 use Rattle.regex_syntax.proofs.CapturesLemmas as seen
@@ -68,44 +72,50 @@ first_at_start nfa hay stop found e some =
     })))
     (option_cases (first_match nfa hay stop 0 0))
 
--- ---- from the automaton to the tree
+-- what a search at the start finds is the first match, if each match starts there
+module _ (p : Program) (hay : List ℕ) (is_anchored : Bool) (if_anchored : ∥ (is_anchored ≡ true → IsAnchored true (pattern_of p)) ∥₁)
+    (anchored : is_anchored ≡ true) where
+  at_start : (is_anchored ≡ true → IsAnchored true (pattern_of p)) → first_match p.dfa.nfa hay (length hay) 0 0 ≡ leftmost p hay 0
+  at_start plan = first_match_at_start p hay (only_at_start (pattern_of p) hay (plan anchored))
 
-abbrev Whole : Nfa → List ℕ → Option Match
-Whole nfa hay = first_match nfa hay (length hay) 0 (length hay)
+  pub anchored_span : (found : Option (ℕ × ℕ)) → found ≡ option_map span (first_match p.dfa.nfa hay (length hay) 0 0) →
+      found ≡ option_map span (leftmost p hay 0)
+  anchored_span found e =
+      ∥∥₁_elim if_anchored (Coded-set (coded_option (coded× coded_ℕ coded_ℕ)) found (option_map span (leftmost p hay 0)))
+      (λ plan. e ∙ ap (option_map span) (at_start plan))
 
-module _ (nfa : Nfa) (a : Re) (implements : Implements nfa a) (hay : List ℕ) (found : Option (ℕ × ℕ))
-    (e : found ≡ option_map span (Whole nfa hay)) (cut : IfSome found (λ s. IsCharBoundary hay s.0)) where
-  whole_is_find : Whole nfa hay ≡ find a hay 0
-  unfolding find
-  whole_is_find = first_between_cong _ _ 0 (length hay) (λ i _ _. implements hay i)
+  pub anchored_cells : (cells : List ℕ) (n : ℕ) → IfSome (first_match p.dfa.nfa hay (length hay) 0 0) (λ m. cells ≡ group_cells m n) →
+      IfSome (leftmost p hay 0) (λ m. cells ≡ group_cells m n)
+  anchored_cells cells n is = ⊎_elim
+      (λ none. subst (λ o. IfSome o (λ m. cells ≡ group_cells m n)) (sym none) tt)
+      (λ (some : (m : Match) × (leftmost p hay 0 ≡ Some m)).
+      subst (λ o. IfSome o (λ m. cells ≡ group_cells m n)) (sym some.1)
+      (∥∥₁_elim if_anchored (Coded-set (coded_list coded_ℕ) cells (group_cells some.0 n)) (λ plan.
+      subst (λ o. IfSome o (λ m. cells ≡ group_cells m n)) (at_start plan ∙ some.1) is)))
+      (option_cases (leftmost p hay 0))
 
+-- ---- from the tree to the text
+
+module _ (a : Re) (hay : List ℕ) (found : Option (ℕ × ℕ))
+    (e : found ≡ option_map span (find a hay 0)) (cut : IfSome found (λ s. IsCharBoundary hay s.0)) where
   cut_at : (m : Match) → find a hay 0 ≡ Some m → is_boundary hay m.start ≡ true
   cut_at m at =
-      let is : found ≡ Some (span m) = e ∙ ap (option_map span) (whole_is_find ∙ at) in
+      let is : found ≡ Some (span m) = e ∙ ap (option_map span) at in
       test_of_IsCharBoundary hay m.start (subst (λ o. IfSome o (λ s. IsCharBoundary hay s.0)) is cut)
 
-  whole_is_text : Whole nfa hay ≡ find_str a hay 0
-  whole_is_text = whole_is_find ∙ ⊎_elim
+  -- a match that starts at the start of a character is the first that does so
+  find_is_text : find a hay 0 ≡ find_str a hay 0
+  find_is_text = ⊎_elim
       (λ none. none ∙ sym (leftmost_none a hay true 0 none))
       (λ (some : (m : Match) × (find a hay 0 ≡ Some m)). some.1 ∙ sym (leftmost_here a hay true 0 some.0 some.1 (λ _. cut_at some.0 some.1)))
       (option_cases (find a hay 0))
 
-module _ (nfa : Nfa) (a : Re) (implements : ∥ Implements nfa a ∥₁) (hay : List ℕ) (found : Option (ℕ × ℕ))
-    (e : found ≡ option_map span (Whole nfa hay)) (cut : IfSome found (λ s. IsCharBoundary hay s.0)) where
   pub spans_found : found ≡ option_map span (find_str a hay 0)
-  spans_found =
-      ∥∥₁_elim implements (Coded-set (coded_option (coded× coded_ℕ coded_ℕ)) found (option_map span (find_str a hay 0)))
-      (λ i. e ∙ ap (option_map span) (whole_is_text nfa a i hay found e cut))
+  spans_found = e ∙ ap (option_map span) find_is_text
 
-  pub cells_found : (cells : List ℕ) (n : ℕ) → IfSome (Whole nfa hay) (λ m. cells ≡ group_cells m n) →
+  pub cells_found : (cells : List ℕ) (n : ℕ) → IfSome (find a hay 0) (λ m. cells ≡ group_cells m n) →
       IfSome (find_str a hay 0) (λ m. cells ≡ group_cells m n)
-  cells_found cells n is = ⊎_elim
-      (λ none. subst (λ o. IfSome o (λ m. cells ≡ group_cells m n)) (sym none) tt)
-      (λ (some : (m : Match) × (find_str a hay 0 ≡ Some m)).
-      subst (λ o. IfSome o (λ m. cells ≡ group_cells m n)) (sym some.1)
-      (∥∥₁_elim implements (Coded-set (coded_list coded_ℕ) cells (group_cells some.0 n)) (λ i.
-      subst (λ o. IfSome o (λ m. cells ≡ group_cells m n)) (whole_is_text nfa a i hay found e cut ∙ some.1) is)))
-      (option_cases (find_str a hay 0))
+  cells_found cells n is = subst (λ o. IfSome o (λ m. cells ≡ group_cells m n)) find_is_text is
 
 -- ---- from the cells to the texts
 

@@ -1,9 +1,11 @@
 //! A search that owns its automaton and its tables, and keeps both from line to line.
-ghost use Rattle.std.specs.Prelude.{◌≡◌, ◌+◌, ◌-◌, ◌/◌, ◌≤◌, ◌↔◌, length, vec_len, string_bytes, option_map, slice_range, IfOk, IfSome, OnOk, IsTrue, IsFalse, IsCharBoundary};
+ghost use Rattle.std.specs.Prelude.{◌≡◌, ◌+◌, ◌-◌, ◌/◌, ◌≤◌, ◌↔◌, true, Some, length, vec_len, string_bytes, option_map, slice_range, IfOk, IfSome, OnOk, IsTrue, IsFalse, IsCharBoundary, MatchOption};
 ghost use Rattle.regex.specs.Patterns.{find_str, span};
 ghost use Rattle.regex.specs.Strings.{regex_pattern, regex_source, regex_names};
-ghost use Rattle.regex_compile.specs.Implements.{Implements};
-ghost use Rattle.regex_hir.specs.Meaning.{meaning};
+ghost use Rattle.regex_dfa.specs.Search.{IsForwardFor, IsReverseFor};
+ghost use Rattle.regex_extract.specs.Bounds.{IsAnchored};
+ghost use Rattle.regex_meta.specs.Programs.{pattern_of, leftmost};
+ghost use Rattle.regex_meta.specs.Located.{EndsAt};
 ghost use Rattle.regex_tagged.specs.Valid.{IsFor};
 ghost use Rattle.regex_vm.specs.Found.{first_match, group_cells};
 ghost use Rattle.grok.specs.Captures.{text_of, capture_texts, IsSliceOf, AreSlicesOf};
@@ -11,65 +13,64 @@ ghost use Rattle.grok.specs.RegexFinds.{IsReadByDefault, captures_in, text_at, t
 ghost use Rattle.grok.specs.OwnSearches.{IsTreeOf, span_of_cells};
 
 use regex::Regex;
-use regex_dfa::Dfa;
-use regex_hir::Hir;
+use regex_dfa::{End, Forward, Reverse, Start};
+use regex_meta::Program;
 use regex_syntax::{Config, Parsed};
-use regex_tagged::{Near, Tagged};
-use regex_vm::Declined;
+use regex_tagged::Tagged;
+use regex_vm::{Backtracker, Declined};
 use std::alloc::Global;
 
-/// The bytes that the tables of the NFA may take.
-const LIMIT: usize = 1 << 20;
+/// The bytes that the tables of the NFA may take, as in `regex`.
+const LIMIT: usize = 10 << 20;
 
-/// The longest line that isn't ASCII, where the text asks for ends of words: such a line's words are
-/// slow to find.
-const LONGEST_WITH_WORDS: usize = 100;
-
-/// What asks for the start or the end of a word, or for neither.
-const WORD_ESCAPES: [&str; 4] = ["\\b", "\\B", "\\<", "\\>"];
-
-/// An automaton of a text, and the tables that its searches fill.
+/// A program of a text, and what its searches fill.
 #[derive(Drop)]
 pub(crate) struct OwnSearch {
     source: String,
-    hir: Hir,
-    dfa: Dfa,
+    program: Program,
+    /// Whether a match starts where the line starts.
+    is_anchored: bool,
     tagged: Tagged,
+    forward: Forward,
+    reverse: Reverse,
+    /// Where the tables give up.
+    backtracker: Backtracker,
     /// From group 1 on, a start and an end for each group: a position plus one, or 0 for none.
     cells: Vec<usize>,
     /// Whether the line before matched from its start on: the next one is likely to do so, too.
     matched_at_start: bool,
-    /// Whether the text asks where words start or end.
-    asks_for_words: bool,
-    ghost read: { ∥ IsTreeOf (string_bytes source) hir ∥₁ },
-    ghost implements: { ∥ Implements dfa.nfa (meaning hir) ∥₁ },
-    ghost own: { IsFor tagged dfa },
-    ghost width: { vec_len cells ≡ dfa.nfa.slot_count - 2 },
+    ghost read: { ∥ IsTreeOf (string_bytes source) program.hir ∥₁ },
+    ghost starts: { ∥ (is_anchored ≡ true → IsAnchored true (pattern_of program)) ∥₁ },
+    ghost own: { IsFor tagged program.dfa },
+    ghost ahead: { IsForwardFor forward program.dfa },
+    ghost back: { IsReverseFor reverse program.dfa },
+    ghost width: { vec_len cells ≡ program.dfa.nfa.slot_count - 2 },
 }
 
 impl OwnSearch {
-    /// The search of a text, unless the text is refused, is large or memory runs out.
+    /// The search of a text, unless the text is refused or memory runs out.
     pub(crate) fn build(alloc: Global, text: &str) -> Result<OwnSearch, Declined>
         ensures { IfOk result (λ search. string_bytes search.source ≡ text.now) }
     {
         let source = String::from_str(alloc, text)?;
-        let (hir, dfa) = automaton_of(alloc, text)?;
-        let tagged = Tagged::new(alloc, &dfa)?;
-        let cells = vec![in alloc; 0usize; (dfa.nfa.slot_count as usize).saturating_sub(2)]?;
+        let program = program_of(alloc, text)?;
+        let is_anchored = regex_extract::is_anchored_start(&program.hir);
+        let tagged = Tagged::new(alloc, &program.dfa)?;
+        let forward = Forward::new(alloc, &program.dfa, false)?;
+        let reverse = Reverse::new(alloc, &program.dfa)?;
+        let count = (program.dfa.nfa.slot_count as usize).saturating_sub(2);
+        let cells = vec![in alloc; 0usize; count]?;
         Ok(OwnSearch {
             source,
-            hir,
-            dfa,
+            program,
+            is_anchored,
             tagged,
+            forward,
+            reverse,
+            backtracker: Backtracker::new(alloc),
             cells,
             matched_at_start: true,
-            asks_for_words: asks_for_words(text),
         })
-    }
-
-    /// Whether a search that is made for this line alone may be sooner done with it.
-    pub(crate) fn is_slow_with(&self, line: &str) -> bool {
-        self.asks_for_words && line.len() > LONGEST_WITH_WORDS && !line.is_ascii()
     }
 
     /// The text of each group of the first match in the line, or none where nothing matches, as the
@@ -110,8 +111,8 @@ impl OwnSearch {
     /// The span of the first match in the line. The cells are those of its groups.
     fn find(&mut self, line: &str) -> Result<Option<(usize, usize)>, Declined>
         ensures span { IfOk result (λ found. found
-            ≡ option_map span (find_str (meaning self.old.hir) line.now 0)) }
-        ensures cells { OnOk result (IfSome (find_str (meaning self.old.hir) line.now 0)
+            ≡ option_map span (find_str (pattern_of self.old.program) line.now 0)) }
+        ensures cells { OnOk result (IfSome (find_str (pattern_of self.old.program) line.now 0)
             (λ m. self.new.cells.items ≡ group_cells m (vec_len self.old.cells))) }
         ensures width { vec_len self.new.cells ≡ vec_len self.old.cells }
     {
@@ -124,30 +125,110 @@ impl OwnSearch {
 
     /// The same in bytes, where a match may start at each.
     fn find_in_bytes(&mut self, hay: &[u8]) -> Result<Option<(usize, usize)>, Declined>
-        ensures span { IfOk result (λ found. found ≡ option_map span
-            (first_match self.old.dfa.nfa hay.now (length hay.now) 0 (length hay.now))) }
-        ensures cells { OnOk result (IfSome
-            (first_match self.old.dfa.nfa hay.now (length hay.now) 0 (length hay.now))
+        ensures span { IfOk result (λ found. found
+            ≡ option_map span (leftmost self.old.program hay.now 0)) }
+        ensures cells { OnOk result (IfSome (leftmost self.old.program hay.now 0)
             (λ m. self.new.cells.items ≡ group_cells m (vec_len self.old.cells))) }
         ensures width { vec_len self.new.cells ≡ vec_len self.old.cells }
     {
-        let tries_start = self.matched_at_start;
-        let found = leftmost(
-            &self.dfa,
+        let by_tables = leftmost_by_tables(
+            &self.program,
             &mut self.tagged,
+            &mut self.forward,
+            &mut self.reverse,
             hay,
             &mut self.cells,
-            tries_start,
-        )?;
-        self.matched_at_start = matches!(found, Some((0, _)));
+            self.is_anchored,
+            self.matched_at_start,
+        );
+        if let Ok(found) = by_tables {
+            self.matched_at_start = matches!(found, Some((0, _)));
+            return Ok(found);
+        }
+        let found = by_steps(&self.program, &mut self.backtracker, hay, &mut self.cells)?;
         Ok(found)
     }
 }
 
-/// The tree that a text is read as, and its automaton, unless the text is refused or large.
-fn automaton_of(alloc: Global, text: &str) -> Result<(Hir, Dfa), Declined>
-    ensures read { IfOk result (λ made. ∥ IsTreeOf text.now made.0 ∥₁) }
-    ensures implements { IfOk result (λ made. ∥ Implements made.1.nfa (meaning made.0) ∥₁) }
+/// The span of the first match, unless the tables give up. The cells are those of its groups. A match
+/// from the start on may be tried first: where there is one, that is quicker.
+fn leftmost_by_tables(
+    program: &Program,
+    tagged: &mut Tagged,
+    forward: &mut Forward,
+    reverse: &mut Reverse,
+    hay: &[u8],
+    cells: &mut [usize],
+    is_anchored: bool,
+    tries_start: bool,
+) -> Result<Option<(usize, usize)>, Declined>
+    requires starts { ∥ (is_anchored ≡ true → IsAnchored true (pattern_of program.now)) ∥₁ }
+    requires own { IsFor tagged.old program.now.dfa }
+    requires ahead { IsForwardFor forward.old program.now.dfa }
+    requires back { IsReverseFor reverse.old program.now.dfa }
+    ensures span { IfOk result (λ found. found
+        ≡ option_map span (leftmost program.now hay.now 0)) }
+    ensures cells { OnOk result (IfSome (leftmost program.now hay.now 0)
+        (λ m. cells.new ≡ group_cells m (length cells.old))) }
+    ensures own { IsFor tagged.new program.now.dfa }
+    ensures ahead { IsForwardFor forward.new program.now.dfa }
+    ensures back { IsReverseFor reverse.new program.now.dfa }
+{
+    if is_anchored {
+        let at_start = tagged.find_at(&program.dfa, hay, 0, hay.len(), cells)?;
+        return Ok(at_start);
+    }
+    if tries_start {
+        let tried = tagged.find_at(&program.dfa, hay, 0, hay.len(), cells)?;
+        if tried.is_some() {
+            return Ok(tried);
+        }
+    }
+    let Some((start, end)) = first_span(program, forward, reverse, hay)? else {
+        return Ok(None);
+    };
+    groups_within(program, tagged, hay, (start, end), cells)
+}
+
+/// The same of a match whose span is known.
+fn groups_within(
+    program: &Program,
+    tagged: &mut Tagged,
+    hay: &[u8],
+    whole: (usize, usize),
+    cells: &mut [usize],
+) -> Result<Option<(usize, usize)>, Declined>
+    requires whole { Some whole ≡ option_map span (leftmost program.now hay.now 0) }
+    requires own { IsFor tagged.old program.now.dfa }
+    ensures span { IfOk result (λ found. found
+        ≡ option_map span (leftmost program.now hay.now 0)) }
+    ensures cells { OnOk result (IfSome (leftmost program.now hay.now 0)
+        (λ m. cells.new ≡ group_cells m (length cells.old))) }
+    ensures own { IsFor tagged.new program.now.dfa }
+{
+    let found = tagged.find_at(&program.dfa, hay, whole.0, whole.1, cells)?;
+    Ok(found)
+}
+
+/// The same with no table, unless the line is too long for that.
+fn by_steps(
+    program: &Program,
+    backtracker: &mut Backtracker,
+    hay: &[u8],
+    cells: &mut [usize],
+) -> Result<Option<(usize, usize)>, Declined>
+    ensures span { IfOk result (λ found. found
+        ≡ option_map span (leftmost program.now hay.now 0)) }
+    ensures cells { OnOk result (IfSome (leftmost program.now hay.now 0)
+        (λ m. cells.new ≡ group_cells m (length cells.old))) }
+{
+    let found = backtracker.find(&program.dfa.nfa, hay, 0, hay.len(), hay.len(), cells)?;
+    Ok(found)
+}
+
+/// The program of a text, unless the text is refused.
+fn program_of(alloc: Global, text: &str) -> Result<Program, Declined>
+    ensures { IfOk result (λ program. ∥ IsTreeOf text.now program.hir ∥₁) }
 {
     let Ok(Parsed { hir, names }) = regex_syntax::parse(alloc, text, &Config::default()) else {
         return Err(Declined);
@@ -155,45 +236,75 @@ fn automaton_of(alloc: Global, text: &str) -> Result<(Hir, Dfa), Declined>
     let Ok(groups) = u32::try_from(names.len()) else {
         return Err(Declined);
     };
-    let Ok(nfa) = regex_compile::compile(alloc, &hir, groups, LIMIT) else {
+    let Ok(program) = Program::new(alloc, hir, groups, LIMIT) else {
         return Err(Declined);
     };
-    let Ok(dfa) = Dfa::new(alloc, nfa) else {
-        return Err(Declined);
-    };
-    Ok((hir, dfa))
+    Ok(program)
 }
 
-/// Whether the text asks where words start or end.
-fn asks_for_words(text: &str) -> bool {
-    WORD_ESCAPES.iter().any(|escape| text.contains(*escape))
-}
-
-/// The span of the first match in bytes, where a match may start at each. The cells are those of
-/// its groups. A match from the start on may be tried first: where there is one, that is quicker.
-fn leftmost(
-    dfa: &Dfa,
-    tagged: &mut Tagged,
+/// The span of the first match, unless the tables give up.
+fn first_span(
+    program: &Program,
+    forward: &mut Forward,
+    reverse: &mut Reverse,
     hay: &[u8],
-    cells: &mut [usize],
-    tries_start: bool,
 ) -> Result<Option<(usize, usize)>, Declined>
-    requires { IsFor tagged.old dfa.now }
+    requires ahead { IsForwardFor forward.old program.now.dfa }
+    requires back { IsReverseFor reverse.old program.now.dfa }
     ensures span { IfOk result (λ found. found
-        ≡ option_map span (first_match dfa.now.nfa hay.now (length hay.now) 0 (length hay.now))) }
-    ensures cells { OnOk result (IfSome (first_match dfa.now.nfa hay.now (length hay.now) 0
-        (length hay.now)) (λ m. cells.new ≡ group_cells m (length cells.old))) }
-    ensures own { IsFor tagged.new dfa.now }
+        ≡ option_map span (leftmost program.now hay.now 0)) }
+    ensures ahead { IsForwardFor forward.new program.now.dfa }
+    ensures back { IsReverseFor reverse.new program.now.dfa }
 {
-    if tries_start {
-        let at_start = tagged.find_at(dfa, hay, 0, hay.len(), cells)?;
-        if at_start.is_some() {
-            return Ok(at_start);
-        }
+    if program.at_end {
+        return span_at_end(program, reverse, hay);
     }
-    match tagged.find_near(dfa, hay, 0, hay.len(), cells)? {
-        Near::Done(found) => Ok(found),
-        Near::Idle(_) => Err(Declined),
+    let Some(floor) = program.first_place(hay, 0) else {
+        return Ok(None);
+    };
+    match forward.find_end(&program.dfa, hay, floor, hay.len(), false, false) {
+        End::At(end) => Ok(Some(span_to(program, reverse, hay, floor, end)?)),
+        End::NoMatch => Ok(None),
+        End::Idle(_) | End::GaveUp => Err(Declined),
+    }
+}
+
+/// The span of the first match, where each match ends at the end of the line.
+fn span_at_end(
+    program: &Program,
+    reverse: &mut Reverse,
+    hay: &[u8],
+) -> Result<Option<(usize, usize)>, Declined>
+    requires ends { program.now.at_end ≡ true }
+    requires back { IsReverseFor reverse.old program.now.dfa }
+    ensures span { IfOk result (λ found. found
+        ≡ option_map span (leftmost program.now hay.now 0)) }
+    ensures back { IsReverseFor reverse.new program.now.dfa }
+{
+    match reverse.find_start(&program.dfa, hay, 0, hay.len()) {
+        Start::At(from) => Ok(Some((from, hay.len()))),
+        Start::NoMatch => Ok(None),
+        Start::GaveUp => Err(Declined),
+    }
+}
+
+/// The span of the first match from `floor` on, which ends at `end`.
+fn span_to(
+    program: &Program,
+    reverse: &mut Reverse,
+    hay: &[u8],
+    floor: usize,
+    end: usize,
+) -> Result<(usize, usize), Declined>
+    requires ends { EndsAt (pattern_of program.now) hay.now floor floor end }
+    requires back { IsReverseFor reverse.old program.now.dfa }
+    ensures span { IfOk result (λ whole. Some whole
+        ≡ option_map span (leftmost program.now hay.now floor)) }
+    ensures back { IsReverseFor reverse.new program.now.dfa }
+{
+    match reverse.find_start(&program.dfa, hay, floor, end) {
+        Start::At(from) => Ok((from, end)),
+        Start::NoMatch | Start::GaveUp => Err(Declined),
     }
 }
 

@@ -10,33 +10,25 @@ use regex_vm::Declined;
 use std::alloc::Global;
 use std::sync::Mutex;
 
-/// The longest line that is searched here.
-const LONGEST: usize = 400;
-
-/// How many lines go by before the tables are made.
-const SOON: u32 = 16;
-
-/// How many go by before they are made again, after they gave up.
-const LATER: u32 = 4096;
-
-/// The tables, or how many lines go by before they are made.
+/// The search that is kept, or whether one is to be made by the next call.
 #[derive(Drop)]
-enum Tables {
-    Ready(Box<OwnSearch>),
-    Waiting(u32),
+enum Kept {
+    /// No call was made: one call alone is soonest done with a matcher of its own.
+    No,
+    Next,
+    Yes(Box<OwnSearch>),
 }
 
-/// A search that keeps tables, where the lines make them worth it. A call that finds it in use, or
-/// that it doesn't serve, is declined.
+/// A search whose tables are kept, from the second call on. A call that finds it in use is declined.
 #[derive(Drop)]
 pub(crate) struct SharedSearch {
-    tables: Mutex<Tables>,
+    kept: Mutex<Kept>,
 }
 
 impl SharedSearch {
     pub(crate) fn new() -> SharedSearch {
         SharedSearch {
-            tables: Mutex::new(Tables::Waiting(SOON)),
+            kept: Mutex::new(Kept::No),
         }
     }
 
@@ -57,26 +49,15 @@ impl SharedSearch {
         ensures slices { IfOk result (λ found. IfSome found (λ captures. AreSlicesOf line.now
             (capture_texts captures.items))) }
     {
-        if line.len() > LONGEST {
-            return Err(Declined);
-        }
-        match self.tables.try_lock() {
-            Some(mut tables) => tables.captures(alloc, regex, line),
+        match self.kept.try_lock() {
+            Some(mut kept) => kept.captures(alloc, regex, line),
             None => Err(Declined),
         }
     }
 }
 
-impl Tables {
-    /// The tables for the text of the regex, if there can be any.
-    fn of(alloc: Global, regex: &Regex) -> Tables {
-        match boxed(alloc, regex.as_str()) {
-            Ok(search) => Tables::Ready(search),
-            Err(_) => Tables::Waiting(LATER),
-        }
-    }
-
-    /// As `SharedSearch::captures`. Where the tables decline a line they are given back.
+impl Kept {
+    /// As `SharedSearch::captures`.
     fn captures<'t>(
         &mut self,
         alloc: Global,
@@ -93,16 +74,14 @@ impl Tables {
             (capture_texts captures.items))) }
     {
         match self {
-            Tables::Ready(search) if search.is_slow_with(line) => {}
-            Tables::Ready(search) => {
+            Kept::No => *self = Kept::Next,
+            Kept::Next => {
+                let mut search = boxed(alloc, regex.as_str())?;
                 let answer = search.captures(alloc, regex, line);
-                if answer.is_err() {
-                    *self = Tables::Waiting(LATER);
-                }
+                *self = Kept::Yes(search);
                 return answer;
             }
-            Tables::Waiting(left) if *left > 0 => *left -= 1,
-            Tables::Waiting(_) => *self = Tables::of(alloc, regex),
+            Kept::Yes(search) => return search.captures(alloc, regex, line),
         }
         Err(Declined)
     }

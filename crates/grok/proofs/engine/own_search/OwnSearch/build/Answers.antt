@@ -1,7 +1,7 @@
 use Rattle.grok.proofs.engine.own_search.OwnSearch.build.Goals as goal
 
 pub invariant_of-result-clause-read : goal.invariant_of-result-clause-read
-invariant_of-result-clause-read c = rw (← c.in_ok-source.ensures.ok) at c.in_ok-hir.ensures.read
+invariant_of-result-clause-read c = rw (← c.in_ok-source.ensures.ok) at c.in_ok-program.ensures
 
-pub invariant_of-result-clause-implements : goal.invariant_of-result-clause-implements
-invariant_of-result-clause-implements c = c.in_ok-hir.ensures.implements
+pub invariant_of-result-clause-starts : goal.invariant_of-result-clause-starts
+invariant_of-result-clause-starts c = ∣ c.is_anchored_start-is_anchored.ensures.anchored ∣₁

@@ -9,7 +9,7 @@ returns-in_ok-texts_of-in-Some-clause-answer c =
     let found = c.in_ok-whole.ensures in
     let texts = rw (c.deref.ensures.len, found.width, of.groups refl, c.deref.ensures.value) at c.in_ok-texts_of-in-Some.ensures.texts in
     ap Some texts
-    ∙ answered (string_bytes it.source) it.hir c.args.regex.now c.args.line.now c.find.new.self.cells.items (vec_len it.cells) _
+    ∙ answered (string_bytes it.source) it.program.hir c.args.regex.now c.args.line.now c.find.new.self.cells.items (vec_len it.cells) _
     it.read (of.source refl) c.requires (λ k. (c.type_inv.line k).fits) c.in_ok-whole.field-0 _ found.span found.cells (of.groups refl)
     c.in-Some.is
 
@@ -18,6 +18,6 @@ returns-in-None-clause-answer c =
     let it = c.args.self.now in
     let of = c.if-not-is_of.ensures in
     let found = c.in_ok-whole.ensures in
-    answered (string_bytes it.source) it.hir c.args.regex.now c.args.line.now c.find.new.self.cells.items (vec_len it.cells) _
+    answered (string_bytes it.source) it.program.hir c.args.regex.now c.args.line.now c.find.new.self.cells.items (vec_len it.cells) _
     it.read (of.source refl) c.requires (λ k. (c.type_inv.line k).fits) c.in_ok-whole.field-0 _ found.span found.cells (of.groups refl)
     c.in-None.is
