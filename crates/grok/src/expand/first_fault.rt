@@ -30,7 +30,8 @@ enum Step<'a> {
     Finds(Finding<'a>),
 }
 
-/// Counts the key that a recorded open wants, or answers its key if an earlier one has it.
+/// Counts the key that a recorded open wants, or answers its key if an earlier one has it. More uses
+/// of a key than the greatest `usize` are answered as want of memory.
 fn want<'a>(
     mode: Mode<'a>,
     total: &mut WantedCounts<'a>,
@@ -43,7 +44,10 @@ fn want<'a>(
     let wanted = wanted_key(label);
     let mut own = WantedCounts::new(alloc);
     own.add(wanted)?;
-    if total.is_free_with(&own)? {
+    let Some(is_free) = total.is_free_with(&own) else {
+        return Err(AllocError);
+    };
+    if is_free {
         total.add_all(&own)?;
         return Ok(None);
     }
@@ -52,7 +56,8 @@ fn want<'a>(
 }
 
 /// Counts all that items of a text want at once, if so many levels are enough, the text among them,
-/// and no two keys clash then.
+/// and no two keys clash then. Where a key would be wanted too often to be counted nothing is: the
+/// first fault may stand before so many uses.
 fn pass<'a>(
     total: &mut WantedCounts<'a>,
     tally: &Tally<'a>,
@@ -62,9 +67,12 @@ fn pass<'a>(
         → HasTallied mode items tally.now → (before : List tree.Label) → Keeps total.old before →
         Skips mode items levels before total.old total.new passed) }
 {
-    if tally.height >= levels || !total.is_free_with(&tally.wanted)? {
+    if tally.height >= levels {
         return Ok(false);
     }
+    let Some(true) = total.is_free_with(&tally.wanted) else {
+        return Ok(false);
+    };
     total.add_all(&tally.wanted)?;
     Ok(true)
 }

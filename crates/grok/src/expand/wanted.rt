@@ -1,7 +1,7 @@
 //! How often keys are wanted: enough to know whether two of the keys that are assigned clash.
-ghost use Rattle.std.specs.Prelude.{◌≡◌, ℕ, ◌+◌, ◌<◌, ◌^◌, List, if◌then◌else◌, IfOk, OnOk, Decides};
+ghost use Rattle.std.specs.Prelude.{◌≡◌, ℕ, ◌+◌, ◌<◌, ◌≤◌, ◌^◌, List, if◌then◌else◌, None, IfSome, OnOk, Decides};
 ghost use Rattle.std.specs.Str.{bytes_eq};
-ghost use Rattle.grok.specs.Wanted.{MayBeWanted, IsFree, count_of, Joins, Counts};
+ghost use Rattle.grok.specs.Wanted.{MayBeWanted, IsFree, IsPastCounting, count_of, Joins, Counts};
 
 use crate::expand::numbered::parts_of_numbered;
 use std::alloc::{AllocError, Global};
@@ -108,32 +108,35 @@ impl<'a> WantedCounts<'a> {
         Ok(())
     }
 
-    /// Whether the key may be wanted as often as it is in both counts together.
-    fn is_free_at(&self, more: &WantedCounts<'a>, key: &'a str) -> Result<bool, AllocError>
-        ensures { IfOk result (λ free. (wanted others : List ℕ → ℕ) → Counts self.now wanted
+    /// Whether the key may be wanted as often as it is in both counts together, if that fits a
+    /// `usize`.
+    fn is_free_at(&self, more: &WantedCounts<'a>, key: &'a str) -> Option<bool>
+        ensures some { IfSome result (λ free. (wanted others : List ℕ → ℕ) → Counts self.now wanted
             → Counts more.now others → Decides free (MayBeWanted
             (λ other. others other + wanted other) key.now (others key.now + wanted key.now))) }
+        ensures none { result ≡ None → (wanted others : List ℕ → ℕ) → Counts self.now wanted
+            → Counts more.now others → 2 ^ 64 ≤ others key.now + wanted key.now }
     {
         let own = self.count_of(key);
         let other = more.count_of(key);
-        match other.times.checked_add(own.times) {
-            Some(times) => Ok(times <= own.most && times <= other.most),
-            None => Err(AllocError),
-        }
+        let times = other.times.checked_add(own.times)?;
+        Some(times <= own.most && times <= other.most)
     }
 
     /// Whether no two keys clash where those of more counts are wanted, too, and none clash without
-    /// them. A sum past the greatest `usize` is answered as want of memory.
-    pub fn is_free_with(&self, more: &WantedCounts<'a>) -> Result<bool, AllocError>
-        ensures { IfOk result (λ free. (wanted others : List ℕ → ℕ) → Counts self.now wanted
+    /// them. No answer is given where a key is wanted more often than the greatest `usize`.
+    pub fn is_free_with(&self, more: &WantedCounts<'a>) -> Option<bool>
+        ensures some { IfSome result (λ free. (wanted others : List ℕ → ℕ) → Counts self.now wanted
             → Counts more.now others → IsFree wanted
             → Decides free (IsFree (λ key. others key + wanted key))) }
+        ensures none { result ≡ None → (wanted others : List ℕ → ℕ) → Counts self.now wanted
+            → Counts more.now others → IsPastCounting (λ key. others key + wanted key) }
     {
         'keys: for (key, _) in &more.counts {
             if !self.is_free_at(more, key)? {
-                return Ok(false);
+                return Some(false);
             }
         }
-        Ok(true)
+        Some(true)
     }
 }

@@ -5,6 +5,7 @@ use Rattle.grok.proofs.expand.first_fault.pass.Goals as goal
 
 pub returns : goal.returns
 returns c mode items t before keeps =
-    text_passed mode items c.args.levels before c.args.tally.now t (omega arith) c.add_all.new.self c.in_ok-is_free_with.field-0 c.if-not-branch.false
-    (c.in_ok-is_free_with.ensures (how_often before) t.wanted keeps.counts t.counts keeps.free)
+    let decides = rw c.in-Some-true.is at c.is_free_with.ensures.some in
+    text_passed mode items c.args.levels before c.args.tally.now t (omega arith) c.add_all.new.self c.in-Some-true.field-0 c.in-Some-true.field-0-test
+    (decides (how_often before) t.wanted keeps.counts t.counts keeps.free)
     (c.in_ok-add_all.ensures (how_often before) t.wanted keeps.counts t.counts)

@@ -5,13 +5,14 @@ use Rattle.grok.specs.Items.{label_view}
 use Rattle.grok.proofs.Passing.{open_counted, clash_counted}
 use Rattle.grok.proofs.expand.first_fault.want.Goals as goal
 
-pub returns-then-branch : goal.returns-then-branch
-returns-then-branch c before keeps =
+pub returns-then-is_free : goal.returns-then-is_free
+returns-then-is_free c before keeps =
     let want = c.wanted_key-wanted.result.now in
     let others = λ (key : List ℕ). cond {A = ℕ} (bytes_eq want key) 1 0 + 0 in
     let own = c.in_ok-add.ensures (λ (key : List ℕ). 0) c.new-own.ensures in
-    open_counted before (label_view c.args.label) want c.wanted_key-wanted.ensures c.add_all.new.self c.in_ok-is_free_with.field-0 c.if-branch.true
-    (c.in_ok-is_free_with.ensures (how_often before) others keeps.counts own keeps.free)
+    let decides = rw c.in-Some.is at c.is_free_with.ensures.some in
+    open_counted before (label_view c.args.label) want c.wanted_key-wanted.ensures c.add_all.new.self c.in-Some.is_free c.if-is_free.true
+    (decides (how_often before) others keeps.counts own keeps.free)
     (c.in_ok-add_all.ensures (how_often before) others keeps.counts own)
 
 pub returns : goal.returns
@@ -19,6 +20,7 @@ returns c before keeps =
     let want = c.wanted_key-wanted.result.now in
     let others = λ (key : List ℕ). cond {A = ℕ} (bytes_eq want key) 1 0 + 0 in
     let own = c.in_ok-add.ensures (λ (key : List ℕ). 0) c.new-own.ensures in
-    clash_counted before (label_view c.args.label) want c.wanted_key-wanted.ensures c.in_ok-key.key c.in_ok-is_free_with.field-0 c.times_of.result keeps.free c.if-branch.false
-    (c.in_ok-is_free_with.ensures (how_often before) others keeps.counts own keeps.free)
+    let decides = rw c.in-Some.is at c.is_free_with.ensures.some in
+    clash_counted before (label_view c.args.label) want c.wanted_key-wanted.ensures c.in_ok-key.key c.in-Some.is_free c.times_of.result keeps.free c.if-is_free.false
+    (decides (how_often before) others keeps.counts own keeps.free)
     (c.times_of.ensures (how_often before) keeps.counts) c.in_ok-key.ensures
