@@ -78,6 +78,18 @@ const FAILED_READS: &[FailedRead] = &[
         input: b"p\nq",
         before: &["", "", "{\"k\":\"p\"}\n", "{\"k\":\"p\"}\n"],
     },
+    FailedRead {
+        name: "answers of a pattern that could take a line feed",
+        words: &["match", KEYED],
+        input: b"p\nq",
+        before: &["", "", "k=p\n\n", "k=p\n\n"],
+    },
+    FailedRead {
+        name: "objects of a pattern that could take a line feed",
+        words: &["json", KEYED],
+        input: b"p\nq",
+        before: &["", "", "{\"k\":\"p\"}\n", "{\"k\":\"p\"}\n"],
+    },
 ];
 
 /// Runs on whose writers a call fails that takes one byte.
@@ -91,6 +103,18 @@ const FAILED_WRITES: &[Run] = &[
     Run {
         name: "two objects",
         words: &["json", "(?<k>.)"],
+        input: b"p\nq\nr\n",
+        output: "{\"k\":\"p\"}\n{\"k\":\"q\"}\n",
+    },
+    Run {
+        name: "two answers of a pattern that could take a line feed",
+        words: &["match", KEYED],
+        input: b"p\nq\nr\n",
+        output: "k=p\n\nk=q\n\n",
+    },
+    Run {
+        name: "two objects of a pattern that could take a line feed",
+        words: &["json", KEYED],
         input: b"p\nq\nr\n",
         output: "{\"k\":\"p\"}\n{\"k\":\"q\"}\n",
     },

@@ -1,5 +1,5 @@
 //! Runs of `match` and of `json`.
-use super::cases::{Run, UNREAD};
+use super::cases::{KEYED, Run, UNREAD};
 use super::devices::{FakeReader, FakeWriter};
 use super::outcome::{Ending, Outcome, check_outcome, check_pattern_fault, outcome_of};
 use std::process::Abort;
@@ -27,25 +27,25 @@ const ROWS: &[Run] = &[
     },
     Run {
         name: "no line",
-        words: &["match", "(?<k>[a-z]\\s?)"],
+        words: &["match", KEYED],
         input: b"",
         output: "",
     },
     Run {
         name: "a line that is not UTF-8, before another one",
-        words: &["match", "(?<k>[a-z]\\s?)"],
+        words: &["match", KEYED],
         input: b"\xff\np",
         output: "not UTF-8\n\nk=p\n\n",
     },
     Run {
         name: "a carriage return stays",
-        words: &["match", "(?<k>[a-z]\\s?)"],
+        words: &["match", KEYED],
         input: b"p\r\n",
         output: "k=p\r\n\n",
     },
     Run {
         name: "half a letter at the end",
-        words: &["match", "(?<k>[a-z]\\s?)"],
+        words: &["match", KEYED],
         input: b"p\n\xc3",
         output: "k=p\n\nnot UTF-8\n\n",
     },
@@ -58,6 +58,12 @@ const ROWS: &[Run] = &[
     Run {
         name: "a line without a line feed behind another one",
         words: &["match", "(?<k>.)"],
+        input: b"p\nq",
+        output: "k=p\n\nk=q\n\n",
+    },
+    Run {
+        name: "a line without a line feed behind another one, by a pattern that could take a line feed",
+        words: &["match", KEYED],
         input: b"p\nq",
         output: "k=p\n\nk=q\n\n",
     },
@@ -121,6 +127,12 @@ const ROWS: &[Run] = &[
         input: b"p\nq",
         output: "{\"k\":\"p\"}\n{\"k\":\"q\"}\n",
     },
+    Run {
+        name: "objects by a pattern that could take a line feed, the last one without a line feed",
+        words: &["json", KEYED],
+        input: b"p\nq",
+        output: "{\"k\":\"p\"}\n{\"k\":\"q\"}\n",
+    },
 ];
 
 /// Runs of four lines, and what they write, in four writes.
@@ -134,6 +146,18 @@ const WRITES: &[Run] = &[
     Run {
         name: "a write for each object",
         words: &["json", "(?<k>.)"],
+        input: b"a\nb\n\nc",
+        output: "{\"k\":\"a\"}\n{\"k\":\"b\"}\nnull\n{\"k\":\"c\"}\n",
+    },
+    Run {
+        name: "a write for each answer of a pattern that could take a line feed",
+        words: &["match", KEYED],
+        input: b"a\nb\n\nc",
+        output: "k=a\n\nk=b\n\nno match\n\nk=c\n\n",
+    },
+    Run {
+        name: "a write for each object of a pattern that could take a line feed",
+        words: &["json", KEYED],
         input: b"a\nb\n\nc",
         output: "{\"k\":\"a\"}\n{\"k\":\"b\"}\nnull\n{\"k\":\"c\"}\n",
     },
