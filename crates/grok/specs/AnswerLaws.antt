@@ -1,4 +1,4 @@
--- THE LAWS of key tables and of answers.
+-- THE LAWS of key tables and of values.
 use Rattle.std.specs.Prelude.{◌≡◌, ◌≢◌, ◌↔◌, ℕ, ◌<◌, List, Option, Some, Contains, filter, is_some, length, slice_get, slice_index_or, [], MatchOption}
 use Rattle.std.specs.List.Sorted.{IsStrictlySortedBy}
 use Rattle.std.specs.Map.{keys_of}
@@ -8,22 +8,22 @@ use Rattle.grok.specs.GeneratedNames.{generated}
 use Rattle.grok.specs.KeyTable.{Entries, meant_key, group_of}
 use Rattle.grok.specs.Answers.{answer_of, walk}
 
--- the keys of a table stand in byte order, each once
+-- the keys of a table are in byte order, each once
 abbrev pub Rises : Entries → Type 0
 Rises table = IsStrictlySortedBy (slice_cmp nat_cmp) (keys_of table)
 
--- a walk has the keys of the table that have an answer, in the table's order
+-- a walk has the keys of the table that have a value, in the order of the table
 abbrev pub WalksHaveTheAnsweredKeys : Type 0
 WalksHaveTheAnsweredKeys = (table : Entries) (captures : List (Option (List ℕ))) → Rises table
     → keys_of (walk table captures) ≡ filter (λ key. is_some (answer_of table captures key)) (keys_of table)
 
--- a key has an answer exactly if the walk has a pair of that key, and then it is the pair's text
+-- a key has a value exactly if the walk has a pair with that key, and then it is the value of the pair
 abbrev pub AnswersAreThoseOfTheWalk : Type 0
 AnswersAreThoseOfTheWalk = (table : Entries) (captures : List (Option (List ℕ))) → Rises table
     → (key text : List ℕ)
     → (answer_of table captures key ≡ Some text) ↔ Contains (walk table captures) (key, text)
 
--- the name for the number of a key means that key
+-- the generated name of number k means the key of number k
 abbrev pub GeneratedNamesMeanTheirKeys : Type 0
 GeneratedNamesMeanTheirKeys = (keys : List (List ℕ)) (number : ℕ) → number < length keys
     → meant_key keys (generated number) ≡ slice_index_or keys number []
@@ -38,7 +38,7 @@ abbrev pub NameMeans : List (List ℕ) → List (Option (List ℕ)) → List ℕ
 NameMeans keys names key group = (name : List ℕ) × (slice_get names group ≡ Some (Some name))
     × (meant_key keys name ≡ key)
 
--- the group of a key is the greatest whose name means it, and where a key has no group no name means it
+-- the group of a key is the greatest whose name means it, and a key without a group is meant by no name
 abbrev pub GroupsAreTheGreatest : Type 0
 GroupsAreTheGreatest = (keys : List (List ℕ)) (names : List (Option (List ℕ))) (key : List ℕ)
     → MatchOption (group_of keys names key)

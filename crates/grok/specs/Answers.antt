@@ -1,4 +1,4 @@
--- What contracts see of a pattern and of a match, and what a match answers.
+-- What contracts see of patterns and matches, and the value of each key in a match.
 use Rattle.std.specs.Prelude.{ℕ, List, Option, None, String, map, option_map, option_and_then, filter_map, slice_index_or, string_bytes, refl}
 use Rattle.std.specs.Coded.{Coded, code_by, coded×, coded_list, coded_option, coded_ℕ}
 use Rattle.std.specs.FinMap as finite
@@ -29,7 +29,7 @@ extract_texts entries = finite.from_entries (map (λ entry.
 
 pub record MatchesValue (E : Type 0) : Type 0 where
   pub pattern : PatternValue E
-  -- the text of each group, from group 0 on, where it took part
+  -- the text of each group that took part, from group 0 on
   pub captures : List (Option (List ℕ))
 
 abbrev pub matches_code : {E : Type 0} → Coded E → Coded (MatchesValue E)
@@ -38,13 +38,13 @@ matches_code {E} engine =
     (coded_list (coded_option (coded_list coded_ℕ))))
     (λ p. (p.pattern, p.captures)) (λ t. record { pattern = t.0; captures = t.1 }) (λ _. refl)
 
--- ---- answers
+-- ---- values
 
 -- the text of a group, if it took part
 abbrev pub capture_at : List (Option (List ℕ)) → ℕ → Option (List ℕ)
 capture_at captures group = slice_index_or captures group None
 
--- the answer of a key: the capture of its group
+-- the value of a key: what its group captured
 abbrev pub answer_of : Entries → List (Option (List ℕ)) → List ℕ → Option (List ℕ)
 answer_of table captures key = option_and_then (capture_at captures) (group_in table key)
 
@@ -52,6 +52,6 @@ answer_of table captures key = option_and_then (capture_at captures) (group_in t
 abbrev pub pair_of : List (Option (List ℕ)) → List ℕ × ℕ → Option (List ℕ × List ℕ)
 pair_of captures entry = option_map (λ text. (entry.0, text)) (capture_at captures entry.1)
 
--- THE WALK: the keys with their texts, in the table's order, without the keys whose group took no part
+-- THE WALK: the keys with their values, in the order of the table, without keys whose group took no part
 abbrev pub walk : Entries → List (Option (List ℕ)) → List (List ℕ × List ℕ)
 walk table captures = filter_map (pair_of captures) table

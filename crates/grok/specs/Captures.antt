@@ -1,4 +1,4 @@
--- What an engine's names and captures are, as texts.
+-- The group names and captures of an engine, as texts.
 use Rattle.std.specs.Prelude.{◌≡◌, ℕ, ◌≤◌, List, Option, String, All, IfSome, map, length, option_map, string_bytes, slice_range}
 use Rattle.std.specs.Borrow.{Bor}
 
@@ -9,7 +9,7 @@ name_texts names = map (option_map string_bytes) names
 abbrev pub text_of : Bor (List ℕ) → List ℕ
 text_of part = part.now
 
--- the text of each group, from group 0 on, where it took part
+-- the text of each group that took part, from group 0 on
 abbrev pub capture_texts : List (Option (Bor (List ℕ))) → List (Option (List ℕ))
 capture_texts captures = map (option_map text_of) captures
 

@@ -1,4 +1,4 @@
--- What compiling a pattern answers.
+-- What compiling a pattern returns.
 use Rattle.std.specs.Prelude.{◌≡◌, ◌≢◌, ℕ, ◌<◌, ◌^◌, Bool, List, [], ◌++◌, length, codes, Option, Some, None, Result, MatchResult, IfSome}
 use Rattle.std.specs.FinMap as finite
 use Rattle.grok.specs.Texts.{fault_words}
@@ -15,7 +15,7 @@ use Rattle.grok.specs.declared.errors.error.Error.{Error}
 
 -- ---- errors of faults
 
--- a generic failure with these words, which are left open where there are none
+-- a generic failure with this message, which is left open if there is none
 abbrev pub FailsWith : Option (List ℕ) → ErrorValue → Type 0
 FailsWith words (GenericCompilationFailure said) = IfSome words (λ known. said ≡ known)
 FailsWith words error = ⊥
@@ -30,7 +30,7 @@ IsErrorOf (Structural fault) error = IsFaultError fault error
 IsErrorOf (Clash key) error = error ≡ GenericCompilationFailure (codes "Alias "
     ++ (key ++ codes " already exists"))
 
--- the error for a text that an engine doesn't build: want of memory stays that, and a refusal names the text
+-- the error if the engine is not built: running out of memory stays that, and a refusal contains the text
 abbrev pub error_of_refusal : Refusal → List ℕ → ErrorValue
 error_of_refusal refusal.Memory text = Memory
 error_of_refusal refusal.Refused text = RegexCompilationFailed (codes "Regex compilation failed:\n" ++ text)
@@ -43,7 +43,7 @@ pub record IsFirstError (alias_only : Bool) (tree : List Event) (error : ErrorVa
 
 -- ---- patterns
 
--- the engine was built from this text, the groups it names have these keys, and these are the extracts
+-- the engine was built from this text, its named groups have these keys, and these are the extracts
 pub record IsBuilt {E : Type 0} (source_of : E → List ℕ) (group_names : E
     → List (Option (List ℕ))) (source : List ℕ) (given : List (List ℕ)) (extract : List ℕ
     → Option (List ℕ)) (pattern : PatternValue E) : Type 0 where
@@ -51,13 +51,13 @@ pub record IsBuilt {E : Type 0} (source_of : E → List ℕ) (group_names : E
   pub keys : IsKeyTable given (group_names pattern.engine) pattern.keys
   pub extracts : (key : List ℕ) → finite.get pattern.extracts key ≡ extract key
 
--- the engine may refuse the text, and the error says so and names it
+-- the engine may refuse the text, and the error reports this and contains the text
 pub data IsRefusal (may_refuse : List ℕ → Type 0) (text : List ℕ) : ErrorValue → Type 0 where
   Refused : may_refuse text → IsRefusal may_refuse text (error_of_refusal refusal.Refused text)
 
--- ---- the answer
+-- ---- the result
 
--- what is compiled: a pattern with its tree, and whether only aliases count
+-- what is compiled: a pattern with its tree, and whether only placeholders with an alias capture
 pub record Expansion : Type 0 where
   pub alias_only : Bool
   pub pattern : List ℕ
@@ -67,7 +67,7 @@ pub record Expansion : Type 0 where
 abbrev pub expansion_of : Texts → Bool → List ℕ → Expansion
 expansion_of texts alias_only pattern = record { alias_only = alias_only; pattern = pattern; tree = tree (finite.get texts) pattern }
 
--- the text is no longer than the greatest `usize`
+-- the text is not longer than the greatest `usize`
 abbrev pub Fits : Expansion → Type 0
 Fits e = length (expanded e.alias_only e.tree) < 2 ^ 64
 

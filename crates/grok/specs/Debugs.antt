@@ -1,4 +1,4 @@
--- What is printed for debugging. A text that isn't ASCII is left open, and with it the whole.
+-- What Debug shows. A text that is not ASCII is left open, and with it all of the output.
 use Rattle.std.specs.Prelude.{ℕ, List, [], Option, Some, String, codes, string_bytes}
 use Rattle.std.specs.Fmt.{debug_str, debug_items, ◌++?◌}
 use Rattle.std.specs.FinMap as finite

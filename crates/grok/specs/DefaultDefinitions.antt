@@ -1,4 +1,4 @@
--- The ten definitions that a library begins with.
+-- The default definitions.
 use Rattle.std.specs.Prelude.{ℕ, List, [], ◌∷◌, codes}
 
 abbrev pub default_definitions : List (List ℕ × List ℕ)

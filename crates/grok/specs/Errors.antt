@@ -1,4 +1,4 @@
--- What an error says, and the text that it prints.
+-- What an error holds, and the text that it shows.
 use Rattle.std.specs.Prelude.{ℕ, List, ◌++◌, codes, string_bytes}
 use Rattle.grok.specs.declared.errors.error.Error.{Error}
 use Rattle.grok.specs.declared.errors.error.Error.TheVariants as rust
@@ -20,7 +20,7 @@ error_value (rust.RegexCompilationFailed words) = RegexCompilationFailed (string
 error_value (rust.GenericCompilationFailure words) = GenericCompilationFailure (string_bytes words)
 error_value rust.Memory = Memory
 
--- the text that an error prints
+-- the text of an error, as Display shows it
 abbrev pub error_text : ErrorValue → List ℕ
 error_text RecursionTooDeep = codes "Recursion while compiling reached the limit of 1024"
 error_text (CompiledPatternIsEmpty pattern) = codes "The given pattern \""

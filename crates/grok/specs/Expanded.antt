@@ -1,11 +1,11 @@
--- The text that a clean tree stands for, and its size.
+-- The expanded text of a clean tree, and its size.
 use Rattle.std.specs.Prelude.{ℕ, suc, ◌-◌, max, Bool, List, [], ◌∷◌, ◌++◌, length, if◌then◌else◌, codes}
 use Rattle.grok.specs.Tree.{Event, Text, Open, Close, FaultEvent}
 use Rattle.grok.specs.Keys.{is_recorded, recorded}
 use Rattle.grok.specs.GeneratedNames.{named_head, unnamed_head}
 
--- the text of events that stand after so many recorded opens: each of these writes the head of a group that
--- its number names, and the others that of a group without a name
+-- The text of these events after so many capturing placeholders. Each further one writes the head of a
+-- group with its number, and each other placeholder the head of a group without a name.
 abbrev pub text_after : Bool → ℕ → List Event → List ℕ
 text_after alias_only count [] = []
 text_after alias_only count (Text text ∷ events) = text ++ text_after alias_only count events
@@ -16,15 +16,15 @@ text_after alias_only count (Open label meaning ∷ events) =
     then named_head count ++ text_after alias_only (suc count) events
     else unnamed_head ++ text_after alias_only count events
 
--- the text of a clean tree
+-- the expanded text of a clean tree
 abbrev pub expanded : Bool → List Event → List ℕ
 expanded alias_only tree = text_after alias_only 0 tree
 
--- how many groups the text names by number
+-- the number of groups with a generated name
 abbrev pub groups : Bool → List Event → ℕ
 groups alias_only tree = length (recorded alias_only tree)
 
--- the greatest nesting of an open, where so many are open already, and 0 if there is none
+-- the greatest nesting of an open, if so many are open already, and 0 if there is none
 abbrev pub nesting_after : ℕ → List Event → ℕ
 nesting_after depth [] = 0
 nesting_after depth (Text text ∷ events) = nesting_after depth events

@@ -1,11 +1,11 @@
--- The first fault and the extracts of a tree, said by where the list of its events, or of its recorded opens,
--- is cut.
+-- The first fault and the extracts of a tree, by cutting the list of its events, or of its capturing
+-- placeholders, at the right position.
 use Rattle.std.specs.Prelude.{◌≡◌, ℕ, Bool, true, false, List, [], ◌∷◌, ◌++◌, Some, None}
 use Rattle.grok.specs.Tree.{is_absent, Label, Meaning, Fault, Event, Open, FaultEvent}
 use Rattle.grok.specs.Keys.{is_recorded, recorded, key_after, keys, Finding, Structural, Clash, is_among, first_fault, extract_of}
 
--- the event, which stands behind these others, is the fault: it is a fault event, or a recorded open whose
--- key is that of an earlier one
+-- This event, which comes after these others, is a fault: it is a structural fault, or a capturing
+-- placeholder whose key is that of an earlier one.
 pub data IsFaultBehind (alias_only : Bool) (before : List Event) : Event → Finding → Type 0 where
   Breaks : (fault : Fault) → IsFaultBehind alias_only before (FaultEvent fault) (Structural fault)
   Meets : (label : Label) (meaning : Meaning) → is_recorded alias_only label ≡ true
@@ -13,13 +13,13 @@ pub data IsFaultBehind (alias_only : Bool) (before : List Event) : Event → Fin
       → IsFaultBehind alias_only before (Open label meaning)
       (Clash (key_after (recorded alias_only before) label))
 
--- wherever the events are cut, the event that comes next is no fault
+-- wherever the events are cut, the next event is no fault
 abbrev pub HasNoFault : Bool → List Event → Type 0
 HasNoFault alias_only events =
     (before : List Event) (event : Event) (after : List Event) (finding : Finding)
     → events ≡ before ++ event ∷ after → IsFaultBehind alias_only before event finding → ⊥
 
--- the events can be cut before this fault, so that there is none before it
+-- the events can be cut before this fault, and none of those before the cut is a fault
 pub record HasFirstFault (alias_only : Bool) (events : List Event) (finding : Finding) : Type 0 where
   pub before : List Event
   pub event : Event
@@ -28,7 +28,7 @@ pub record HasFirstFault (alias_only : Bool) (events : List Event) (finding : Fi
   pub none : HasNoFault alias_only before
   pub is : IsFaultBehind alias_only before event finding
 
--- what `first_fault` gives
+-- what `first_fault` is
 pub record FindsFirstFault (alias_only : Bool) (tree : List Event) : Type 0 where
   pub some : (finding : Finding) → first_fault alias_only tree ≡ Some finding
       → HasFirstFault alias_only tree finding
@@ -42,14 +42,15 @@ FirstFaultIsFirst = (alias_only : Bool) (tree : List Event) → FindsFirstFault 
 
 -- ---- extracts
 
--- of the opens that stand behind these others, none that has the key has an extract
+-- of the capturing placeholders after these others, none with this key has an extract
 abbrev pub HasNoExtract : List Label → List Label → List ℕ → Type 0
 HasNoExtract earlier labels key =
     (before : List Label) (label : Label) (after : List Label)
     → labels ≡ before ++ label ∷ after → key_after (earlier ++ before) label ≡ key
     → is_absent label.extract ≡ true
 
--- an open has the key and this extract, which isn't empty, and no later one of that key has an extract
+-- a capturing placeholder has this key and this extract, which is not empty, and no later one with this key
+-- has an extract
 pub record HasLastExtract (labels : List Label) (key : List ℕ) (extract : List ℕ) : Type 0 where
   pub before : List Label
   pub label : Label
@@ -60,7 +61,7 @@ pub record HasLastExtract (labels : List Label) (key : List ℕ) (extract : List
   pub some : is_absent extract ≡ false
   pub last : HasNoExtract (before ++ label ∷ []) after key
 
--- what `extract_of` gives
+-- what `extract_of` is
 pub record FindsLastExtract (alias_only : Bool) (tree : List Event) (key : List ℕ) : Type 0 where
   pub some : (extract : List ℕ) → extract_of alias_only tree key ≡ Some extract
       → HasLastExtract (recorded alias_only tree) key extract

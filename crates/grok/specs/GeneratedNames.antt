@@ -1,4 +1,4 @@
--- The names that an expansion gives to groups, and the brackets that it writes for an open.
+-- The generated names of groups, and the brackets that a placeholder writes.
 use Rattle.std.specs.Prelude.{ℕ, Bool, List, ◌++◌, length, codes, if◌then◌else◌}
 use Rattle.grok.specs.Numeral.{numeral}
 
@@ -6,7 +6,7 @@ use Rattle.grok.specs.Numeral.{numeral}
 abbrev pub name_start : List ℕ
 name_start = codes "_n_"
 
--- the name that an expansion writes for the placeholder of this number
+-- the generated name of the placeholder with this number
 abbrev pub generated : ℕ → List ℕ
 generated number = name_start ++ numeral number
 

@@ -1,4 +1,4 @@
--- The key table: which key the name of a group means, and which group a key has.
+-- The key table: which key the name of a group means, and which group each key has.
 use Rattle.std.specs.Prelude.{◌≡◌, ℕ, suc, List, [], ◌∷◌, if◌then◌else◌, Option, Some, None}
 use Rattle.std.specs.List.Sorted.{IsStrictlySortedBy}
 use Rattle.std.specs.Map.{lookup, keys_of}
@@ -9,8 +9,8 @@ use Rattle.grok.specs.GeneratedNames.{generated}
 
 -- ---- names
 
--- The key that a name means: the key of number k where it is the name for k, and else the name itself. `keys`
--- are those from this number on.
+-- The key that a name means: the key of number k if it is the generated name of k, and otherwise the name
+-- itself. `keys` are those from this number on.
 abbrev pub meant_from : ℕ → List (List ℕ) → List ℕ → List ℕ
 meant_from number [] name = name
 meant_from number (key ∷ keys) name = if bytes_eq name (generated number) then key
@@ -21,7 +21,7 @@ meant_key keys name = meant_from 0 keys name
 
 -- ---- groups
 
--- the groups whose name means the key, in rising order; the first name is that of this group
+-- the groups whose name means the key, in rising order; the first of these names is that of this group
 abbrev pub groups_from : List (List ℕ) → List ℕ → ℕ → List (Option (List ℕ)) → List ℕ
 groups_from keys key group [] = []
 groups_from keys key group (None ∷ names) = groups_from keys key (suc group) names
@@ -47,8 +47,8 @@ Entries = List (List ℕ × ℕ)
 abbrev pub group_in : Entries → List ℕ → Option ℕ
 group_in table key = lookup (bytes_eq key) table
 
--- THE KEY TABLE of these keys by number and these names of groups: each key that some name means stands in it
--- once, in byte order, with its group
+-- THE KEY TABLE of these numbered keys and these names of groups: each key that some name means is in it
+-- once, in byte order, with its group.
 pub record IsKeyTable (keys : List (List ℕ)) (names : List (Option (List ℕ))) (table : Entries) : Type 0 where
   pub sorted : IsStrictlySortedBy (slice_cmp nat_cmp) (keys_of table)
   pub groups : (key : List ℕ) → group_in table key ≡ group_of keys names key

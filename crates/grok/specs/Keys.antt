@@ -1,4 +1,4 @@
--- The recorded opens of a tree: their keys, where two keys clash, and their extracts.
+-- The capturing placeholders of a tree: their keys, when two of them clash, and their extracts.
 use Rattle.std.specs.Prelude.{◌≡◌, ◌↔◌, ℕ, zero, suc, ◌==◌, Bool, true, false, not, ◌&&◌, ◌||◌, List, [], ◌∷◌, ◌++◌, if◌then◌else◌, Option, Some, None, count_by, codes}
 use Rattle.std.specs.Option.{option_map}
 use Rattle.std.specs.Str.{bytes_eq}
@@ -7,13 +7,13 @@ use Rattle.grok.specs.Ascii.{close_bracket, digit_zero, open_bracket}
 use Rattle.grok.specs.Numeral.{numeral}
 use Rattle.grok.specs.Tree.{Definitions, is_absent, Label, Event, Text, Open, Close, FaultEvent, Fault, reached, first_structural, tree}
 
--- ---- recorded opens
+-- ---- capturing placeholders
 
--- in alias-only mode an open without an alias isn't recorded
+-- in alias-only mode a placeholder without an alias does not capture
 abbrev pub is_recorded : Bool → Label → Bool
 is_recorded alias_only label = not (alias_only && is_absent label.alias)
 
--- the recorded opens, in the order of reading; the first has number 0
+-- the capturing placeholders in reading order; the first has number 0
 abbrev pub recorded : Bool → List Event → List Label
 recorded alias_only [] = []
 recorded alias_only (Text text ∷ events) = recorded alias_only events
@@ -24,24 +24,24 @@ recorded alias_only (Open label meaning ∷ events) =
 
 -- ---- keys
 
--- the alias, or the name where there is none
+-- the base key: the alias, or the name if there is no alias
 abbrev pub wanted : Label → List ℕ
 wanted label = if is_absent label.alias then label.name else label.alias
 
--- how many of these opens wanted the key
+-- how many of these have this base key
 abbrev pub how_often : List Label → List ℕ → ℕ
 how_often before key = count_by (λ earlier. bytes_eq (wanted earlier) key) before
 
--- the wanted key after so many that wanted it: `key`, then `key[1]`, `key[2]`
+-- "key", then "key[1]", "key[2]": the key of the next placeholder after so many with this base key
 abbrev pub numbered : List ℕ → ℕ → List ℕ
 numbered key zero = key
 numbered key (suc count) = key ++ codes "[" ++ numeral (suc count) ++ codes "]"
 
--- the key of an open after these recorded ones
+-- the key of a capturing placeholder after these others
 abbrev pub key_after : List Label → Label → List ℕ
 key_after before label = numbered (wanted label) (how_often before (wanted label))
 
--- the keys of recorded opens that stand after others, of which the nearest comes first
+-- the keys of capturing placeholders that come after others, of which the nearest stands first
 abbrev pub keys_after : List Label → List Label → List (List ℕ)
 keys_after before [] = []
 keys_after before (label ∷ labels) = key_after before label ∷ keys_after (label ∷ before) labels
@@ -51,7 +51,7 @@ keys labels = keys_after [] labels
 
 -- ---- the first fault
 
--- what compiling finds first: a structural fault, or a recorded open whose key was given before
+-- what compiling finds first: a structural fault, or a capturing placeholder whose key is already taken
 pub data Finding : Type 0 where
   Structural : (fault : Fault) → Finding
   Clash : (key : List ℕ) → Finding
@@ -60,8 +60,8 @@ abbrev pub is_among : List ℕ → List (List ℕ) → Bool
 is_among key [] = false
 is_among key (other ∷ others) = if bytes_eq other key then true else is_among key others
 
--- The first fault of events that stand after recorded opens. `before` are these, the nearest first, and
--- `taken` their keys.
+-- The first fault of events that come after capturing placeholders. `before` are these, the nearest first,
+-- and `taken` are their keys.
 abbrev pub first_fault_after : Bool → List Label → List (List ℕ) → List Event → Option Finding
 first_fault_after alias_only before taken [] = None
 first_fault_after alias_only before taken (Text text ∷ events) = first_fault_after alias_only before taken events
@@ -74,14 +74,14 @@ first_fault_after alias_only before taken (Open label meaning ∷ events) =
     else first_fault_after alias_only (label ∷ before) (key_after before label ∷ taken) events)
     else first_fault_after alias_only before taken events
 
--- THE FIRST FAULT in the order of reading. At one placeholder a missing definition comes first, then a clash,
--- then depth.
+-- THE FIRST FAULT in reading order. At one and the same placeholder a missing definition comes first, then
+-- a clash, and then the depth.
 abbrev pub first_fault : Bool → List Event → Option Finding
 first_fault alias_only tree = first_fault_after alias_only [] [] tree
 
 -- ---- extracts
 
--- the extract of a key: that of the last of these recorded opens that has the key and a nonempty extract, or
+-- the extract of a key: that of the last of these placeholders that has the key and a nonempty extract, or
 -- what was found before
 abbrev pub extract_after : List Label → List ℕ → List Label → Option (List ℕ) → Option (List ℕ)
 extract_after before key [] found = found
@@ -93,24 +93,24 @@ extract_after before key (label ∷ labels) found =
 abbrev pub extract_of : Bool → List Event → List ℕ → Option (List ℕ)
 extract_of alias_only tree key = extract_after [] key (recorded alias_only tree) None
 
--- ---- which opens can clash
+-- ---- which placeholders can clash
 
--- digits, and then a last `]`
+-- digits, and then a `]` at the end
 abbrev pub ends_digits : List ℕ → Bool
 ends_digits [] = false
 ends_digits (c ∷ cs) = if c == close_bracket then is_absent cs else is_ascii_digit c && ends_digits cs
 
--- a number from 1 up in decimal, and then a last `]`
+-- a decimal number from 1 up, and then a `]` at the end
 abbrev pub ends_number : List ℕ → Bool
 ends_number [] = false
 ends_number (c ∷ cs) = not (c == digit_zero) && (is_ascii_digit c && ends_digits cs)
 
--- the key ends as a numbered one does: in `[`, a number from 1 up in decimal, and `]`
+-- the key ends as a numbered one does: in `[`, a decimal number from 1 up, and `]`
 abbrev pub ends_in_number : List ℕ → Bool
 ends_in_number [] = false
 ends_in_number (c ∷ cs) = (c == open_bracket && ends_number cs) || ends_in_number cs
 
--- an open whose alias ends so is among the events
+-- a placeholder whose alias ends so is among the events
 abbrev pub has_numbered_alias : List Event → Bool
 has_numbered_alias [] = false
 has_numbered_alias (Text text ∷ events) = has_numbered_alias events
@@ -119,13 +119,13 @@ has_numbered_alias (FaultEvent fault ∷ events) = has_numbered_alias events
 has_numbered_alias (Open label meaning ∷ events) = if ends_in_number label.alias then true
     else has_numbered_alias events
 
--- no key stands twice
+-- no key occurs twice
 abbrev pub AreDistinct : List (List ℕ) → Type 0
 AreDistinct [] = Unit {0}
 AreDistinct (key ∷ keys) = (is_among key keys ≡ false) × AreDistinct keys
 
--- THE LAWS: a key ends so exactly where it is a numbered one. Without a reached alias that ends so the first
--- fault is the structural one, and without a fault no two recorded opens share a key.
+-- THE LAWS: a key ends so exactly if it is a numbered one. If no alias that ends so is reached, the first
+-- fault is a structural one. Without a fault, no two capturing placeholders have the same key.
 abbrev pub EndsInNumberWhereNumbered : Type 0
 EndsInNumberWhereNumbered = (key : List ℕ) → (ends_in_number key ≡ true)
     ↔ ((front : List ℕ) × (count : ℕ) × (key ≡ numbered front (suc count)))

@@ -1,4 +1,4 @@
--- What contracts see of a match that is lent.
+-- What contracts see of a match that is borrowed from its matcher.
 use Rattle.std.specs.Prelude.{ℕ, List, Option}
 use Rattle.grok.specs.KeyTable.{Entries}
 use Rattle.grok.specs.Groups.{texts_in_line}
@@ -8,6 +8,6 @@ use Rattle.grok.specs.declared.matches.lent.MatchesRef.{MatchesRef}
 abbrev pub lent_keys : MatchesRef → Entries
 lent_keys matches = matches.keys.now
 
--- the text of each group, from group 0 on, where it took part
+-- the text of each group that took part, from group 0 on
 abbrev pub lent_captures : MatchesRef → List (Option (List ℕ))
 lent_captures matches = texts_in_line matches.located

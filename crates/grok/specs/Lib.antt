@@ -45,7 +45,7 @@ pub mod Remembered
 pub mod Measured
 pub mod Met
 pub mod TreeLaws
--- THE WORDS FOR CALLERS: each word that a clause of a public call is said in.
+-- THE WORDS FOR CALLERS: every word that a contract of a public call uses.
 -- pieces
 pub use Rattle.grok.specs.Pieces.{Piece, Regular, Placeholder, Malformed, Parts, pieces}
 pub use Rattle.grok.specs.Grammar.{ArePieces}

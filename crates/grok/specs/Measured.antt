@@ -1,4 +1,4 @@
--- What measuring a pattern answers, as read off its tree; and how much of the definitions is read for it.
+-- What measuring a pattern returns, defined on its tree, and how much of the definitions is read for it.
 use Rattle.std.specs.Prelude.{◌≡◌, ℕ, ◌+◌, ◌-◌, ◌^◌, min, Bool, true, false, List, [], ◌∷◌, length, if◌then◌else◌, nat_lt, Option, Some, None}
 use Rattle.std.specs.Str.{bytes_eq}
 use Rattle.std.specs.FinMap as finite
@@ -14,7 +14,7 @@ tree_of texts pattern = tree (finite.get texts) pattern
 abbrev pub IsClean : List Event → Type 0
 IsClean tree = first_structural tree ≡ None
 
--- ---- the answer
+-- ---- the result
 
 pub data Measured : Type 0 where
   Faulty : (fault : Fault) → Measured
@@ -25,7 +25,7 @@ pub data Measured : Type 0 where
 abbrev pub size_within : ℕ → ℕ → ℕ → Measured
 size_within length groups nesting = if nat_lt length (2 ^ 64) then Sized length groups nesting else TooLong
 
--- the first structural fault, or else the size of the text that the tree stands for
+-- the first structural fault, or else the size of the expanded text
 abbrev pub fault_or : Option Fault → Measured → Measured
 fault_or (Some fault) size = Faulty fault
 fault_or None size = size
@@ -36,7 +36,7 @@ measured_tree alias_only tree = fault_or (first_structural tree)
 
 -- ---- what is read
 
--- whether an open of this name that stands for its stored text is among the events
+-- whether the events open this name for its stored definition
 abbrev pub reaches : List ℕ → List Event → Bool
 reaches name [] = false
 reaches name (Text text ∷ events) = reaches name events
@@ -46,24 +46,24 @@ reaches name (Open label (Inline text) ∷ events) = reaches name events
 reaches name (Open label (Stored text) ∷ events) = if bytes_eq label.name name then true
     else reaches name events
 
--- what the chosen ones of these named texts weigh together
+-- the total weight of the chosen ones of these named texts
 abbrev pub weighed : (List ℕ → ℕ) → (List ℕ → Bool) → List (List ℕ × List ℕ) → ℕ
 weighed weight is_chosen [] = 0
 weighed weight is_chosen (entry ∷ entries) = (if is_chosen entry.0 then weight entry.1
     else 0) + weighed weight is_chosen entries
 
--- what the pattern weighs, and each stored text whose name is reached, once
+-- the weight of the pattern, and of each stored text whose name is reached, counted once
 abbrev pub reached_weight : (List ℕ → ℕ) → Texts → List ℕ → ℕ
 reached_weight weight texts pattern = weight pattern + weighed weight
     (λ name. reaches name (reached (tree_of texts pattern))) (finite.entries texts)
 
--- THE PIECES of all these texts, and HOW MANY TEXTS they are
+-- THE PIECES of all these texts, and THE NUMBER OF TEXTS
 abbrev pub reached_pieces : Texts → List ℕ → ℕ
 reached_pieces texts pattern = reached_weight (λ text. length (pieces text)) texts pattern
 
 abbrev pub reached_texts : Texts → List ℕ → ℕ
 reached_texts texts pattern = reached_weight (λ text. 1) texts pattern
 
--- the greatest count that a counter shows
+-- the greatest number that a counter shows
 abbrev pub counted : ℕ → ℕ
 counted n = min n (2 ^ 64 - 1)

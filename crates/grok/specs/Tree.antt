@@ -1,4 +1,5 @@
--- The expansion of a pattern: what each placeholder stands for, and the events of reading all of it in order.
+-- The expansion of a pattern: what each placeholder stands for, and the events of reading all of it in
+-- order.
 use Rattle.std.specs.Prelude.{ℕ, zero, suc, Bool, true, false, not, ◌&&◌, List, [], ◌∷◌, ◌++◌, if◌then◌else◌, Option, Some, None}
 use Rattle.std.specs.Str.{bytes_eq}
 use Rattle.grok.specs.declared.parser.GrokPatternError.{GrokPatternError}
@@ -6,24 +7,24 @@ use Rattle.grok.specs.Pieces.{Parts, Piece, Regular, Placeholder, Malformed, pie
 
 -- ---- what pieces stand for
 
--- a part of a placeholder that isn't there is the empty text
+-- a part of a placeholder that is missing is the empty text
 abbrev pub is_absent : List ℕ → Bool
 is_absent [] = true
 is_absent (x ∷ xs) = false
 
--- a structural fault: a malformed placeholder, a name without a definition, or more levels than are allowed
+-- a structural fault: a malformed placeholder, a name without a definition, or too deep a nesting
 pub data Fault : Type 0 where
   MalformedPiece : (fault : GrokPatternError) → Fault
   Missing : (name : List ℕ) → Fault
   TooDeep : Fault
 
--- what a placeholder opens under
+-- the name, alias and extract of a placeholder
 pub record Label : Type 0 where
   pub name : List ℕ
   pub alias : List ℕ
   pub extract : List ℕ
 
--- what a placeholder stands for: a definition that is written in the same text, or the stored one of its name
+-- what a placeholder stands for: an inline definition of its text, or the stored definition of its name
 pub data Meaning : Type 0 where
   Inline : (text : List ℕ) → Meaning
   Stored : (text : List ℕ) → Meaning
@@ -32,8 +33,8 @@ abbrev pub meaning_text : Meaning → List ℕ
 meaning_text (Inline text) = text
 meaning_text (Stored text) = text
 
--- A piece with what it stands for. It depends on its text and on the definitions, and not on where the text
--- is reached.
+-- A piece whose placeholder is resolved. This depends on the text of the piece and on the definitions
+-- alone, not on where that text is used.
 pub data Item : Type 0 where
   TextItem : (text : List ℕ) → Item
   FaultItem : (fault : Fault) → Item
@@ -46,13 +47,13 @@ Definitions = List ℕ → Option (List ℕ)
 abbrev pub no_definitions : Definitions
 no_definitions name = None
 
--- what is written in a text so far, and a placeholder: one with a definition writes it for its name, in place
--- of an earlier one
+-- the inline definitions of a text up to a placeholder and with it: a later one of a name replaces an
+-- earlier one
 abbrev pub with_written : Definitions → Parts → Definitions
 with_written written parts name = if bytes_eq parts.name name && not (is_absent parts.definition)
     then Some parts.definition else written name
 
--- the written definition, or else the stored one, or else there is none
+-- the inline definition, or else the stored one, or else none
 abbrev pub resolved : Label → Option (List ℕ) → Option (List ℕ) → Item
 resolved label (Some text) stored = PlaceholderItem label (Inline text)
 resolved label None (Some text) = PlaceholderItem label (Stored text)
@@ -61,13 +62,13 @@ resolved label None None = FaultItem (Missing label.name)
 abbrev pub label_of : Parts → Label
 label_of parts = record { name = parts.name; alias = parts.alias; extract = parts.extract }
 
--- Resolution: the placeholder's own definition; else the last one that was written before for its name in
--- this text; else the stored one.
+-- RESOLUTION: a placeholder stands for its own definition, or else for the last inline definition of its
+-- name before it in this text, or else for the stored one.
 abbrev pub placeholder_item : Definitions → Definitions → Parts → Item
 placeholder_item stored written parts = resolved (label_of parts) (with_written written parts parts.name)
     (stored parts.name)
 
--- the items of the pieces, which stand in their text after others that have written these definitions
+-- the items of these pieces, where the pieces before them have these inline definitions
 abbrev pub items_after : Definitions → Definitions → List Piece → List Item
 items_after stored written [] = []
 items_after stored written (Regular s e text ∷ ps) = TextItem text ∷ items_after stored written ps
@@ -75,7 +76,7 @@ items_after stored written (Placeholder s e text parts ∷ ps) = placeholder_ite
 items_after stored written (Malformed fault ∷ ps) = FaultItem
     (MalformedPiece fault) ∷ items_after stored written ps
 
--- a text starts with nothing written
+-- at the start of a text there are no inline definitions
 abbrev pub items_of : Definitions → List ℕ → List Item
 items_of stored text = items_after stored no_definitions (pieces text)
 
@@ -87,7 +88,7 @@ pub data Event : Type 0 where
   Close : Event
   FaultEvent : (fault : Fault) → Event
 
--- the events of items, where `inside` is what stands behind an open: the events of its text and the close, or
+-- the events of items, where `inside` gives what follows an open: the events of its text and its close, or
 -- a fault
 abbrev pub events : (List ℕ → List Event) → List Item → List Event
 events inside [] = []
@@ -96,7 +97,7 @@ events inside (FaultItem fault ∷ items) = FaultEvent fault ∷ events inside i
 events inside (PlaceholderItem label meaning ∷ items) = Open label meaning ∷ inside (meaning_text meaning)
     ++ events inside items
 
--- what stands behind an open, where so many more levels are allowed
+-- what follows an open, if so many more levels are allowed
 abbrev pub inside : (List ℕ → List Item) → ℕ → List ℕ → List Event
 inside items zero text = FaultEvent TooDeep ∷ []
 inside items (suc levels_left) text = events (inside items levels_left) (items text) ++ Close ∷ []
@@ -104,11 +105,11 @@ inside items (suc levels_left) text = events (inside items levels_left) (items t
 abbrev pub tree_within : ℕ → (List ℕ → List Item) → List ℕ → List Event
 tree_within levels_left items pattern = events (inside items levels_left) (items pattern)
 
--- how many opens may stand in one another
+-- how many placeholders may be nested in one another
 abbrev pub deepest : ℕ
 deepest = 1023
 
--- THE TREE of a pattern, as a list of events: a nesting of 1,023 is allowed.
+-- THE TREE of a pattern, as the list of its events. A nesting of 1,023 levels is allowed.
 unfoldable pub tree : Definitions → List ℕ → List Event
 tree stored pattern = tree_within deepest (items_of stored) pattern
 

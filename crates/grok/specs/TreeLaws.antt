@@ -6,7 +6,7 @@ use Rattle.grok.specs.GeneratedNames.{named_head, unnamed_head}
 use Rattle.grok.specs.Expanded.{expanded}
 use Rattle.grok.specs.Measured.{Faulty, measured_tree, reaches}
 
--- ---- definitions that are written in a text
+-- ---- inline definitions
 
 -- none of the pieces is a placeholder that defines this name
 abbrev pub NoneDefines : List ℕ → List Piece → Type 0
@@ -16,7 +16,7 @@ NoneDefines name (Malformed fault ∷ ps) = NoneDefines name ps
 NoneDefines name (Placeholder s e text parts ∷ ps) = (parts.name ≡ name → is_absent parts.definition ≡ true)
     × NoneDefines name ps
 
--- a placeholder with a definition stands for it
+-- a placeholder with an inline definition stands for it
 abbrev pub OwnDefinitionHolds : Type 0
 OwnDefinitionHolds = (stored : Definitions) (text : List ℕ) (before after : List Piece) (s e : ℕ)
     (pattern : List ℕ) (parts : Parts)
@@ -24,8 +24,8 @@ OwnDefinitionHolds = (stored : Definitions) (text : List ℕ) (before after : Li
     → slice_get (items_of stored text) (length before) ≡ Some
     (PlaceholderItem (label_of parts) (Inline parts.definition))
 
--- a placeholder without one stands for that of an earlier placeholder of its name, if no other between them
--- defines the name
+-- A placeholder without one stands for that of an earlier placeholder of its name in the same text, if no
+-- placeholder between them defines the name.
 abbrev pub EarlierDefinitionHolds : Type 0
 EarlierDefinitionHolds = (stored : Definitions) (text : List ℕ) (before between after : List Piece)
     (s e s' e' : ℕ) (pattern pattern' : List ℕ) (earlier parts : Parts)
@@ -36,8 +36,8 @@ EarlierDefinitionHolds = (stored : Definitions) (text : List ℕ) (before betwee
     → slice_get (items_of stored text) (suc (length before + length between))
     ≡ Some (PlaceholderItem (label_of parts) (Inline earlier.definition))
 
--- and where no placeholder before it in its own text defines the name, whatever other texts define, it stands
--- for the stored definition, if there is one
+-- If no placeholder before it in its own text defines the name, it stands for the stored definition, if
+-- there is one, whatever other texts define.
 abbrev pub StoredDefinitionHolds : Type 0
 StoredDefinitionHolds = (stored : Definitions) (text : List ℕ) (before after : List Piece) (s e : ℕ)
     (pattern : List ℕ) (parts : Parts)
@@ -48,29 +48,29 @@ StoredDefinitionHolds = (stored : Definitions) (text : List ℕ) (before after :
 
 -- ---- faults
 
--- the tree neither reaches the name nor ends where it is missing
+-- the tree neither reaches the name nor ends because it is missing
 abbrev pub IsUnused : List ℕ → List Event → Type 0
 IsUnused name tree = (reaches name (reached tree) ≡ false) × (first_structural tree ≡ Some (Missing name) → ⊥)
 
--- Definitions that differ in unused names alone make the same first fault, so a fault in a definition that
--- isn't reached is never answered; and they reach the same.
+-- Libraries that differ only in definitions of unused names give the same first fault, so a fault in a
+-- definition that is not reached is never reported. They also reach the same definitions.
 abbrev pub UnusedDefinitionsDoNotMatter : Type 0
 UnusedDefinitionsDoNotMatter = (stored other : Definitions) (pattern : List ℕ)
     → ((name : List ℕ) → (stored name ≡ other name) ⊎ IsUnused name (tree stored pattern))
     → (first_structural (tree other pattern) ≡ first_structural (tree stored pattern))
     × (reached (tree other pattern) ≡ reached (tree stored pattern))
 
--- both modes answer the same faults
+-- both modes have the same structural faults
 abbrev pub ModesFaultAlike : Type 0
 ModesFaultAlike = (tree : List Event) (mode other : Bool) (fault : Fault)
     → measured_tree mode tree ≡ Faulty fault → measured_tree other tree ≡ Faulty fault
 
--- the head of a group: unnamed, or named by a number
+-- the head of a group, with or without a generated name
 pub data IsHead : List ℕ → Type 0 where
   Unnamed : IsHead unnamed_head
   Numbered : (number : ℕ) → IsHead (named_head number)
 
--- the text is what the events write, where each open writes a head of either kind
+-- the text is what the events write, where each open writes one of the two heads
 abbrev pub IsTextOf : List Event → List ℕ → Type 0
 IsTextOf [] text = text ≡ []
 IsTextOf (Text bytes ∷ events) text = (rest : List ℕ) × (text ≡ bytes ++ rest) × IsTextOf events rest

@@ -1,4 +1,4 @@
-//! Compiling a pattern.
+//! Compiles patterns.
 
 ghost use Rattle.std.specs.Prelude.{◌≡◌, ◌≢◌, ℕ, ◌⊎◌, List, [], map, length as len, MatchResult, IfOk, Some, None};
 ghost use Rattle.std.specs.Option.{option_map};
@@ -129,19 +129,24 @@ impl Grok {
         }
     }
 
-    /// Compiles a pattern for an engine: its placeholders are replaced by what they stand for, each in a group, and the engine builds the text.
+    /// Compiles a pattern for an engine. Each placeholder is replaced by its definition, in a group
+    /// of its own, and the engine is built from that text.
     ///
-    /// In alias-only mode a placeholder without an alias has no key. The pattern owns all that it holds.
+    /// In alias-only mode a placeholder without an alias has no key. The compiled pattern owns all
+    /// that it holds.
     ///
     /// # Errors
     ///
-    /// - `CompiledPatternIsEmpty` of an empty pattern, and of no other.
-    /// - `GenericCompilationFailure`, `DefinitionNotFound` or `RecursionTooDeep` for the first fault in the order of reading: a malformed placeholder, a name
-    ///   without a definition, a placeholder at the 1,024th level, or one whose key an earlier one has. At one placeholder the missing definition comes before
-    ///   the clash of keys, and that before depth.
-    /// - `RegexCompilationFailed` where the engine refuses the text.
-    /// - `Memory` where memory is refused, where the text of a pattern without a structural fault would be longer than the greatest `usize`, or where a key is wanted
-    ///   more often than that before a fault.
+    /// - `CompiledPatternIsEmpty` if the pattern is the empty text.
+    /// - `GenericCompilationFailure`, `DefinitionNotFound` or `RecursionTooDeep` for the first
+    ///   fault in reading order: a malformed placeholder, a name without a definition, a
+    ///   placeholder that is nested 1,024 levels deep, or one that would get a key that an earlier
+    ///   one has. If one placeholder has several of these, a missing definition comes before a
+    ///   clash of keys, and that before the depth.
+    /// - `RegexCompilationFailed` if the engine refuses the expanded text.
+    /// - `Memory` if an allocation fails, if the expanded text of a pattern without a structural
+    ///   fault is longer than the greatest `usize`, or if a key is used more often than that before
+    ///   a fault.
     pub fn compile_with<E: Engine>(
         &self,
         pattern: &str,
@@ -169,7 +174,11 @@ impl Grok {
         }
     }
 
-    /// Compiles a pattern for `regex`, with its defaults. The errors are those of `compile_with`.
+    /// Compiles a pattern for `regex`, with its defaults.
+    ///
+    /// # Errors
+    ///
+    /// Those of [`Grok::compile_with`].
     pub fn compile(&self, pattern: &str, with_alias_only: bool) -> Result<Pattern, Error>
         ensures answer { Compiles (λ engine. regex_source (engine_regex engine))
             (λ engine. regex_names (engine_regex engine)) MayRefuse

@@ -1,5 +1,4 @@
-//! Maps from texts as they are printed for debugging. The contract of std's `debug_map` says
-//! nothing of what it prints.
+//! Maps as `Debug` shows them. The contract of std's `debug_map` doesn't state what it writes.
 ghost use Rattle.std.specs.Prelude.{Some, OnOk};
 ghost use Rattle.std.specs.List.Sorted.{IsStrictlySortedBy};
 ghost use Rattle.std.specs.Map.{keys_of};
@@ -10,7 +9,7 @@ ghost use Rattle.grok.specs.Debugs.{debug_entry, debug_braces, debug_item};
 use std::collections::BTreeMap;
 use std::fmt;
 
-/// Writes what leads an entry, and the entry.
+/// Writes the separator before an entry, and the entry.
 pub(crate) fn write_entry<V: fmt::Debug, W: fmt::Write>(
     f: &mut fmt::Formatter<W>,
     lead: &str,
@@ -23,7 +22,7 @@ pub(crate) fn write_entry<V: fmt::Debug, W: fmt::Write>(
     write!(f, "{lead}{key:?}: {value:?}")
 }
 
-/// Writes the entries of a map between braces, in byte order of its keys.
+/// Writes the entries of a map in braces, in the byte order of its keys.
 pub(crate) fn write_map<V: fmt::Debug, W: fmt::Write>(
     f: &mut fmt::Formatter<W>,
     map: &BTreeMap<String, V>,

@@ -1,4 +1,4 @@
-//! Definitions by name, and the ten that a library may begin with.
+//! Definitions by name, and the default definitions.
 ghost use Rattle.std.specs.Prelude.{◌≡◌, OnOk, OnErr, IfOk, map, option_copied};
 ghost use Rattle.std.specs.FinMap as finite;
 ghost use Rattle.grok.specs.Maps.{set_all, pair_texts};
@@ -16,7 +16,7 @@ use std::collections::BTreeMap;
 use std::fmt;
 use std::marker::Model;
 
-/// Each name with its definition, as [`patterns`] gives them.
+/// The names with their definitions that [`patterns`] returns.
 const PATTERNS: [(&str, &str); 10] = [
     ("USERNAME", r"[a-zA-Z0-9._-]+"),
     ("USER", r"%{USERNAME}"),
@@ -36,17 +36,18 @@ const PATTERNS: [(&str, &str); 10] = [
     ("COMMONMAC", r"(?:(?:[A-Fa-f0-9]{2}:){5}[A-Fa-f0-9]{2})"),
 ];
 
-/// The ten names with their definitions that [`Grok::with_default_patterns`] sets, in this order.
+/// Returns the default definitions with their names, in the order in which
+/// [`Grok::with_default_patterns`] sets them.
 pub fn patterns() -> &'static [(&'static str, &'static str)]
     ensures { map pair_texts result.now ≡ default_definitions }
 {
     &PATTERNS
 }
 
-/// A library of definitions: names, each with the text that it stands for.
+/// A library of definitions. Each has a name.
 ///
-/// Any text is accepted as a name and as a definition, the empty one too. What is malformed in a
-/// definition is answered only where an expansion reaches it.
+/// Any text is accepted as a name and as a definition, also the empty one. A fault in a definition
+/// is reported only when a pattern that reaches it is compiled or measured.
 #[derive(Drop)]
 pub struct Grok {
     alloc: Global,
@@ -65,7 +66,7 @@ impl Model for Grok {
 }
 
 impl Grok {
-    /// A library without a definition. It takes no memory yet.
+    /// Makes a library without definitions. It allocates nothing.
     pub fn empty(alloc: Global) -> Grok
         ensures { result ≡ finite.empty }
     {
@@ -75,22 +76,34 @@ impl Grok {
         }
     }
 
-    /// A library of the ten definitions of [`patterns`]. The only error is want of memory.
+    /// Makes a library of the default definitions, which [`patterns`] returns.
+    ///
+    /// # Errors
+    ///
+    /// If an allocation fails.
     pub fn with_default_patterns(alloc: Global) -> Result<Grok, AllocError>
         ensures { IfOk result (λ grok. grok ≡ set_all finite.empty default_definitions) }
     {
         Grok::from_iter(alloc, patterns())
     }
 
-    /// A library of the ten definitions of [`patterns`], as [`Grok::with_default_patterns`] makes it.
+    /// Makes a library of the default definitions, as [`Grok::with_default_patterns`] does.
+    ///
+    /// # Errors
+    ///
+    /// If an allocation fails.
     pub fn default(alloc: Global) -> Result<Grok, AllocError>
         ensures { IfOk result (λ grok. grok ≡ set_all finite.empty default_definitions) }
     {
         Grok::with_default_patterns(alloc)
     }
 
-    /// A library of the pairs of a name and its definition, set one after another: a later pair of a
-    /// name replaces an earlier one. The only error is want of memory.
+    /// Makes a library of pairs of a name and its definition. If a name comes twice, its later pair
+    /// counts.
+    ///
+    /// # Errors
+    ///
+    /// If an allocation fails.
     pub fn from_iter(alloc: Global, pairs: &[(&str, &str)]) -> Result<Grok, AllocError>
         ensures { IfOk result (λ grok. grok ≡ set_all finite.empty (map pair_texts pairs.now)) }
     {
@@ -101,7 +114,11 @@ impl Grok {
         Ok(grok)
     }
 
-    /// A library of its own with the same definitions. The only error is want of memory.
+    /// Makes another library with the same definitions.
+    ///
+    /// # Errors
+    ///
+    /// If an allocation fails.
     pub fn clone(&self) -> Result<Grok, AllocError>
         ensures { IfOk result (λ grok. grok ≡ self.now) }
     {
@@ -112,13 +129,17 @@ impl Grok {
         })
     }
 
-    /// Sets the definition of a name, in place of an earlier one, and leaves every other name as it
-    /// was. The only error is want of memory, and then no definition has changed.
+    /// Sets the definition of a name. It replaces an earlier definition of that name, and leaves
+    /// all other names as they are.
     ///
-    /// A definition is a regular expression with placeholders of its own, as `%{name}`,
-    /// `%{name:alias}`, `%{name:alias:extract}` or `%{name=definition}`. It may name what is set later,
-    /// and is looked at only where a pattern reaches it. A name that a placeholder can spell has ASCII
-    /// letters, ASCII digits and `_`.
+    /// A definition is a regular expression with placeholders of its own: `%{name}`,
+    /// `%{name:alias}`, `%{name:alias:extract}` or `%{name=definition}`. It may use names that are
+    /// set later, and it is read only when a pattern reaches it. Placeholders can only spell names
+    /// of ASCII letters, ASCII digits and `_`.
+    ///
+    /// # Errors
+    ///
+    /// If an allocation fails. No definition has changed then.
     pub fn add_pattern(&mut self, name: &str, pattern: &str) -> Result<(), AllocError>
         ensures ok { OnOk result (self.new ≡ finite.insert self.old name.now pattern.now) }
         ensures err { OnErr result (self.new ≡ self.old) }
@@ -129,12 +150,12 @@ impl Grok {
         Ok(())
     }
 
-    /// Where the definitions are kept, and what is made from them.
+    /// Returns the allocator of the definitions.
     pub(crate) fn alloc(&self) -> Global {
         self.alloc
     }
 
-    /// The definition of a name with its pieces, if there is one.
+    /// Returns the definition of a name, cut into its pieces, if there is one.
     pub(crate) fn definition(&self, name: &str) -> Option<&Definition>
         ensures { option_copied result ≡ finite.get self.now name.now }
     {
@@ -142,7 +163,7 @@ impl Grok {
     }
 }
 
-/// The definitions by name, in the byte order of the names.
+/// Writes the definitions by name, in the byte order of the names.
 impl fmt::Debug for Grok {
     ghost use Rattle.std.specs.Prelude.{codes, Some};
     ghost use Rattle.std.specs.Fmt.{◌++?◌};

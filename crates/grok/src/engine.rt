@@ -1,4 +1,4 @@
-//! What is built from a text and matches lines.
+//! Regex engines: each is built from a text, and matches lines.
 ghost use Rattle.std.specs.Prelude.{◌≡◌, ℕ, List, Option, length, vec_len, option_map, IfOk, IfSome};
 ghost use Rattle.grok.specs.Captures.{name_texts, capture_texts, AreSlicesOf};
 
@@ -9,20 +9,19 @@ mod shared_search;
 
 use std::alloc::{AllocError, Global};
 
-/// Why an engine was not built.
+/// Why no engine was built.
 #[derive(Clone, Copy, PartialEq, Eq, Debug)]
 pub enum Refusal {
-    /// The engine does not take the text.
+    /// The engine refuses the text.
     Refused,
     /// An allocation failed.
     Memory,
 }
 
-/// What is built from a text and matches lines.
+/// A regex engine that was built from a text and matches lines.
 ///
-/// The meaning of a value is the text it was built from, the names of its groups, and for each
-/// line either no match or the text of each group. A group's number is its place in these lists,
-/// and group 0 is the whole match.
+/// Its model is the text that it was built from, the names of its groups, and for each line either
+/// no match or the text of each group. Group 0 is the whole match.
 pub trait Engine: Sized + Drop {
     /// The text that it was built from.
     ghost source_of: { Self → List ℕ };
@@ -30,26 +29,26 @@ pub trait Engine: Sized + Drop {
     /// The name of each group, from group 0 on.
     ghost group_names: { Self → List (Option (List ℕ)) };
 
-    /// For each line the text of each group, where it took part, or none where nothing matches.
+    /// For each line the text of each group that took part, or none if nothing matches.
     ghost answer_to: { Self → List ℕ → Option (List (Option (List ℕ))) };
 
     /// The texts that `build` may refuse.
     ghost may_refuse: { List ℕ → Type 0 };
 
-    /// The engine for a text, or why there is none.
+    /// Builds the engine for a text, or returns why it cannot be built.
     fn build(alloc: Global, text: &str) -> Result<Self, Refusal>
         ensures source { IfOk result (λ engine. source_of engine ≡ text.now) }
         ensures refused { result ≡ Err Refusal.Refused → may_refuse text.now };
 
-    /// The text that it was built from.
+    /// Returns the text that it was built from.
     fn text(&self) -> &str
         ensures { result.now ≡ source_of self.now };
 
-    /// The name of each group, from group 0 on.
+    /// Returns the name of each group, from group 0 on.
     fn names(&self) -> &[Option<String>]
         ensures { name_texts result.now ≡ group_names self.now };
 
-    /// The text of each group of the first match in the line, or none where nothing matches.
+    /// Returns the text of each group of the first match in the line, or `None` if nothing matches.
     /// Each text is a slice of the line, and a group that took no part has none.
     fn captures<'t>(
         &self,

@@ -1,4 +1,4 @@
-//! Why a pattern isn't compiled.
+//! Faults of a pattern, and the errors of compiling it.
 
 pub(crate) mod error;
 pub(crate) mod fault;

@@ -1,4 +1,4 @@
-//! The expansion of a pattern: its keys, its extracts and its text, or the first fault.
+//! Expands a pattern: its keys, its extracts and its text, or its first fault.
 
 pub(crate) mod events;
 pub(crate) mod first_fault;

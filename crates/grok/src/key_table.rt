@@ -1,4 +1,4 @@
-//! The table of keys: which group each key has.
+//! The table of keys, with the group of each.
 ghost use Rattle.std.specs.Prelude.{◌≡◌, ℕ, ◌<◌, ◌^◌, List, map, IfOk, OnOk, MatchOption};
 ghost use Rattle.std.specs.String.{string_bytes};
 ghost use Rattle.std.specs.BTreeMap.{get_by};
@@ -17,7 +17,7 @@ use std::cmp::Ordering;
 use std::collections::BTreeMap;
 use std::marker::Model;
 
-/// The number that a generated name was written for.
+/// Returns the number in a generated name.
 fn number_of(name: &str) -> Option<usize>
     ensures { MatchOption result ((number : ℕ) → number < 2 ^ 64 → name.now ≡ generated number → ⊥)
         (λ number. name.now ≡ generated number) }
@@ -25,7 +25,7 @@ fn number_of(name: &str) -> Option<usize>
     number_of_numeral(name.strip_prefix(NAME_START)?)
 }
 
-/// The key that a group's name means.
+/// Returns the key that a group's name means.
 fn meant<'a>(name: &'a str, keys: &'a [String]) -> &'a str
     ensures { result.now ≡ meant_key (map string_bytes keys.now) name.now }
 {
@@ -35,7 +35,7 @@ fn meant<'a>(name: &'a str, keys: &'a [String]) -> &'a str
     }
 }
 
-/// The group of each key that some name means, the last one where several names mean it.
+/// Returns the group of each key. If several names mean the same key, the last one counts.
 fn groups_by_key<'a>(
     alloc: Global,
     names: &'a [Option<String>],
@@ -54,7 +54,7 @@ fn groups_by_key<'a>(
     Ok(groups)
 }
 
-/// Where a key stands in the text, and its group.
+/// The byte range of a key in the joined text of all keys, and its group.
 #[derive(Clone, Copy)]
 struct Place {
     start: usize,
@@ -62,7 +62,7 @@ struct Place {
     group: usize,
 }
 
-/// The keys and their groups, in byte order of the keys.
+/// The keys and their groups, in the byte order of the keys.
 #[derive(Drop)]
 pub(crate) struct KeyTable {
     text: String,
@@ -84,7 +84,7 @@ impl Model for KeyTable {
 
 ghost use Rattle.grok.specs.KeyPlaces.{key_at, key_or_none, entry_of, IsExtended, IsPlace};
 
-/// The bytes of the key at a place, and none where the text has no such place.
+/// Returns the bytes of a key, or none if the text has no such range.
 fn bytes_at(text: &str, place: Place) -> &[u8]
     ensures { result.now ≡ key_or_none text.now place }
 {
@@ -94,14 +94,14 @@ fn bytes_at(text: &str, place: Place) -> &[u8]
     }
 }
 
-/// How the key at a place compares to a key.
+/// Compares the key of an entry with a key.
 fn compare_at(text: &str, place: Place, key: &str) -> Ordering
     ensures { result ≡ slice_cmp nat_cmp (key_or_none text.now place) key.now }
 {
     bytes_at(text, place).cmp(key.as_bytes())
 }
 
-/// Puts a key at the end of the text, and its place at the end of the places.
+/// Appends a key to the text, and its entry to the entries.
 fn extend(
     text: &mut String,
     places: &mut Vec<Place>,
@@ -122,7 +122,7 @@ fn extend(
 }
 
 impl KeyTable {
-    /// The table of the keys and groups of a map.
+    /// Makes the table of a map from keys to groups.
     fn new(alloc: Global, groups: &BTreeMap<&str, usize>) -> Result<KeyTable, AllocError>
         ensures entries { IfOk result (λ table. table ≡ map entry_of groups.now.entries) }
         ensures sorted { IfOk result
@@ -136,7 +136,7 @@ impl KeyTable {
         Ok(KeyTable { text, places })
     }
 
-    /// The table for the names of an engine's groups and the keys by number.
+    /// Makes the table for the names of an engine's groups and the numbered keys.
     pub(crate) fn for_names(
         alloc: Global,
         names: &[Option<String>],
@@ -148,7 +148,7 @@ impl KeyTable {
         KeyTable::new(alloc, &groups)
     }
 
-    /// The group of a key.
+    /// Returns the group of a key.
     pub(crate) fn get(&self, key: &str) -> Option<usize>
         ensures { result ≡ group_in self.now key.now }
     {
@@ -162,7 +162,7 @@ impl KeyTable {
         }
     }
 
-    /// The keys with their groups, in byte order of the keys, each once.
+    /// Returns the keys with their groups, in the byte order of the keys, each once.
     pub(crate) fn entries(&self) -> KeyEntries<'_>
         ensures all { result ≡ self.now }
         ensures sorted { IsStrictlySortedBy (slice_cmp nat_cmp) (keys_of result) }
@@ -174,7 +174,7 @@ impl KeyTable {
     }
 }
 
-/// The keys of a table that are left, with their groups.
+/// The keys of a table that are still to come, with their groups.
 #[derive(Drop)]
 pub(crate) struct KeyEntries<'a> {
     text: &'a str,
@@ -194,7 +194,7 @@ impl<'a> Model for KeyEntries<'a> {
     ghost invariant = { λ left. AllByRecursion (IsPlace left.text.now) left.places.now };
 }
 
-/// The key at a place of the text.
+/// Returns the key of an entry.
 fn key_of<'a>(text: &'a str, place: Place) -> &'a str
     requires { IsPlace text.now place }
     ensures { result.now ≡ key_at text.now place }

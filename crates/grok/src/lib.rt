@@ -1,18 +1,19 @@
-//! Grok patterns: regular expressions with placeholders, and the named parts of the lines that they
+//! Grok patterns: regular expressions with placeholders that name the parts of the lines they
 //! match.
 //!
-//! A placeholder is `%{name}`, `%{name:alias}` or `%{name:alias:extract}`, each also with
+//! A placeholder is `%{name}`, `%{name:alias}` or `%{name:alias:extract}`. Each may also have
 //! `=definition` before its `}`.
 //!
-//! - `name` (ASCII letters, ASCII digits and `_`) says which definition it stands for.
-//! - `alias` (also `-`, `.`, `[` and `]`) is the key of its value; without one the name is. It may be
-//!   empty before an extract: `%{name::extract}`.
+//! - `name` (ASCII letters, ASCII digits and `_`) is the name of the definition to put in its
+//!   place.
+//! - `alias` (also `-`, `.`, `[` and `]`) is the key of its value. Without an alias the name is the
+//!   key. It may be empty before an extract: `%{name::extract}`.
 //! - `extract` (the characters of an alias) is a text that is kept beside the key, such as `int`.
-//!   Nothing converts by it.
-//! - `definition` (no brace in it) is what it stands for, and what `%{name}` stands for behind it in
-//!   the same text.
+//!   Nothing is converted.
+//! - `definition` (a text without braces) defines the name right here, for the rest of the same
+//!   text.
 //!
-//! A `%` that another `%` precedes begins no placeholder, and `(%){` is a `%` and a brace.
+//! A `%` after another `%` begins no placeholder. Write `(%){` for a `%` and a brace.
 //!
 //! ```text
 //! let mut grok = Grok::default(alloc)?;
@@ -23,13 +24,13 @@
 //! }
 //! ```
 //!
-//! [`Grok::compile`] answers an [`Error`] for the first fault that is met in reading, or where the
-//! engine refuses the text; [`Grok::measure`] tells the size of that text before. Whatever takes
-//! memory answers a `Result`, and a refused call changes nothing.
+//! [`Grok::compile`] returns an [`Error`] for the first fault in reading order, or if the engine
+//! refuses the expanded text. [`Grok::measure`] returns the size of that text without expanding it.
+//! Every call that allocates returns a `Result`, and a call that fails changes nothing.
 //!
-//! For many lines make a [`Matcher`] once: it answers as [`PatternOf::match_against`] does, and keeps
-//! from line to line what the engine's search needs. [`MatcherOf::find`] lends the match until the next
-//! line, and takes no memory for it.
+//! To match many lines, make a [`Matcher`] once. It returns what [`PatternOf::match_against`]
+//! returns, and keeps the engine's caches from line to line. [`MatcherOf::find`] returns a match
+//! that is borrowed until the next line, and allocates nothing for it.
 #![tactic(auto)]
 
 mod compile;
@@ -62,5 +63,5 @@ pub type Pattern = PatternOf<RegexEngine>;
 /// A match of a pattern over `regex`.
 pub type Matches<'a> = MatchesOf<'a, RegexEngine>;
 
-/// A matcher of a pattern over `regex`, which is kept from line to line.
+/// A matcher of a pattern over `regex`, which keeps its caches from line to line.
 pub type Matcher<'p> = MatcherOf<'p, RegexEngine>;

@@ -1,4 +1,4 @@
-//! Patterns, and what they answer for a line.
+//! Compiled patterns, and their matches in lines.
 ghost use Rattle.std.specs.Prelude.{◌≡◌, ℕ, List, Option, length, map, option_map, IfOk, IfSome};
 ghost use Rattle.std.specs.Borrow.{Bor};
 ghost use Rattle.std.specs.BTreeMap.{get_by_text};
@@ -30,8 +30,8 @@ use std::collections::BTreeMap;
 use std::fmt;
 use std::marker::Model;
 
-/// A compiled pattern: what an engine built, the key of each group, and the extracts. It owns all
-/// that it holds, and serves any number of matches.
+/// A compiled pattern: the engine, the key of each group, and the extracts. It owns all that it
+/// holds, and can match any number of lines.
 #[derive(Drop)]
 pub struct PatternOf<E> {
     alloc: Global,
@@ -78,7 +78,7 @@ impl<'a, E> Model for MatchesOf<'a, E> {
 }
 
 impl<E: Engine> PatternOf<E> {
-    /// The pattern of these parts.
+    /// Makes a pattern of these parts.
     #[tactic(auto, using(crate::proofs::AnswerLemmas::extract_found))]
     pub(crate) fn new(
         alloc: Global,
@@ -99,15 +99,18 @@ impl<E: Engine> PatternOf<E> {
         }
     }
 
-    /// The text that the engine built.
+    /// Returns the expanded text, which the engine was built from.
     pub fn text(&self) -> &str
         ensures { result.now ≡ E.source_of self.now.engine }
     {
         self.engine.text()
     }
 
-    /// The first match in the line, or none where the engine finds none. Its error is that of the
-    /// engine, which wanted memory.
+    /// Returns the first match in the line, or `None` if the engine finds none.
+    ///
+    /// # Errors
+    ///
+    /// If an allocation of the engine fails.
     pub fn match_against<'a>(
         &'a self,
         text: &'a str,
@@ -127,8 +130,12 @@ impl<E: Engine> PatternOf<E> {
         }
     }
 
-    /// What answers many lines as `match_against` does, one after another, and keeps what the
-    /// engine's search needs. Its error is that of the engine, which wanted memory.
+    /// Makes a matcher for many lines. It returns the same as `match_against`, and keeps the
+    /// engine's caches from line to line.
+    ///
+    /// # Errors
+    ///
+    /// If an allocation of the engine fails.
     pub fn matcher<'p>(&'p self) -> Result<MatcherOf<'p, E>, AllocError>
     where
         E: HasMatcher<'p>,
@@ -137,7 +144,7 @@ impl<E: Engine> PatternOf<E> {
         MatcherOf::new(self.alloc, self, &self.engine)
     }
 
-    /// The keys in byte order, each once.
+    /// Returns the keys in byte order, each once.
     pub fn capture_names(&self) -> CaptureNames<'_>
         ensures keys { result ≡ keys_of self.now.keys }
         ensures sorted { IsStrictlySortedBy (slice_cmp nat_cmp) (result) }
@@ -147,7 +154,7 @@ impl<E: Engine> PatternOf<E> {
         }
     }
 
-    /// The extract of a key. Whether the key has a group doesn't matter.
+    /// Returns the extract of a key, whether or not a group has that key.
     #[tactic(auto, using(crate::proofs::AnswerLemmas::extract_found))]
     pub fn get_extract(&self, name: &str) -> Option<&str>
         ensures { option_map text_of result ≡ finite.get self.now.extracts name.now }
@@ -160,7 +167,7 @@ impl<E: Engine> PatternOf<E> {
 }
 
 impl<'a, E: Engine> MatchesOf<'a, E> {
-    /// A match of the pattern with the texts of its groups.
+    /// Makes a match of the pattern from the texts of its groups.
     pub(crate) fn new(pattern: &'a PatternOf<E>, captures: Vec<Option<&'a str>>) -> MatchesOf<'a, E>
         ensures pattern { result.pattern ≡ pattern.now }
         ensures captures { result.captures ≡ capture_texts captures.entry.items }
@@ -168,7 +175,8 @@ impl<'a, E: Engine> MatchesOf<'a, E> {
         MatchesOf { pattern, captures }
     }
 
-    /// The text of the key's group, and none where there is no such key or that group took no part.
+    /// Returns the text of the key's group. There is none if no such key exists or that group took
+    /// no part.
     pub fn get(&self, name: &str) -> Option<&str>
         ensures { option_map text_of result
             ≡ answer_of self.now.pattern.keys self.now.captures name.now }
@@ -178,7 +186,7 @@ impl<'a, E: Engine> MatchesOf<'a, E> {
         capture_of(&self.captures, group)
     }
 
-    /// The keys whose group took part, each with its text, in byte order of the keys.
+    /// Returns the keys whose group took part, each with its text, in the byte order of the keys.
     pub fn iter(&self) -> MatchesIter<'_>
         ensures pairs { result ≡ walk self.now.pattern.keys self.now.captures }
         ensures sorted { IsStrictlySortedBy (slice_cmp nat_cmp) (keys_of result) }
@@ -187,14 +195,14 @@ impl<'a, E: Engine> MatchesOf<'a, E> {
         MatchesIter::new(&pattern.keys, GroupTexts::Listed(self.captures.as_slice()))
     }
 
-    /// The pattern that matched.
+    /// Returns the pattern that matched.
     pub fn pattern(&self) -> &PatternOf<E>
         ensures { result.now ≡ self.now.pattern }
     {
         self.pattern
     }
 
-    /// The pairs of `iter`, in its order.
+    /// Returns the pairs of `iter` as a list, in its order.
     pub fn collect(&self, alloc: Global) -> Result<Vec<(&str, &str)>, AllocError>
         ensures { IfOk result
             (λ pairs. map pair_texts pairs.items ≡ walk self.now.pattern.keys self.now.captures) }
@@ -206,7 +214,7 @@ impl<'a, E: Engine> MatchesOf<'a, E> {
         Ok(pairs)
     }
 
-    /// The pairs of `iter`, as a map.
+    /// Returns the pairs of `iter` as a map.
     pub fn collect_map(&self, alloc: Global) -> Result<BTreeMap<&str, &str>, AllocError>
         ensures { IfOk result
             (λ texts. map pair_texts texts.entries ≡ walk self.now.pattern.keys self.now.captures) }
@@ -219,7 +227,7 @@ impl<'a, E: Engine> MatchesOf<'a, E> {
     }
 }
 
-/// The keys of a pattern that are left.
+/// The keys of a pattern that are still to come.
 #[derive(Drop)]
 pub struct CaptureNames<'a> {
     entries: KeyEntries<'a>,
@@ -250,7 +258,7 @@ impl<'a> Iterator for CaptureNames<'a> {
     }
 }
 
-/// The keys of a match that are left and whose group took part, with their texts.
+/// The pairs of a match that are still to come: the keys whose group took part, with their texts.
 #[derive(Drop)]
 pub struct MatchesIter<'a> {
     entries: KeyEntries<'a>,
@@ -271,7 +279,7 @@ impl<'a> Model for MatchesIter<'a> {
 impl<'a> MatchesIter<'a> {
     ghost use Rattle.grok.specs.Groups.{group_texts};
 
-    /// The pairs of these groups.
+    /// Returns the pairs of these groups.
     pub(crate) fn new(keys: &'a KeyTable, groups: GroupTexts<'a>) -> MatchesIter<'a>
         ensures pairs { result ≡ walk keys.now (group_texts groups.entry) }
         ensures sorted { IsStrictlySortedBy (slice_cmp nat_cmp) (keys_of result) }
@@ -302,7 +310,7 @@ impl<'a> Iterator for MatchesIter<'a> {
     }
 }
 
-/// Writes pairs between braces, in their order.
+/// Writes pairs in braces, in their order.
 pub(crate) fn write_pairs<W: fmt::Write>(
     f: &mut fmt::Formatter<W>,
     pairs: MatchesIter<'_>,
@@ -332,7 +340,7 @@ impl<'m, 'a, E: Engine> IntoIterator for &'m MatchesOf<'a, E> {
     }
 }
 
-/// The text and the extracts.
+/// Shows the text and the extracts.
 impl<E: Engine> fmt::Debug for PatternOf<E> {
     ghost use Rattle.std.specs.Prelude.{codes, Some};
     ghost use Rattle.std.specs.Fmt.{debug_str, ◌++?◌};
@@ -357,7 +365,7 @@ impl<E: Engine> fmt::Debug for PatternOf<E> {
     }
 }
 
-/// The pairs, in the order of `iter`.
+/// Shows the pairs, in the order of `iter`.
 impl<E: Engine> fmt::Debug for MatchesOf<'_, E> {
     ghost debug_output = { λ matches. debug_pairs (walk matches.pattern.keys matches.captures) };
 

@@ -1,4 +1,4 @@
-//! The size of what a pattern stands for, without expanding it.
+//! Measures the expanded text of a pattern, without expanding it.
 ghost use Rattle.std.specs.Prelude.{◌≡◌, ℕ, ◌+◌, ◌<◌, ◌≤◌, ◌^◌, max, false, [], ◌∷◌, Option, Result, OnOk, IfOk, IfErr, IfSome, MatchOption, map, length};
 ghost use Rattle.grok.specs.Tree.{Fault as ItemFault, PlaceholderItem, reached};
 ghost use Rattle.grok.specs.Keys.{has_numbered_alias};
@@ -17,43 +17,43 @@ use crate::generated_name::{NAMED_BYTES, UNNAMED_BYTES};
 use std::alloc::{AllocError, Global};
 use std::collections::BTreeMap;
 
-/// What measuring a pattern answers.
+/// The result of measuring a pattern.
 #[derive(Clone, Copy, PartialEq, Eq, Debug)]
 pub enum Measure<'a> {
-    /// The first structural fault in the order of reading.
+    /// The first structural fault in reading order.
     Fault(Fault<'a>),
-    /// The length of the text in bytes, how many groups it names by number, and how many
-    /// placeholders stand in one another at most.
+    /// The length of the expanded text in bytes, the number of its groups with a generated name,
+    /// and how many levels deep placeholders are nested at most.
     Size {
         length: usize,
         groups: usize,
         nesting: usize,
     },
-    /// No structural fault, and a text that is longer than the greatest `usize`.
+    /// There is no structural fault, but the text is longer than the greatest `usize`.
     TooLong,
 }
 
-/// How often measuring took a piece, and how often it met the end of a text. A counter stays at the
-/// greatest `u64`.
+/// How many pieces and how many ends of texts measuring has read. A counter stays at the greatest
+/// `u64`.
 #[derive(Clone, Copy, PartialEq, Eq, Debug)]
 pub struct Looks {
     pub pieces: u64,
     pub ends: u64,
 }
 
-/// What measuring finds out.
+/// All that measuring a pattern finds out.
 #[derive(Drop)]
 pub(crate) struct Findings<'a> {
     pub measure: Measure<'a>,
     pub looks: Looks,
     /// Whether an alias that ends in a number in brackets is reached.
     pub has_numbered_alias: bool,
-    /// What is known of the names that were met.
+    /// How far measuring each name has come.
     marks: BTreeMap<&'a str, Mark<'a>>,
 }
 
-/// The bytes without the numbers of groups, the groups, and how deep the opens go. A sum past the
-/// greatest `usize` is none.
+/// A size as far as it is known: the bytes without the numbers of the groups, the groups, and how
+/// many levels are nested. A number that passes the greatest `usize` is `None`.
 #[derive(Clone, Copy)]
 struct Sum {
     bytes: Option<usize>,
@@ -61,27 +61,27 @@ struct Sum {
     height: usize,
 }
 
-/// A fault, and how deep the opens go up to it.
+/// A fault, and how many levels were nested up to it.
 #[derive(Clone, Copy)]
 struct Failure<'a> {
     fault: Fault<'a>,
     height: usize,
 }
 
-/// What is known of a name that was met.
+/// How far measuring a definition has come.
 #[derive(Clone, Copy)]
 enum Mark<'a> {
-    /// Its text is being read.
+    /// It is being measured. If it is used again, that is a circle.
     Begun,
-    /// Its text has this sum.
+    /// It has this size.
     Done(Sum),
-    /// Its text has this fault.
+    /// It has this fault.
     Failed(Failure<'a>),
-    /// Its text is too deep where so many levels may be opened, or fewer.
+    /// It needs more than so many levels.
     Deep(usize),
 }
 
-/// What was met.
+/// What measuring remembers: how far it has come with each definition, so that none is read twice.
 #[derive(Drop)]
 struct Met<'a> {
     marks: BTreeMap<&'a str, Mark<'a>>,
@@ -89,28 +89,28 @@ struct Met<'a> {
     has_numbered_alias: bool,
 }
 
-/// A text that opened another one, which is read first.
+/// A text that waits until a definition that it uses is measured.
 #[derive(Drop)]
 struct Frame<'a> {
-    /// Whose text was opened, and whether the placeholder gets a key.
+    /// The name of that definition, and whether its placeholder captures.
     name: &'a str,
     is_recorded: bool,
-    /// The items behind it.
+    /// The items after the placeholder.
     items: Items<'a>,
-    /// The sum of the items before it.
+    /// The size of the items before it.
     sum: Sum,
 }
 
-/// What a placeholder comes to.
+/// What is known of one placeholder.
 #[derive(Drop)]
 enum Entry<'a> {
-    /// Its sum, or its fault.
+    /// Its size, or its fault.
     Measured(Result<Sum, Failure<'a>>),
-    /// It opens this text, which has to be read first.
+    /// It opens this text, which has to be measured first.
     Unread(&'a Definition),
 }
 
-/// The definitions, and whether placeholders without an alias are left unrecorded.
+/// The definitions, and whether only placeholders with an alias capture.
 #[derive(Clone, Copy)]
 struct Mode<'a> {
     grok: &'a Grok,
@@ -118,7 +118,7 @@ struct Mode<'a> {
     with_alias_only: bool,
 }
 
-/// The sum, if both and it fit.
+/// Adds two numbers, if both are known and the sum fits.
 fn add_fit(a: Option<usize>, b: Option<usize>) -> Option<usize>
     ensures { (x y : ℕ) → a ≡ fit x → b ≡ fit y → result ≡ fit (x + y) }
 {
@@ -128,7 +128,7 @@ fn add_fit(a: Option<usize>, b: Option<usize>) -> Option<usize>
     }
 }
 
-/// One after the other.
+/// Returns the size of one text after another.
 fn add(a: Sum, b: Sum) -> Sum
     ensures adds { (x y : Size) → a ≡ shown x → b ≡ shown y → result ≡ shown (plus x y) }
     ensures height { result.height ≡ max a.height b.height }
@@ -140,7 +140,7 @@ fn add(a: Sum, b: Sum) -> Sum
     }
 }
 
-/// Bytes that stand for themselves.
+/// Returns the size of regular text.
 fn sum_of_bytes(text: &str) -> Sum
     ensures shown { result ≡ shown (size_of_bytes text.now) }
     ensures height { result.height ≡ 0 }
@@ -152,7 +152,7 @@ fn sum_of_bytes(text: &str) -> Sum
     }
 }
 
-/// The brackets of an open around what is inside.
+/// Adds the brackets of a placeholder to the size of what is inside.
 fn bracketed(is_recorded: bool, inner: Sum) -> Sum
     requires { inner.height < 2 ^ 32 }
     ensures height { result.height ≡ inner.height + 1 }
@@ -172,7 +172,7 @@ fn bracketed(is_recorded: bool, inner: Sum) -> Sum
     }
 }
 
-/// The decimal places of all numbers below the count.
+/// Returns the number of decimal digits of 0, 1, .., count - 1 together.
 fn places_below(count: usize) -> Option<usize>
     ensures { result ≡ fit (places_from 0 count) }
 {
@@ -186,7 +186,7 @@ fn places_below(count: usize) -> Option<usize>
     places
 }
 
-/// The length of a text of this sum, with the numbers of its groups.
+/// Returns the length of a text of this size, with the numbers of its groups.
 #[tactic(auto, using(crate::proofs::Fits::fits))]
 fn length_of_sum(sum: Sum) -> Option<usize>
     ensures { (z : Size) → sum ≡ shown z → result ≡ fit (length_of z) }
@@ -197,7 +197,7 @@ fn length_of_sum(sum: Sum) -> Option<usize>
     }
 }
 
-/// The answer for a pattern of this sum.
+/// Returns the result for a pattern of this size.
 #[tactic(auto, using(crate::proofs::Fits::fits))]
 fn measure_of_sum<'a>(sum: Sum) -> Measure<'a>
     ensures { (z : Size) → sum ≡ shown z →
@@ -213,7 +213,7 @@ fn measure_of_sum<'a>(sum: Sum) -> Measure<'a>
     }
 }
 
-/// The answer for a pattern of this sum, or with this fault.
+/// Returns the result for a pattern of this size, or with this fault.
 fn measure_of<'a>(answer: Result<Sum, Failure<'a>>) -> Measure<'a>
     ensures { (r : Result Size ItemFault) → result_view answer.entry ≡ shown_result r →
         measure_view result ≡ measured_size r }
@@ -224,7 +224,7 @@ fn measure_of<'a>(answer: Result<Sum, Failure<'a>>) -> Measure<'a>
     }
 }
 
-/// Takes the next item of a text and counts it, or counts the end.
+/// Takes the next item of a text and counts it, or counts the end of the text.
 fn look<'a>(items: &mut Items<'a>, looks: &mut Looks) -> Result<Option<Item<'a>>, AllocError>
     ensures { IfOk result (λ found. MatchOption found
         ((items.old ≡ [])
@@ -244,7 +244,7 @@ fn look<'a>(items: &mut Items<'a>, looks: &mut Looks) -> Result<Option<Item<'a>>
     Ok(found)
 }
 
-/// The sum of a definition that is written in the text: no placeholder stands in it.
+/// Returns the size of an inline definition. It has no placeholders.
 fn measure_inline<'a>(text: &'a str, levels: usize) -> Result<Sum, Failure<'a>>
     ensures gives { result_view result ≡ shown_result (inlined levels text.now) }
     ensures low { IfOk result (λ sum. sum.height < levels) }
@@ -256,7 +256,7 @@ fn measure_inline<'a>(text: &'a str, levels: usize) -> Result<Sum, Failure<'a>>
     Ok(sum_of_bytes(text))
 }
 
-/// No level is left.
+/// Returns the fault of a placeholder for which no level is left.
 fn too_deep<'a>() -> Failure<'a>
     ensures fault { result.fault ≡ Fault.TooDeep }
     ensures reach { result.height ≡ 0 }
@@ -267,7 +267,8 @@ fn too_deep<'a>() -> Failure<'a>
     }
 }
 
-/// What is known of a text that was read where so many levels may be opened, and has this fault.
+/// Returns what to remember of a definition that was measured with so many levels left and has this
+/// fault.
 fn mark_of_failure<'a>(failure: Failure<'a>, levels: usize) -> Mark<'a>
     ensures { mark_view result ≡ failed_mark
         (fault_view failure.entry.fault) levels failure.entry.height }
@@ -278,7 +279,7 @@ fn mark_of_failure<'a>(failure: Failure<'a>, levels: usize) -> Mark<'a>
     }
 }
 
-/// The sum of an opened text with the brackets of its open.
+/// Returns the size of a placeholder from that of the text that it opens.
 fn wrap<'a>(
     mode: Mode<'a>,
     label: Label<'a>,
@@ -304,7 +305,7 @@ fn wrap<'a>(
 }
 
 impl<'a> Met<'a> {
-    /// Nothing was met yet.
+    /// Makes a memory without any name.
     #[tactic(auto, using(crate::proofs::Answered::shows_nothing))]
     fn new(alloc: Global) -> Met<'a>
         ensures { Shows result nothing_met }
@@ -316,8 +317,8 @@ impl<'a> Met<'a> {
         }
     }
 
-    /// What is known of a name where so many levels may be opened; nothing where its text has to be
-    /// read.
+    /// Returns the size or fault of a name if so many levels are left, or `None` if its text has to
+    /// be measured first.
     fn known(&self, name: &'a str, levels: usize) -> Option<Result<Sum, Failure<'a>>>
         ensures known { MatchOption result ((is_kept (mark_of self.now.marks name.now) ≡ false)
             × IsUnknown name.now levels self.now)
@@ -336,7 +337,7 @@ impl<'a> Met<'a> {
         }
     }
 
-    /// Marks a name.
+    /// Sets how far measuring a name has come.
     fn mark(&mut self, name: &'a str, mark: Mark<'a>) -> Result<(), AllocError>
         ensures shows { OnOk result ((st : State) (known : Known Size) →
             mark_view mark.entry ≡ shown_mark known → Shows self.old st
@@ -347,7 +348,7 @@ impl<'a> Met<'a> {
         Ok(())
     }
 
-    /// Keeps in mind whether the alias ends in a number in brackets.
+    /// Remembers whether the alias ends in a number in brackets.
     fn label(&mut self, label: Label<'a>)
         ensures shows { (st : State) → Shows self.old st
             → Shows self.new (labelled (label_view label.entry) st) }
@@ -357,7 +358,7 @@ impl<'a> Met<'a> {
     }
 }
 
-/// What opening the text of a name comes to, where so many levels may be opened, itself among them.
+/// Returns what is known of the placeholder of a name, if so many levels are left with its own.
 fn enter_stored<'a>(
     mode: Mode<'a>,
     met: &mut Met<'a>,
@@ -388,7 +389,7 @@ fn enter_stored<'a>(
     Ok(Entry::Unread(stored))
 }
 
-/// What a placeholder comes to that was taken, where so many levels may be opened.
+/// Returns what is known of a placeholder that was read, if so many levels are left.
 fn enter<'a>(
     mode: Mode<'a>,
     met: &mut Met<'a>,
@@ -421,9 +422,9 @@ fn enter<'a>(
     }
 }
 
-/// The sum of a text, or its first fault, where so many levels may be opened in it. A text that is
-/// opened is read first, while a frame keeps what is left of the one around it. Where there is a
-/// fault, the frames that wait are left.
+/// Measures a text with so many levels left: returns its size, or its first fault. A text that it
+/// opens is measured first, while a frame keeps the rest of the one around it. On a fault the open
+/// frames stay, so that the caller can remember the fault for their names.
 fn measure_text<'a>(
     mode: Mode<'a>,
     met: &mut Met<'a>,
@@ -479,7 +480,7 @@ fn measure_text<'a>(
     }
 }
 
-/// A fault that stands behind what has this sum.
+/// Returns a fault that comes after text of this size.
 fn behind<'a>(sum: Sum, failure: Failure<'a>) -> Failure<'a>
     ensures fault { result.fault ≡ failure.entry.fault }
     ensures reach { result.height ≡ max sum.height failure.entry.height }
@@ -490,7 +491,7 @@ fn behind<'a>(sum: Sum, failure: Failure<'a>) -> Failure<'a>
     }
 }
 
-/// Takes all frames away, and remembers the fault for each of the names that they wait for.
+/// Removes all frames, and remembers the fault for each of the names that they wait for.
 fn remember<'a>(
     met: &mut Met<'a>,
     frames: &mut Vec<Frame<'a>>,
@@ -515,7 +516,7 @@ fn remember<'a>(
     Ok(())
 }
 
-/// The measure of a pattern, where some texts were measured before.
+/// Measures a pattern, where some definitions were measured before.
 fn measure_next<'a>(
     mode: Mode<'a>,
     met: &mut Met<'a>,
@@ -544,8 +545,9 @@ fn measure_next<'a>(
 }
 
 impl<'a> Findings<'a> {
-    /// The names whose texts were read to their ends, each with how deep the opens in its text go:
-    /// a name stands behind those that its text opens. Those whose texts were read in part come last.
+    /// Returns the names whose texts were read to their ends, each with how many levels its text
+    /// needs. A name comes after the names that its text uses. Names whose texts were read in part
+    /// come last.
     pub(crate) fn read_names(&self, alloc: Global) -> Result<Vec<(usize, &'a str)>, AllocError> {
         let mut names = Vec::new(alloc);
         for (name, mark) in &self.marks {
@@ -560,8 +562,8 @@ impl<'a> Findings<'a> {
 }
 
 impl Grok {
-    /// Measures a pattern, and finds out how much was read for it and whether an alias that ends in a
-    /// number in brackets is reached.
+    /// Measures a pattern, and reports how much was read for it and whether it reaches an alias
+    /// that ends in a number in brackets.
     pub(crate) fn measure_fully<'a>(
         &'a self,
         pattern: &'a str,
@@ -603,9 +605,13 @@ impl Grok {
         })
     }
 
-    /// Measures a pattern: its first structural fault in the order of reading, or else the size of
-    /// the text that it stands for, without expanding it. Each stored text that is reached is read
-    /// once. An error is want of memory.
+    /// Measures a pattern without expanding it: returns its first structural fault in reading
+    /// order, or else the size of its expanded text. Each stored definition that it reaches is read
+    /// once.
+    ///
+    /// # Errors
+    ///
+    /// If an allocation fails.
     pub fn measure<'a>(
         &'a self,
         pattern: &'a str,
@@ -617,9 +623,13 @@ impl Grok {
         Ok(self.measure_fully(pattern, with_alias_only)?.measure)
     }
 
-    /// Measures one pattern after another, each as [`Grok::measure`] does, and in the order in which
-    /// they are given. A stored text is read once for all of them, or again where it was too deep and
-    /// more levels are left. An error is want of memory.
+    /// Measures several patterns in the order in which they are given, each as [`Grok::measure`]
+    /// does. A stored definition is read once for all of them, and again only if it was nested too
+    /// deeply before and more levels are left now.
+    ///
+    /// # Errors
+    ///
+    /// If an allocation fails.
     pub fn measure_all<'a>(
         &'a self,
         patterns: &[&'a str],
@@ -645,11 +655,17 @@ impl Grok {
         Ok(measures)
     }
 
-    /// The same answer, and how often a piece was taken and the end of a text was met for it: at
-    /// most, and for a pattern without a fault exactly, once for each piece of the pattern and of
-    /// each stored text that is reached, and once for each of these texts. Where there is a fault
-    /// these are the pieces up to and with the one that has it, and the ends that come before it.
-    /// An error is want of memory.
+    /// Measures a pattern as [`Grok::measure`] does, and returns how many pieces and how many ends
+    /// of texts it read.
+    ///
+    /// Each piece of the pattern and of each stored definition that it reaches is read at most
+    /// once, and so is the end of each of these texts. For a pattern without a fault it is exactly
+    /// once. If there is a fault, the pieces are those up to the one with the fault, and the ends
+    /// are those before it.
+    ///
+    /// # Errors
+    ///
+    /// If an allocation fails.
     pub fn measure_counted<'a>(
         &'a self,
         pattern: &'a str,

@@ -1,10 +1,10 @@
-//! Numbers in decimal, read back.
+//! Reads decimal numbers back.
 ghost use Rattle.std.specs.Prelude.{◌≡◌, ℕ, ◌<◌, ◌^◌, MatchOption};
 ghost use Rattle.grok.specs.Numeral.{numeral};
 
 use itoa::Buffer;
 
-/// The number whose numeral the text is, if it fits.
+/// Returns the number that the text is the decimal numeral of, if it fits.
 pub(crate) fn number_of_numeral(text: &str) -> Option<usize>
     ensures { MatchOption result ((number : ℕ) → number < 2 ^ 64 → text.now ≡ numeral number → ⊥)
         (λ number. text.now ≡ numeral number) }

@@ -7,7 +7,7 @@ use std::alloc::{AllocError, Global};
 use std::fmt;
 use std::marker::Model;
 
-/// A text that was split once, with its pieces as ranges of it.
+/// A text that was split once. Its pieces are kept as ranges of it.
 #[derive(Drop)]
 pub(crate) struct Definition {
     text: String,
@@ -28,7 +28,7 @@ impl Model for Definition {
 }
 
 impl Definition {
-    /// Keeps the text and its pieces.
+    /// Splits the text, and keeps it with its pieces.
     pub fn new(alloc: Global, text: &str) -> Result<Definition, AllocError>
         ensures { IfOk result (λ definition. definition ≡ text.now) }
     {
@@ -38,14 +38,14 @@ impl Definition {
         })
     }
 
-    /// The text.
+    /// Returns the text.
     pub fn text(&self) -> &str
         ensures { result.now ≡ self.now }
     {
         self.text.as_str()
     }
 
-    /// The pieces of the text, as ranges of it.
+    /// Returns the pieces of the text, as ranges of it.
     pub fn spans(&self) -> &[Span]
         ensures { AreSpansOf self.now result.now }
     {

@@ -1,4 +1,4 @@
-//! The pieces of a text with what they stand for.
+//! The pieces of a text, with their placeholders resolved to definitions.
 
 ghost use Rattle.std.specs.Prelude.{◌≡◌, drop, [], ◌∷◌, Option, Some, option_map, IfOk, OnOk, MatchOption, List, ℕ, not, ◌&&◌, ◌++◌, IsTrue, IsFalse, if◌then◌else◌};
 ghost use Rattle.std.specs.Str.{bytes_eq};
@@ -19,7 +19,7 @@ use std::collections::BTreeMap;
 use std::marker::Model;
 use std::mem;
 
-/// What a placeholder opens under.
+/// The name, alias and extract of a placeholder.
 #[derive(Clone, Copy)]
 pub(crate) struct Label<'a> {
     pub name: &'a str,
@@ -28,7 +28,8 @@ pub(crate) struct Label<'a> {
 }
 
 impl Label<'_> {
-    /// Whether the placeholder gets a key: in alias-only mode one without an alias gets none.
+    /// Returns whether the placeholder captures. In alias-only mode it captures only if it has an
+    /// alias.
     pub fn is_recorded(self, with_alias_only: bool) -> bool
         ensures { result ≡ is_recorded with_alias_only (label_view self.entry) }
     {
@@ -39,13 +40,13 @@ impl Label<'_> {
 /// What a placeholder stands for.
 #[derive(Clone, Copy)]
 pub(crate) enum Meaning<'a> {
-    /// A definition that is written in the same text.
+    /// An inline definition of the same text.
     Inline(&'a str),
     /// The stored definition of its name.
     Stored(&'a Definition),
 }
 
-/// A piece with what it stands for.
+/// A piece whose placeholder is resolved to its definition.
 #[derive(Clone, Copy)]
 pub(crate) enum Item<'a> {
     Text(&'a str),
@@ -53,7 +54,8 @@ pub(crate) enum Item<'a> {
     Placeholder(Label<'a>, Meaning<'a>),
 }
 
-/// The items of a text that are left, and the definitions that were written in it so far.
+/// The items of a text that are still to come, and the inline definitions that were read in it so
+/// far.
 #[derive(Drop)]
 pub(crate) struct Items<'a> {
     grok: &'a Grok,
@@ -73,7 +75,8 @@ impl<'a> Model for Items<'a> {
     ghost view = { λ s. items_after (finite.get s.grok.now) (written_in s.written) s.source };
 }
 
-/// What the label opens: the definition that was written for its name, or else the stored one.
+/// Returns what a placeholder stands for: the inline definition of its name if there is one, or
+/// else the stored one.
 fn open_label<'a>(grok: &'a Grok, label: Label<'a>, written: Option<&'a str>) -> Item<'a>
     ensures { item_view result ≡ resolved (label_view label.entry)
         (option_map (λ (t : Bor (List ℕ)). t.now) written.entry)
@@ -88,7 +91,7 @@ fn open_label<'a>(grok: &'a Grok, label: Label<'a>, written: Option<&'a str>) ->
     }
 }
 
-/// Writes a definition, if it isn't empty, for the name.
+/// Keeps the inline definition of a name, unless it is empty.
 fn write_definition<'a>(
     written: &mut BTreeMap<&'a str, &'a str>,
     name: &'a str,
@@ -115,22 +118,25 @@ impl<'a> Items<'a> {
         }
     }
 
-    /// The items of a text, which is split as they are taken.
+    /// Returns the items of a text, which is split as they are taken.
     pub fn of_text(alloc: Global, grok: &'a Grok, text: &'a str) -> Items<'a>
         ensures { result ≡ items_of (finite.get grok.now) text.now }
     {
         Items::new(alloc, grok, pieces_of(text))
     }
 
-    /// The items of a stored definition, which was split before.
+    /// Returns the items of a stored definition, which was split before.
     pub fn of_stored(alloc: Global, grok: &'a Grok, stored: &'a Definition) -> Items<'a>
         ensures { result ≡ items_of (finite.get grok.now) stored.now }
     {
         Items::new(alloc, grok, pieces_kept(stored))
     }
 
-    /// Passes over so many items, or over all where there are fewer. An error is as that of
-    /// [`Items::next`].
+    /// Skips so many items, or all if there are fewer.
+    ///
+    /// # Errors
+    ///
+    /// As for [`Items::next`].
     pub fn pass_over(&mut self, count: usize) -> Result<(), AllocError>
         ensures { OnOk result (self.new ≡ drop count self.old) }
     {
@@ -140,7 +146,11 @@ impl<'a> Items<'a> {
         Ok(())
     }
 
-    /// The next item, if there is one. An error is want of memory for a definition that the text writes.
+    /// Returns the next item, if there is one.
+    ///
+    /// # Errors
+    ///
+    /// If an allocation for an inline definition fails.
     pub fn next(&mut self) -> Result<Option<Item<'a>>, AllocError>
         ensures { IfOk result
             (λ found. MatchOption found ((self.old ≡ []) × (self.new ≡ []))
@@ -174,7 +184,7 @@ impl<'a> Items<'a> {
     }
 }
 
-/// Goes into a text: its items are read next, and those of the text around it after them.
+/// Enters a text: its items come next, and after them those of the text around it.
 pub(crate) fn descend<'a>(
     around: &mut Vec<Items<'a>>,
     items: &mut Items<'a>,
@@ -187,7 +197,7 @@ pub(crate) fn descend<'a>(
     Ok(())
 }
 
-/// Goes back to the text around, if there is one.
+/// Returns to the text around, if there is one.
 pub(crate) fn ascend<'a>(around: &mut Vec<Items<'a>>, items: &mut Items<'a>) -> bool
     ensures inside { IsTrue result → around.old.items ≡ around.new.items ++ items.new ∷ [] }
     ensures outside { IsFalse result → (around.old.items ≡ []) × (around.new.items ≡ [])

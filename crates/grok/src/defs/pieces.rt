@@ -1,4 +1,4 @@
-//! The pieces of a text, from a split or from spans.
+//! The pieces of a text, split now or before.
 ghost use Rattle.std.specs.Prelude.{◌≡◌};
 ghost use Rattle.grok.specs.Pieces.{pieces};
 ghost use Rattle.grok.specs.Views.{piece_view};
@@ -8,14 +8,14 @@ use crate::defs::spans::{Span, read_span};
 use crate::parser::{GrokComponent, GrokSplit, grok_split};
 use std::marker::Model;
 
-/// Where pieces come from.
+/// Where the pieces come from.
 #[derive(Drop)]
 enum Source<'a> {
     Split(GrokSplit<'a>),
     Kept { text: &'a str, spans: &'a [Span] },
 }
 
-/// The pieces of a text that are left.
+/// The pieces of a text that are still to come.
 #[derive(Drop)]
 pub(crate) struct Pieces<'a> {
     source: Source<'a>,
@@ -35,7 +35,7 @@ impl<'a> Model for Pieces<'a> {
     ghost invariant = { λ p. IsSource p.source };
 }
 
-/// The pieces of a text, which is split as they are taken.
+/// Returns the pieces of a text, which is split as they are taken.
 pub(crate) fn pieces_of<'a>(text: &'a str) -> Pieces<'a>
     ensures { result ≡ pieces text.now }
 {
@@ -44,7 +44,7 @@ pub(crate) fn pieces_of<'a>(text: &'a str) -> Pieces<'a>
     }
 }
 
-/// The pieces of a text that was split before.
+/// Returns the pieces of a text that was split before.
 pub(crate) fn pieces_kept<'a>(stored: &'a Definition) -> Pieces<'a>
     ensures { result ≡ pieces stored.now }
 {

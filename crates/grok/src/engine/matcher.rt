@@ -7,16 +7,16 @@ use crate::engine::Engine;
 use crate::engine::regex_engine::{RegexEngine, group_texts, write_locations};
 use std::alloc::{AllocError, Global};
 
-/// A search that is kept from line to line. What it finds in a line doesn't depend on the lines
-/// before.
+/// A search that keeps its caches from line to line. What it finds in a line doesn't depend on the
+/// lines before.
 pub trait EngineMatcher: Sized + Drop {
-    /// For each line the text of each group, where it took part, or none where nothing matches.
+    /// For each line the text of each group that took part, or none if nothing matches.
     ghost finds: { Self → List ℕ → Option (List (Option (List ℕ))) };
 
-    /// How many groups it has, group 0 included.
+    /// The number of groups, with group 0.
     ghost group_count: { Self → ℕ };
 
-    /// The text of each group of the first match in the line, or none where nothing matches.
+    /// Returns the text of each group of the first match in the line, or `None` if nothing matches.
     fn captures<'t>(
         &mut self,
         alloc: Global,
@@ -32,9 +32,9 @@ pub trait EngineMatcher: Sized + Drop {
         ensures same { finds self.new ≡ finds self.old }
         ensures count { group_count self.new ≡ group_count self.old };
 
-    /// Looks for the first match in the line, and answers whether there is one. Then the list has,
-    /// from group 0 on, the start and the end in bytes of each group that took part. Without a
-    /// match, and after an error, what the list has is not said.
+    /// Searches the first match in the line, and returns whether there is one. If so, the list has
+    /// the start and the end of each group that took part, in bytes, from group 0 on. If not, and
+    /// after an error, its contents are unspecified.
     fn captures_read(
         &mut self,
         locations: &mut Vec<Option<(usize, usize)>>,
@@ -51,12 +51,12 @@ pub trait EngineMatcher: Sized + Drop {
         ensures count { group_count self.new ≡ group_count self.old };
 }
 
-/// An engine whose searches can be kept. The search of one that has nothing to keep asks it for
-/// each line.
+/// An engine whose searches can keep their caches. If an engine has nothing to keep, its search
+/// calls the engine for each line.
 pub trait HasMatcher<'e>: Engine {
     type Matcher: EngineMatcher;
 
-    /// A search that finds in each line what the engine answers.
+    /// Makes a search that finds in each line what the engine finds.
     fn matcher(&'e self, alloc: Global) -> Result<Self::Matcher, AllocError>
         ensures answers { IfOk result
             (λ matcher. Self.Matcher.finds matcher ≡ Self.answer_to self.now) }
@@ -64,7 +64,7 @@ pub trait HasMatcher<'e>: Engine {
             (λ matcher. Self.Matcher.group_count matcher ≡ length (Self.group_names self.now)) };
 }
 
-/// A search of `regex`, whose tables are kept.
+/// A search of `regex`, which keeps its caches.
 #[derive(Drop)]
 pub struct RegexMatcher<'e> {
     matcher: regex::Matcher<'e>,

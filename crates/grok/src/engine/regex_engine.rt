@@ -76,7 +76,7 @@ impl Engine for RegexEngine {
     }
 }
 
-/// The texts that a search finds which is made for this line alone.
+/// Searches one line with a new matcher.
 fn captures_afresh<'t>(
     alloc: Global,
     regex: &Regex,
@@ -97,7 +97,7 @@ fn captures_afresh<'t>(
     }
 }
 
-/// The text of each group, from group 0 on, in one new list.
+/// Returns the text of each group in a new list, from group 0 on.
 pub(crate) fn group_texts<'t>(
     alloc: Global,
     found: &Captures<'_, 't>,
@@ -116,7 +116,7 @@ pub(crate) fn group_texts<'t>(
     Ok(captures)
 }
 
-/// The text of one group, if it took part.
+/// Returns the text of one group, if it took part.
 fn group_text<'t>(found: &Captures<'_, 't>, number: usize) -> Option<&'t str>
     ensures text { option_map text_of result ≡ text_at (captures_haystack found.now)
         (captures_span found.now) number }
@@ -126,7 +126,8 @@ fn group_text<'t>(found: &Captures<'_, 't>, number: usize) -> Option<&'t str>
     Some(group.as_str())
 }
 
-/// Writes where each group stands, from group 0 on, in the place of what the list has.
+/// Writes the byte range of each group into the list, from group 0 on. The old contents are
+/// dropped.
 pub(crate) fn write_locations(
     locations: &mut Vec<Option<(usize, usize)>>,
     found: &Captures<'_, '_>,
@@ -145,7 +146,7 @@ pub(crate) fn write_locations(
     Ok(())
 }
 
-/// Where one group stands, if it took part.
+/// Returns the byte range of one group, if it took part.
 fn group_location(found: &Captures<'_, '_>, number: usize) -> Option<(usize, usize)>
     ensures span { result ≡ captures_span found.now number }
     ensures inside { ForSome result (IsLocationIn (captures_haystack found.now)) }

@@ -1,4 +1,4 @@
-//! Why a pattern isn't compiled.
+//! The errors of compiling a pattern.
 ghost use Rattle.std.specs.Prelude.{◌≡◌, IfOk, Some};
 ghost use Rattle.grok.specs.Errors.{error_value, error_text};
 ghost use Rattle.grok.specs.declared.errors.error.Error.TheVariants.{Memory};
@@ -9,25 +9,29 @@ use crate::errors::fault::Fault;
 use std::alloc::{AllocError, AllocFailed, Global};
 use std::{error, fmt};
 
-/// Why a pattern isn't compiled.
+/// Why a pattern was not compiled.
 #[derive(Debug, Drop, PartialEq, Eq)]
 pub enum Error {
-    /// More than 1,023 placeholders stand in one another.
+    /// More than 1,023 placeholders are nested in one another, as where a definition uses itself.
     RecursionTooDeep,
-    /// The pattern, which is empty, stands for an empty regular expression.
+    /// The pattern is the empty text.
     CompiledPatternIsEmpty(String),
-    /// The name has no definition.
+    /// No definition has this name.
     DefinitionNotFound(String),
-    /// The engine refused the expanded text. The words say so, and hold that text.
+    /// The engine refused the expanded text. The message contains that text.
     RegexCompilationFailed(String),
-    /// A placeholder is malformed, or two placeholders have one key. The words say which.
+    /// A placeholder is malformed, or two placeholders got the same key. The message says which.
     GenericCompilationFailure(String),
-    /// There was not enough memory.
+    /// An allocation failed, or the expanded text is too long for any memory.
     Memory,
 }
 
 impl Error {
-    /// An equal error. It fails where there is no memory for the copy of its words.
+    /// Returns an equal error.
+    ///
+    /// # Errors
+    ///
+    /// If the allocation for the copy of its text fails.
     pub fn clone(&self) -> Result<Error, AllocError>
         ensures { IfOk result (λ copy. error_value copy ≡ error_value self.now) }
     {
@@ -95,7 +99,11 @@ impl<T: Drop> From<AllocFailed<T>> for Error {
 }
 
 impl Fault<'_> {
-    /// The error that compiling answers for the fault. It fails where there is no memory for the error's text.
+    /// Returns the error that compiling a pattern with this fault returns.
+    ///
+    /// # Errors
+    ///
+    /// If the allocation for the text of that error fails.
     pub fn to_error(&self, alloc: Global) -> Result<Error, AllocError>
         ensures { IfOk result (λ error. IsFaultError (fault_view self.now) (error_value error)) }
     {

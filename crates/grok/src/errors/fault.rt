@@ -1,17 +1,17 @@
-//! What is wrong with a pattern before any engine sees it.
+//! Faults of a pattern that are found before any engine reads it.
 
 use crate::parser::GrokPatternError;
 
-/// How many placeholders may be opened in one another.
+/// How many placeholders may be nested in one another.
 pub(crate) const LEVELS: usize = 1023;
 
-/// A structural fault of an expansion: the first one in the order of reading is what `Grok::measure` answers.
+/// A structural fault of a pattern. `Grok::measure` returns the first one in reading order.
 #[derive(Clone, Copy, PartialEq, Eq, Debug)]
 pub enum Fault<'a> {
     /// A placeholder is malformed.
     Malformed(GrokPatternError),
-    /// A placeholder's name, given here, has no definition.
+    /// No definition has the name of a placeholder, which is given here.
     Missing(&'a str),
-    /// A placeholder would open a level past the 1,023 that are allowed.
+    /// A placeholder is nested more than 1,023 levels deep.
     TooDeep,
 }

@@ -1,4 +1,4 @@
-//! Matches that a matcher lends until its next line.
+//! Matches that are borrowed from a matcher until its next line.
 ghost use Rattle.std.specs.Prelude.{◌≡◌, option_map};
 ghost use Rattle.std.specs.List.Sorted.{IsStrictlySortedBy};
 ghost use Rattle.std.specs.Map.{keys_of};
@@ -13,8 +13,8 @@ use crate::matches::groups::{GroupTexts, Located};
 use crate::matches::{MatchesIter, write_pairs};
 use std::fmt;
 
-/// A match of a pattern in a line, which borrows from the matcher that found it. It answers as a
-/// [`MatchesOf`](crate::MatchesOf) does, and owns nothing.
+/// A match of a pattern in a line, borrowed from the matcher that found it. It returns the same as
+/// a [`MatchesOf`](crate::MatchesOf), and owns nothing.
 #[derive(Clone, Copy)]
 pub struct MatchesRef<'m> {
     keys: &'m KeyTable,
@@ -25,7 +25,7 @@ impl<'m> MatchesRef<'m> {
     ghost use Rattle.grok.specs.Groups.{texts_in_line};
     ghost use Rattle.grok.specs.Lent.{lent_keys, lent_captures};
 
-    /// A match with these keys and groups at these places.
+    /// Makes a match with these keys and the byte ranges of these groups.
     pub(crate) fn new(keys: &'m KeyTable, located: Located<'m>) -> MatchesRef<'m>
         ensures keys { lent_keys result ≡ keys.now }
         ensures captures { lent_captures result ≡ texts_in_line located.entry }
@@ -33,7 +33,8 @@ impl<'m> MatchesRef<'m> {
         MatchesRef { keys, located }
     }
 
-    /// The text of the key's group, and none where there is no such key or that group took no part.
+    /// Returns the text of the key's group. There is none if no such key exists or that group took
+    /// no part.
     pub fn get(&self, name: &str) -> Option<&'m str>
         ensures { option_map text_of result ≡ answer_of (lent_keys self.now)
             (lent_captures self.now) name.now }
@@ -43,7 +44,7 @@ impl<'m> MatchesRef<'m> {
         self.located.get(group)
     }
 
-    /// The keys whose group took part, each with its text, in byte order of the keys.
+    /// Returns the keys whose group took part, each with its text, in the byte order of the keys.
     pub fn iter(&self) -> MatchesIter<'m>
         ensures pairs { result ≡ walk (lent_keys self.now) (lent_captures self.now) }
         ensures sorted { IsStrictlySortedBy (slice_cmp nat_cmp) (keys_of result) }
@@ -68,7 +69,7 @@ impl<'r, 'm> IntoIterator for &'r MatchesRef<'m> {
     }
 }
 
-/// The pairs, in the order of `iter`.
+/// Shows the pairs, in the order of `iter`.
 impl fmt::Debug for MatchesRef<'_> {
     ghost use Rattle.grok.specs.Lent.{lent_keys, lent_captures};
 

@@ -12,7 +12,7 @@ use crate::matches::{MatchesOf, PatternOf};
 use std::alloc::{AllocError, Global};
 use std::marker::Model;
 
-/// Answers lines as its pattern does, and keeps what a search needs from one line to the next.
+/// Matches lines as its pattern does, and keeps what a search needs from one line to the next.
 #[derive(Drop)]
 pub struct MatcherOf<'p, E: HasMatcher<'p>> {
     alloc: Global,
@@ -35,7 +35,7 @@ impl<'p, E: HasMatcher<'p>> MatcherOf<'p, E> {
     ghost use Rattle.grok.specs.contracts.matches.matcher.MatcherOf.{the_row};
     ghost use Rattle.grok.specs.Lent.{lent_keys, lent_captures};
 
-    /// The matcher of a pattern with this engine.
+    /// Makes the matcher of a pattern with this engine.
     pub(crate) fn new(
         alloc: Global,
         pattern: &'p PatternOf<E>,
@@ -48,7 +48,7 @@ impl<'p, E: HasMatcher<'p>> MatcherOf<'p, E> {
         Ok(MatcherOf { alloc, search })
     }
 
-    /// The first match in the line, as `PatternOf::match_against` answers it.
+    /// Returns the first match in the line, as `PatternOf::match_against` does.
     #[inline(always)]
     pub fn match_against<'a>(
         &mut self,
@@ -72,8 +72,8 @@ impl<'p, E: HasMatcher<'p>> MatcherOf<'p, E> {
         }
     }
 
-    /// The first match in the line, with the answers of `match_against`. It is lent until the next
-    /// call, so that a line makes no request for memory but the engine's.
+    /// Returns the first match in the line, borrowed until the next call. It has the same pairs as
+    /// that of `match_against`. Only the engine may allocate.
     pub fn find<'m>(&'m mut self, text: &'m str) -> Result<Option<MatchesRef<'m>>, AllocError>
     where
         'p: 'm,
