@@ -1,5 +1,5 @@
 //! A search that owns its automaton and its tables, and keeps both from line to line.
-ghost use Rattle.std.specs.Prelude.{◌≡◌, ◌+◌, ◌-◌, ◌/◌, ◌≤◌, ◌↔◌, true, Some, length, vec_len, string_bytes, option_map, slice_range, IfOk, IfSome, OnOk, IsTrue, IsFalse, IsCharBoundary, MatchOption};
+ghost use Rattle.std.specs.Prelude.{◌≡◌, ◌+◌, ◌-◌, ◌/◌, ◌≤◌, true, Some, length, vec_len, string_bytes, option_map, slice_range, IfOk, IfSome, OnOk, IsTrue, IsFalse, IsCharBoundary};
 ghost use Rattle.regex.specs.Patterns.{find_str, span};
 ghost use Rattle.regex.specs.Strings.{regex_pattern, regex_source, regex_names};
 ghost use Rattle.regex_dfa.specs.Search.{IsForwardFor, IsReverseFor};
@@ -7,7 +7,7 @@ ghost use Rattle.regex_extract.specs.Bounds.{IsAnchored};
 ghost use Rattle.regex_meta.specs.Programs.{pattern_of, leftmost};
 ghost use Rattle.regex_meta.specs.Located.{EndsAt};
 ghost use Rattle.regex_tagged.specs.Valid.{IsFor};
-ghost use Rattle.regex_vm.specs.Found.{first_match, group_cells};
+ghost use Rattle.regex_vm.specs.Found.{group_cells};
 ghost use Rattle.grok.specs.Captures.{text_of, capture_texts, IsSliceOf, AreSlicesOf};
 ghost use Rattle.grok.specs.RegexFinds.{IsReadByDefault, captures_in, text_at, texts_at};
 ghost use Rattle.grok.specs.OwnSearches.{IsTreeOf, span_of_cells};
