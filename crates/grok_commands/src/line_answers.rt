@@ -40,9 +40,10 @@ fn write_pair(text: &mut Vec<u8>, key: &str, value: &str) -> Result<(), AllocErr
     ensures { OnOk result (text.new.items ≡ text.old.items ++ pair_line (key.now, value.now)) }
 {
     text.extend_from_slice(key.as_bytes())?;
-    text.extend_from_slice(b"=")?;
+    text.push(b'=')?;
     text.extend_from_slice(value.as_bytes())?;
-    text.extend_from_slice(b"\n")
+    text.push(b'\n')?;
+    Ok(())
 }
 
 /// Appends the pairs of a match.
@@ -96,7 +97,8 @@ impl LineFormat {
             LineFormat::Pairs => write_pairs(text, matches)?,
             LineFormat::Object => write_object(alloc, text, matches)?,
         }
-        text.extend_from_slice(b"\n")
+        text.push(b'\n')?;
+        Ok(())
     }
 }
 
