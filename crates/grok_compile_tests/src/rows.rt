@@ -109,6 +109,10 @@ const MANY_KEYS: Row = Row {
     ..BLANK
 };
 
+/// Definitions that together want a key 2^64 - 1 times, and a missing one behind them.
+const MOST_USES: &str =
+    "%{A:y[1]}%{D63}%{D62}%{D61}%{D60}%{D59}%{D58}%{D57}%{D56}%{D55}%{D54}%{D53}%{D52}%{D51}%{D50}%{D49}%{D48}%{D47}%{D46}%{D45}%{D44}%{D43}%{D42}%{D41}%{D40}%{D39}%{D38}%{D37}%{D36}%{D35}%{D34}%{D33}%{D32}%{D31}%{D30}%{D29}%{D28}%{D27}%{D26}%{D25}%{D24}%{D23}%{D22}%{D21}%{D20}%{D19}%{D18}%{D17}%{D16}%{D15}%{D14}%{D13}%{D12}%{D11}%{D10}%{D9}%{D8}%{D7}%{D6}%{D5}%{D4}%{D3}%{D2}%{D1}%{D0}%{missing}";
+
 const ROWS: &[Row] = &[
     DEEPEST,
     Row {
@@ -381,7 +385,37 @@ const ROWS: &[Row] = &[
         ..MANY_KEYS
     },
     Row {
-        name: "more keys than are counted",
+        name: "a clash in a definition whose keys are wanted too often in all",
+        definitions: &[("A", "a"), ("T", "%{A:y}%{A:y}%{A:y[1]}%{D61}")],
+        pattern: "%{D62}%{D62}%{D62}%{D61}%{T}%{missing}",
+        error: Some("GenericCompilationFailure(\"Alias y[1] already exists\")"),
+        ..MANY_KEYS
+    },
+    Row {
+        name: "a key that one of 2^64 placeholders is to get",
+        pattern: "%{A:x[18446744073709551000]}%{D62}%{D62}%{D62}%{D62}%{missing}",
+        error: Some("GenericCompilationFailure(\"Alias x[18446744073709551000] already exists\")"),
+        ..MANY_KEYS
+    },
+    Row {
+        name: "the greatest number that is compared with the uses of a key",
+        pattern: "%{A:x[18446744073709551614]}%{D62}%{D62}%{D62}%{D62}%{missing}",
+        error: Some("GenericCompilationFailure(\"Alias x[18446744073709551614] already exists\")"),
+        ..MANY_KEYS
+    },
+    Row {
+        name: "a key that is wanted 2^64 - 1 times",
+        pattern: MOST_USES,
+        ..MANY_KEYS
+    },
+    Row {
+        name: "a key that is wanted 2^64 times",
+        pattern: "%{A:y[1]}%{D62}%{D62}%{D62}%{D62}%{missing}",
+        error: Some("Memory"),
+        ..MANY_KEYS
+    },
+    Row {
+        name: "a key that is wanted 2^70 times",
         pattern: "%{A:y[1]}%{D70}%{missing}",
         error: Some("Memory"),
         ..MANY_KEYS
