@@ -11,10 +11,10 @@ const HALF_A_LINE: &str = "5E:FF";
 
 const LINE_WITH_DOTS: &str = "5EFF.56A2.AF15";
 
-/// How many calls a pattern answers before the one in which its search makes its tables.
-const CALLS_BEFORE_TABLES: u32 = 16;
+/// How many calls a pattern answers before the one that builds its search.
+const CALLS_BEFORE_TABLES: u32 = 1;
 
-/// More calls than that.
+/// So many calls that the search has all its tables.
 const CALLS_WITH_TABLES: u32 = 20;
 
 /// How many lines go by before a search has all its tables.
