@@ -50,12 +50,11 @@ answered_step IsAnswer all left next x old now new answer h e is w =
       written = (wrote.0 ++ answer, answers_more IsAnswer h.sent x wrote.0 answer wrote.1 is, appends_both old now new wrote.0 answer wrote.2 w);
     }
 
-pub answered_end : {A : Type 0} (IsAnswer : A → List ℕ → Type 0) (all left : List A) (old now new : Option (List ℕ))
-    → Answered IsAnswer all left old now → left ≡ [] → Keeps now new → HasAnswered IsAnswer all old new
-answered_end IsAnswer all left old now new h e k =
-    let wrote = h.written in
+pub answered_whole : {A : Type 0} (IsAnswer : A → List ℕ → Type 0) (all left : List A) (old now : Option (List ℕ))
+    → Answered IsAnswer all left old now → left ≡ [] → HasAnswered IsAnswer all old now
+answered_whole IsAnswer all left old now h e =
     let whole : all ≡ h.sent = h.are ∙ ap (λ v. h.sent ++ v) e ∙ append-nil h.sent in
-    (wrote.0, rw whole wrote.1, appends_still old now new wrote.0 wrote.2 k)
+    rw whole h.written
 
 pub answered_some : {A : Type 0} (IsAnswer : A → List ℕ → Type 0) (all left : List A) (old now : Option (List ℕ))
     → Answered IsAnswer all left old now → HasBegun IsAnswer all old now

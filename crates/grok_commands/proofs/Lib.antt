@@ -6,6 +6,7 @@ pub mod LineFeeds
 pub mod LineLemmas
 pub mod LineLaws
 pub mod CommandLaws
+pub mod Held
 pub mod Steps
 pub mod Objects
 pub mod Utf8Lines

@@ -5,7 +5,7 @@ use Rattle.std.specs.Io.KnownBytes.{Appends, Consumes, Keeps, IsAtEnd}
 use Rattle.grok_commands.specs.Lines.{IsLine, ended_lines_of, unended_of, lines_of, last_line}
 use Rattle.grok_commands.specs.Traffic.{Traffic, traffic}
 use Rattle.grok_commands.specs.Streams.{HasBegunLines, HasAnsweredInput, HasAnsweredEnded, HasAnsweredSome}
-use Rattle.grok_commands.proofs.Answering.{appends_both, appends_same, appends_none}
+use Rattle.grok_commands.proofs.Answering.{appends_both, appends_same, appends_none, appends_still}
 use Rattle.grok_commands.proofs.LineLemmas.{ended-line, unended-line, line-append, ended-none, unended-none, ended-append, unended-append, lines-split}
 
 -- `sent` are the first lines of `all`, their answers have gone out, and `left` stands after them
@@ -102,6 +102,10 @@ streamed_start f r w = record { bytes = []; read = consumes_same r; left_is = re
 pub streamed_still : (f : List ℕ → List ℕ) (r s t w v : Option (List ℕ)) (left : List ℕ) → Streamed f (traffic r s w v) left → Keeps s t → Streamed f (traffic r t w v) left
 streamed_still f r s t w v left h k =
     record { bytes = h.bytes; read = consumes_still r s t h.bytes h.read (consumes_none s t k); left_is = h.left_is; is_line = h.is_line; written = h.written }
+
+pub streamed_sent : (f : List ℕ → List ℕ) (r s w v z : Option (List ℕ)) (left : List ℕ) → Streamed f (traffic r s w v) left → Keeps v z → Streamed f (traffic r s w z) left
+streamed_sent f r s w v z left h k =
+    record { bytes = h.bytes; read = h.read; left_is = h.left_is; is_line = h.is_line; written = appends_still w v z (flat_map f (ended_lines_of h.bytes)) h.written k }
 
 pub streamed_step : (f : List ℕ → List ℕ) (r s t w v z : Option (List ℕ)) (left block next : List ℕ) → Streamed f (traffic r s w v) left → Consumes s t block
     → Appends v z (flat_map f (ended_lines_of (left ++ block))) → next ≡ unended_of (left ++ block) → IsLine next → Streamed f (traffic r t w z) next

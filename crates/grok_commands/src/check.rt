@@ -1,6 +1,7 @@
 //! The answers of `check`.
 ghost use Rattle.std.specs.Prelude.{◌≡◌, ◌⊎◌, map, OnOk, IfOk, IfErr, IsErrOf, string_bytes};
 ghost use Rattle.std.specs.FinMap as finite;
+ghost use Rattle.std.specs.Io.KnownBytes.{append_known};
 ghost use Rattle.grok_commands.specs.Answers.{HasAnswered, HasBegun};
 ghost use Rattle.grok.specs.Met.{measure_view};
 ghost use Rattle.grok_commands.specs.Library.{library_of};
@@ -10,7 +11,7 @@ ghost use Rattle.grok_commands.specs.SizeTexts.{placeholder_of, IsMeasuredText, 
 use crate::definitions::Definitions;
 use crate::fault::ToolFault;
 use crate::measure::write_measure;
-use crate::output::{end, send};
+use crate::output::{finish, hold};
 use grok::Measure;
 use std::alloc::{AllocError, Global};
 use std::io::Write;
@@ -66,8 +67,40 @@ fn write_line(
     write!(line, "{name}: {text}\n")
 }
 
+/// Answers a line for each definition of the library. What has not gone out is held.
+fn hold_definitions<W: Write>(
+    alloc: Global,
+    alias_only: bool,
+    definitions: &Definitions<'_>,
+    held: &mut Vec<u8>,
+    output: &mut W,
+) -> Result<(), ToolFault>
+    ensures ok { OnOk result (HasAnswered (IsCheckLine (library_of definitions.now) alias_only)
+        (finite.keys (library_of definitions.now))
+        (append_known (W.contents output.old) held.old.items)
+        (append_known (W.contents output.new) held.new.items)) }
+    ensures memory { IsErrOf result ToolFault.Memory → HasBegun
+        (IsCheckLine (library_of definitions.now) alias_only)
+        (finite.keys (library_of definitions.now))
+        (append_known (W.contents output.old) held.old.items)
+        (append_known (W.contents output.new) held.new.items) }
+    ensures kind { IfErr result (λ fault. (fault ≡ ToolFault.Memory) ⊎ (fault ≡ ToolFault.Write)) }
+{
+    let grok = definitions.library(alloc)?;
+    let names = definitions.names(alloc)?;
+    let patterns = placeholders(alloc, &names)?;
+    let texts = texts_in(alloc, &patterns)?;
+    let measures = grok.measure_all(&texts, alias_only)?;
+    let mut line = String::new(alloc);
+    'names: for (index, name) in names.iter().enumerate() {
+        write_line(alloc, &mut line, name, measures[index])?;
+        hold(held, output, line.as_bytes())?;
+    }
+    Ok(())
+}
+
 /// Sends a line for each definition of the library, the ten too, in byte order of the names and
-/// each by one `write_all`: the name, `: `, and the size of `%{NAME}` as `measure` tells it, or the
+/// each whole: the name, `: `, and the size of `%{NAME}` as `measure` tells it, or the
 /// text of its error. A fault is a line as any other and ends nothing.
 ///
 /// # Errors
@@ -89,15 +122,7 @@ pub fn check_definitions<W: Write>(
         (W.contents output.old) (W.contents output.new) }
     ensures kind { IfErr result (λ fault. (fault ≡ ToolFault.Memory) ⊎ (fault ≡ ToolFault.Write)) }
 {
-    let grok = definitions.library(alloc)?;
-    let names = definitions.names(alloc)?;
-    let patterns = placeholders(alloc, &names)?;
-    let texts = texts_in(alloc, &patterns)?;
-    let measures = grok.measure_all(&texts, alias_only)?;
-    let mut line = String::new(alloc);
-    'names: for (index, name) in names.iter().enumerate() {
-        write_line(alloc, &mut line, name, measures[index])?;
-        send(output, line.as_bytes())?;
-    }
-    end(output)
+    let mut held = Vec::new(alloc);
+    let ran = hold_definitions(alloc, alias_only, definitions, &mut held, output);
+    finish(ran, &mut held, output)
 }

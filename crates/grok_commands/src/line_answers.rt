@@ -1,18 +1,14 @@
 //! The answers of `match` and of `json` to a line.
-ghost use Rattle.std.specs.Prelude.{◌≡◌, ◌++◌, OnOk, IfErr, Some, None, option_map, if◌then◌else◌, flat_map};
-ghost use Rattle.std.specs.Io.KnownBytes.{Appends};
+ghost use Rattle.std.specs.Prelude.{◌≡◌, ◌++◌, OnOk, Some, None, option_map, if◌then◌else◌, flat_map};
 ghost use Rattle.std.specs.Str.{is_utf8};
 ghost use Rattle.grok_commands.specs.LineTexts.{pair_line, not_utf8_text, no_match_text, match_text};
 ghost use Rattle.grok.specs.Answers.{walk};
 ghost use Rattle.grok.specs.Lent.{lent_keys, lent_captures};
 
-use crate::fault::ToolFault;
 use crate::json_object::write_object;
-use crate::output::send;
 use crate::stream::LineAnswers;
 use grok::{HasMatcher, MatcherOf, MatchesRef};
 use std::alloc::{AllocError, Global};
-use std::io::Write;
 
 /// How the answer to a line is written.
 #[derive(Clone, Copy)]
@@ -58,28 +54,24 @@ fn write_pairs(text: &mut Vec<u8>, matches: MatchesRef<'_>) -> Result<(), AllocE
 }
 
 impl LineFormat {
-    /// Sends the answer to a line that is not UTF-8.
-    fn send_not_utf8<W: Write>(self, output: &mut W) -> Result<(), ToolFault>
-        ensures ok { OnOk result (Appends (W.contents output.old) (W.contents output.new)
-            (not_utf8_text self)) }
-        ensures kind { IfErr result (λ fault. fault ≡ ToolFault.Write) }
+    /// The answer to a line that is not UTF-8.
+    fn not_utf8(self) -> &'static [u8]
+        ensures { result.now ≡ not_utf8_text self }
     {
         match self {
-            LineFormat::Pairs => send(output, b"not UTF-8\n\n"),
-            LineFormat::Object => send(output, b"false\n"),
+            LineFormat::Pairs => b"not UTF-8\n\n",
+            LineFormat::Object => b"false\n",
         }
     }
 
-    /// Sends the answer to a line in which nothing matches.
+    /// The answer to a line in which nothing matches.
     #[inline(always)]
-    fn send_no_match<W: Write>(self, output: &mut W) -> Result<(), ToolFault>
-        ensures ok { OnOk result (Appends (W.contents output.old) (W.contents output.new)
-            (no_match_text self)) }
-        ensures kind { IfErr result (λ fault. fault ≡ ToolFault.Write) }
+    fn no_match(self) -> &'static [u8]
+        ensures { result.now ≡ no_match_text self }
     {
         match self {
-            LineFormat::Pairs => send(output, b"no match\n\n"),
-            LineFormat::Object => send(output, b"null\n"),
+            LineFormat::Pairs => b"no match\n\n",
+            LineFormat::Object => b"null\n",
         }
     }
 
@@ -109,7 +101,7 @@ pub struct MatchAnswers<'p, E: HasMatcher<'p>> {
     pub format: LineFormat,
     pub matcher: MatcherOf<'p, E>,
     /// Where the answer to a match is put together. What it holds from the line before is lost.
-    pub text: Vec<u8>,
+    pub answer: Vec<u8>,
 }
 
 impl<'p, E: HasMatcher<'p>> LineAnswers for MatchAnswers<'p, E> {
@@ -119,23 +111,23 @@ impl<'p, E: HasMatcher<'p>> LineAnswers for MatchAnswers<'p, E> {
         (E.answer_to answers.matcher.engine) answers.matcher.keys };
 
     #[inline(never)]
-    fn answer_line<W: Write>(&mut self, output: &mut W, line: &[u8]) -> Result<(), ToolFault> {
+    fn answer_line(&mut self, text: &mut Vec<u8>, line: &[u8]) -> Result<(), AllocError> {
         match text_of(line) {
-            Some(line) => self.answer_str(output, line),
-            None => self.format.send_not_utf8(output),
+            Some(line) => self.answer_str(text, line),
+            None => text.extend_from_slice(self.format.not_utf8()),
         }
     }
 
     // With all that it calls for a line that doesn't match this is a part of the loop over lines, which is faster so.
     #[inline(always)]
     #[tactic(auto, using(crate::proofs::Utf8Lines::text_of_line))]
-    fn answer_str<W: Write>(&mut self, output: &mut W, line: &str) -> Result<(), ToolFault> {
+    fn answer_str(&mut self, text: &mut Vec<u8>, line: &str) -> Result<(), AllocError> {
         let Some(matches) = self.matcher.find(line)? else {
-            return self.format.send_no_match(output);
+            return text.extend_from_slice(self.format.no_match());
         };
-        self.text.clear();
+        self.answer.clear();
         self.format
-            .write_match(self.alloc, &mut self.text, matches)?;
-        send(output, &self.text)
+            .write_match(self.alloc, &mut self.answer, matches)?;
+        text.extend_from_slice(&self.answer)
     }
 }

@@ -74,7 +74,7 @@ pub fn answer_input<R: Read, W: Write>(
         alloc,
         format,
         matcher: pattern.matcher()?,
-        text: Vec::new(alloc),
+        answer: Vec::new(alloc),
     };
     answer_lines(alloc, &mut answers, input, output)
 }

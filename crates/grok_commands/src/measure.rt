@@ -11,7 +11,7 @@ ghost use Rattle.grok.specs.declared.errors.error.Error.{Error};
 
 use crate::command::Request;
 use crate::fault::ToolFault;
-use crate::output::{end, send};
+use crate::output::send;
 use grok::{Fault, Measure};
 use std::alloc::{AllocError, Global};
 use std::io::Write;
@@ -41,8 +41,7 @@ pub fn write_measure<'a>(
     Ok(None)
 }
 
-/// Sends the size of the text that the request's pattern stands for, with a line feed, by one
-/// `write_all`: its length in bytes, its groups, and how many levels of placeholders are nested; or
+/// Sends the size of the text that the request's pattern stands for, with a line feed: its length in bytes, its groups, and how many levels of placeholders are nested; or
 /// `too long` where the length passes the greatest `usize`.
 ///
 /// # Errors
@@ -74,6 +73,5 @@ pub fn measure_pattern<W: Write>(
         return Err(ToolFault::Pattern(fault.to_error(alloc)?));
     }
     text.push('\n')?;
-    send(output, text.as_bytes())?;
-    end(output)
+    send(&mut text.into_bytes(), output)
 }

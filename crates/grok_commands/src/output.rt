@@ -1,23 +1,63 @@
-//! What goes out.
-ghost use Rattle.std.specs.Prelude.{◌≡◌, OnOk, IfErr};
-ghost use Rattle.std.specs.Io.KnownBytes.{Appends, Keeps};
+//! What goes out. Answers are held until they are many, until the input is read and until the run ends.
+ghost use Rattle.std.specs.Prelude.{◌≡◌, ◌≢◌, ◌⊎◌, [], OnOk, IfErr, IsErrOf};
+ghost use Rattle.std.specs.Io.KnownBytes.{Appends, Keeps, append_known};
 
 use crate::fault::ToolFault;
 use std::io::Write;
 
-/// Sends one answer by one `write_all`.
-#[inline(always)]
-pub fn send<W: Write>(output: &mut W, answer: &[u8]) -> Result<(), ToolFault>
-    ensures ok { OnOk result (Appends (W.contents output.old) (W.contents output.new) answer.now) }
+/// Answers that are held go out once they have so many bytes.
+const HELD_SIZE: usize = 64 * 1024;
+
+/// Sends all that is held, and flushes.
+pub fn send<W: Write>(held: &mut Vec<u8>, output: &mut W) -> Result<(), ToolFault>
+    ensures bytes { OnOk result (Appends (W.contents output.old) (W.contents output.new)
+        held.old.items) }
+    ensures none_held { OnOk result (held.new.items ≡ []) }
     ensures kind { IfErr result (λ fault. fault ≡ ToolFault.Write) }
 {
-    output.write_all(answer).map_err(|_| ToolFault::Write)
+    output.write_all(held).map_err(|_| ToolFault::Write)?;
+    held.clear();
+    output.flush().map_err(|_| ToolFault::Write)
 }
 
-/// Flushes the output after the last answer.
-pub fn end<W: Write>(output: &mut W) -> Result<(), ToolFault>
-    ensures ok { OnOk result (Keeps (W.contents output.old) (W.contents output.new)) }
+/// Sends all that is held, once it is long.
+#[inline(always)]
+pub fn send_long<W: Write>(held: &mut Vec<u8>, output: &mut W) -> Result<(), ToolFault>
+    ensures ok { OnOk result (Keeps (append_known (W.contents output.old) held.old.items)
+        (append_known (W.contents output.new) held.new.items)) }
     ensures kind { IfErr result (λ fault. fault ≡ ToolFault.Write) }
 {
-    output.flush().map_err(|_| ToolFault::Write)
+    if held.len() < HELD_SIZE {
+        return Ok(());
+    }
+    send(held, output)
+}
+
+/// Holds one answer, and sends all that is held once it is long.
+pub fn hold<W: Write>(held: &mut Vec<u8>, output: &mut W, answer: &[u8]) -> Result<(), ToolFault>
+    ensures ok { OnOk result (Appends (append_known (W.contents output.old) held.old.items)
+        (append_known (W.contents output.new) held.new.items) answer.now) }
+    ensures memory { IsErrOf result ToolFault.Memory
+        → Keeps (append_known (W.contents output.old) held.old.items)
+        (append_known (W.contents output.new) held.new.items) }
+    ensures kind { IfErr result (λ fault. (fault ≡ ToolFault.Memory) ⊎ (fault ≡ ToolFault.Write)) }
+{
+    held.extend_from_slice(answer)?;
+    send_long(held, output)
+}
+
+/// Ends a run that came to this: what it held goes out, after a fault too, unless that is the output's.
+pub fn finish<W: Write>(
+    ran: Result<(), ToolFault>,
+    held: &mut Vec<u8>,
+    output: &mut W,
+) -> Result<(), ToolFault>
+    ensures bytes { result ≢ Err ToolFault.Write → Appends (W.contents output.old)
+        (W.contents output.new) held.old.items }
+    ensures same { result ≢ Err ToolFault.Write → result ≡ ran }
+{
+    if !matches!(ran, Err(ToolFault::Write)) {
+        send(held, output)?;
+    }
+    ran
 }

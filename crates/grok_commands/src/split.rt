@@ -1,5 +1,6 @@
 //! The answers of `split`.
 ghost use Rattle.std.specs.Prelude.{◌≡◌, ◌⊎◌, OnOk, IfOk, IfErr, IsErrOf, string_bytes};
+ghost use Rattle.std.specs.Io.KnownBytes.{append_known};
 ghost use Rattle.grok.specs.Pieces.{pieces};
 ghost use Rattle.grok.specs.Texts.{fault_words};
 ghost use Rattle.grok.specs.Views.{piece_view};
@@ -7,7 +8,7 @@ ghost use Rattle.grok_commands.specs.Answers.{HasAnswered, HasBegun, Prints};
 ghost use Rattle.grok_commands.specs.Split.{IsPieceLine};
 
 use crate::fault::ToolFault;
-use crate::output::{end, send};
+use crate::output::{finish, hold};
 use grok::parser::{GrokComponent, GrokPatternError, grok_split};
 use std::alloc::{AllocError, Global};
 use std::io::Write;
@@ -35,7 +36,30 @@ fn write_line(alloc: Global, text: &mut String, piece: &GrokComponent<'_>) -> Re
     text.push('\n')
 }
 
-/// Sends the pieces of a pattern, each with a line feed by one `write_all`.
+/// Answers the pieces of a pattern, each with a line feed. What has not gone out is held.
+fn hold_pieces<W: Write>(
+    alloc: Global,
+    pattern: &str,
+    held: &mut Vec<u8>,
+    output: &mut W,
+) -> Result<(), ToolFault>
+    ensures ok { OnOk result (HasAnswered IsPieceLine (pieces pattern.now)
+        (append_known (W.contents output.old) held.old.items)
+        (append_known (W.contents output.new) held.new.items)) }
+    ensures memory { IsErrOf result ToolFault.Memory → HasBegun IsPieceLine (pieces pattern.now)
+        (append_known (W.contents output.old) held.old.items)
+        (append_known (W.contents output.new) held.new.items) }
+    ensures kind { IfErr result (λ fault. (fault ≡ ToolFault.Memory) ⊎ (fault ≡ ToolFault.Write)) }
+{
+    let mut text = String::new(alloc);
+    'pieces: for piece in grok_split(pattern) {
+        write_line(alloc, &mut text, &piece)?;
+        hold(held, output, text.as_bytes())?;
+    }
+    Ok(())
+}
+
+/// Sends the pieces of a pattern, each with a line feed.
 pub fn split<W: Write>(alloc: Global, pattern: &str, output: &mut W) -> Result<(), ToolFault>
     ensures ok { OnOk result (HasAnswered IsPieceLine (pieces pattern.now)
         (W.contents output.old) (W.contents output.new)) }
@@ -43,10 +67,7 @@ pub fn split<W: Write>(alloc: Global, pattern: &str, output: &mut W) -> Result<(
         (W.contents output.old) (W.contents output.new) }
     ensures kind { IfErr result (λ fault. (fault ≡ ToolFault.Memory) ⊎ (fault ≡ ToolFault.Write)) }
 {
-    let mut text = String::new(alloc);
-    'pieces: for piece in grok_split(pattern) {
-        write_line(alloc, &mut text, &piece)?;
-        send(output, text.as_bytes())?;
-    }
-    end(output)
+    let mut held = Vec::new(alloc);
+    let ran = hold_pieces(alloc, pattern, &mut held, output);
+    finish(ran, &mut held, output)
 }

@@ -1,12 +1,12 @@
-//! Reads lines and sends the answer to each.
-ghost use Rattle.std.specs.Prelude.{◌≡◌, ◌++◌, ◌∷◌, [], ◌⊎◌, MatchOption, OnOk, IfOk, IfErr, IsErrOf, vec_len, flat_map};
-ghost use Rattle.std.specs.Io.KnownBytes.{Appends, Keeps};
+//! Reads lines and answers each.
+ghost use Rattle.std.specs.Prelude.{◌≡◌, ◌≢◌, ◌≤◌, ◌<◌, ◌++◌, ◌∷◌, [], ◌⊎◌, length, take, MatchOption, OnOk, OnErr, IfOk, IfErr, IfSome, IfNone, IsErrOf, vec_len, flat_map};
+ghost use Rattle.std.specs.Io.KnownBytes.{Appends, Consumes, IsAtEnd, Keeps, append_known};
 ghost use Rattle.grok_commands.specs.Lines.{IsLine, ended_lines_of, unended_of, last_line};
 ghost use Rattle.grok_commands.specs.Traffic.{traffic};
 ghost use Rattle.grok_commands.specs.Streams.{HasBegunLines, HasAnsweredInput, HasAnsweredEnded, HasAnsweredSome};
 
 use crate::fault::ToolFault;
-use crate::output::end;
+use crate::output::{finish, send, send_long};
 use memchr::{memchr, memchr_iter, memrchr};
 use simdutf8::basic::from_utf8;
 use std::alloc::{AllocError, Global};
@@ -22,25 +22,17 @@ pub trait LineAnswers {
     // The answer to a line.
     ghost answer: { Self → List ℕ → List ℕ };
 
-    /// Sends the answer to a line by one `write_all`.
-    fn answer_line<W: Write>(&mut self, output: &mut W, line: &[u8]) -> Result<(), ToolFault>
-        ensures ok { OnOk result (Appends (W.contents output.old) (W.contents output.new)
-            (answer self.old line.now)) }
-        ensures memory { IsErrOf result ToolFault.Memory
-            → Keeps (W.contents output.old) (W.contents output.new) }
-        ensures same { answer self.new ≡ answer self.old }
-        ensures kind { IfErr result
-            (λ fault. (fault ≡ ToolFault.Memory) ⊎ (fault ≡ ToolFault.Write)) };
+    /// Appends the answer to a line, or nothing where there is no memory.
+    fn answer_line(&mut self, text: &mut Vec<u8>, line: &[u8]) -> Result<(), AllocError>
+        ensures ok { OnOk result (text.new.items ≡ text.old.items ++ answer self.old line.now) }
+        ensures memory { OnErr result (text.new.items ≡ text.old.items) }
+        ensures same { answer self.new ≡ answer self.old };
 
     /// The same for a line that is UTF-8.
-    fn answer_str<W: Write>(&mut self, output: &mut W, line: &str) -> Result<(), ToolFault>
-        ensures ok { OnOk result (Appends (W.contents output.old) (W.contents output.new)
-            (answer self.old line.now)) }
-        ensures memory { IsErrOf result ToolFault.Memory
-            → Keeps (W.contents output.old) (W.contents output.new) }
-        ensures same { answer self.new ≡ answer self.old }
-        ensures kind { IfErr result
-            (λ fault. (fault ≡ ToolFault.Memory) ⊎ (fault ≡ ToolFault.Write)) };
+    fn answer_str(&mut self, text: &mut Vec<u8>, line: &str) -> Result<(), AllocError>
+        ensures ok { OnOk result (text.new.items ≡ text.old.items ++ answer self.old line.now) }
+        ensures memory { OnErr result (text.new.items ≡ text.old.items) }
+        ensures same { answer self.new ≡ answer self.old };
 }
 
 /// The first line that a line feed ends, and what stands after that line feed.
@@ -58,13 +50,16 @@ fn first_line(bytes: &[u8]) -> Option<(&[u8], &[u8])>
 /// Answers each of these lines, which line feeds end.
 fn answer_ended<A: LineAnswers, W: Write>(
     answers: &mut A,
+    held: &mut Vec<u8>,
     output: &mut W,
     lines: &[u8],
 ) -> Result<(), ToolFault>
-    ensures ok { OnOk result (Appends (W.contents output.old) (W.contents output.new)
+    ensures ok { OnOk result (Appends (append_known (W.contents output.old) held.old.items)
+        (append_known (W.contents output.new) held.new.items)
         (flat_map (A.answer answers.old) (ended_lines_of lines.now))) }
     ensures memory { IsErrOf result ToolFault.Memory → HasBegunLines (A.answer answers.old)
-        (ended_lines_of lines.now) (W.contents output.old) (W.contents output.new) }
+        (ended_lines_of lines.now) (append_known (W.contents output.old) held.old.items)
+        (append_known (W.contents output.new) held.new.items) }
     ensures same { A.answer answers.new ≡ A.answer answers.old }
     ensures kind { IfErr result (λ fault. (fault ≡ ToolFault.Memory) ⊎ (fault ≡ ToolFault.Write)) }
 {
@@ -73,9 +68,10 @@ fn answer_ended<A: LineAnswers, W: Write>(
     let mut start = 0;
     'lines: for end in memchr_iter(b'\n', lines) {
         match utf8 {
-            Some(utf8) => answers.answer_str(output, &utf8[start..end])?,
-            None => answers.answer_line(output, &lines[start..end])?,
+            Some(utf8) => answers.answer_str(held, &utf8[start..end])?,
+            None => answers.answer_line(held, &lines[start..end])?,
         }
+        send_long(held, output)?;
         start = end + 1;
     }
     Ok(())
@@ -96,19 +92,22 @@ fn split_ended(bytes: &[u8]) -> (&[u8], &[u8])
 /// them.
 fn feed<A: LineAnswers, W: Write>(
     answers: &mut A,
+    held: &mut Vec<u8>,
     output: &mut W,
     partial_line: &mut Vec<u8>,
     block: &[u8],
 ) -> Result<(), ToolFault>
     requires { IsLine partial_line.old.items }
-    ensures ok { OnOk result (Appends (W.contents output.old) (W.contents output.new)
+    ensures ok { OnOk result (Appends (append_known (W.contents output.old) held.old.items)
+        (append_known (W.contents output.new) held.new.items)
         (flat_map (A.answer answers.old) (ended_lines_of (partial_line.old.items ++ block.now)))) }
     ensures partial_line { OnOk result (partial_line.new.items
         ≡ unended_of (partial_line.old.items ++ block.now)) }
     ensures is_line { OnOk result (IsLine partial_line.new.items) }
     ensures memory { IsErrOf result ToolFault.Memory → HasBegunLines (A.answer answers.old)
-        (ended_lines_of (partial_line.old.items ++ block.now)) (W.contents output.old)
-        (W.contents output.new) }
+        (ended_lines_of (partial_line.old.items ++ block.now))
+        (append_known (W.contents output.old) held.old.items)
+        (append_known (W.contents output.new) held.new.items) }
     ensures same { A.answer answers.new ≡ A.answer answers.old }
     ensures kind { IfErr result (λ fault. (fault ≡ ToolFault.Memory) ⊎ (fault ≡ ToolFault.Write)) }
 {
@@ -117,30 +116,61 @@ fn feed<A: LineAnswers, W: Write>(
         return Ok(());
     };
     partial_line.extend_from_slice(line)?;
-    answers.answer_line(output, partial_line)?;
+    answers.answer_line(held, partial_line)?;
     partial_line.clear();
     let (ended, rest) = split_ended(after);
-    answer_ended(answers, output, ended)?;
+    answer_ended(answers, held, output, ended)?;
     partial_line.extend_from_slice(rest)?;
     Ok(())
 }
 
-/// Answers the line that no line feed ended, if there is one, and flushes.
-fn finish<A: LineAnswers, W: Write>(
+/// Answers the line that no line feed ended, if there is one.
+fn answer_last<A: LineAnswers>(
     answers: &mut A,
-    output: &mut W,
+    held: &mut Vec<u8>,
     partial_line: &[u8],
-) -> Result<(), ToolFault>
-    ensures ok { OnOk result (Appends (W.contents output.old) (W.contents output.new)
-        (flat_map (A.answer answers.old) (last_line partial_line.now))) }
-    ensures memory { IsErrOf result ToolFault.Memory → Keeps (W.contents output.old)
-        (W.contents output.new) }
-    ensures kind { IfErr result (λ fault. (fault ≡ ToolFault.Memory) ⊎ (fault ≡ ToolFault.Write)) }
+) -> Result<(), AllocError>
+    ensures ok { OnOk result (held.new.items ≡ held.old.items
+        ++ flat_map (A.answer answers.old) (last_line partial_line.now)) }
+    ensures memory { OnErr result (held.new.items ≡ held.old.items) }
 {
-    if !partial_line.is_empty() {
-        answers.answer_line(output, partial_line)?;
+    if partial_line.is_empty() {
+        return Ok(());
     }
-    end(output)
+    answers.answer_line(held, partial_line)
+}
+
+/// Sends all that is held, and then reads once. Where the output fails nothing is read, and where the read was interrupted
+/// there is no answer.
+fn send_and_read<R: Read, W: Write>(
+    held: &mut Vec<u8>,
+    output: &mut W,
+    input: &mut R,
+    block: &mut [u8],
+) -> Result<Option<usize>, ToolFault>
+    ensures sent { result ≢ Err ToolFault.Write → Appends (W.contents output.old)
+        (W.contents output.new) held.old.items }
+    ensures none_held { result ≢ Err ToolFault.Write → held.new.items ≡ [] }
+    ensures unread { IsErrOf result ToolFault.Write
+        → R.remaining input.new ≡ R.remaining input.old }
+    ensures bound { IfOk result (λ read. IfSome read (λ n. n ≤ length block.new)) }
+    ensures bytes { IfOk result (λ read. IfSome read (λ n.
+        Consumes (R.remaining input.old) (R.remaining input.new) (take n block.new))) }
+    ensures end { IfOk result (λ read. IfSome read (λ n.
+        n ≡ 0 → 0 < length block.new → IsAtEnd (R.remaining input.new))) }
+    ensures interrupted { IfOk result (λ read. IfNone read
+        (Keeps (R.remaining input.old) (R.remaining input.new))) }
+    ensures read { IsErrOf result ToolFault.Read
+        → Keeps (R.remaining input.old) (R.remaining input.new) }
+    ensures length { length block.new ≡ length block.old }
+    ensures kind { IfErr result (λ fault. (fault ≡ ToolFault.Read) ⊎ (fault ≡ ToolFault.Write)) }
+{
+    send(held, output)?;
+    match input.read(block) {
+        Ok(n) => Ok(Some(n)),
+        Err(error) if error.kind() == ErrorKind::Interrupted => Ok(None),
+        Err(_) => Err(ToolFault::Read),
+    }
 }
 
 /// So many zeros. It is a function of its own so that no proof meets a list of 65,536 items.
@@ -150,7 +180,45 @@ fn zeros(alloc: Global, count: usize) -> Result<Vec<u8>, AllocError>
     vec![in alloc; 0u8; count]
 }
 
-/// Answers each line of the input, to its end, and flushes.
+/// Answers each line of the input, to its end. What has not gone out is held.
+fn answer_blocks<A: LineAnswers, R: Read, W: Write>(
+    alloc: Global,
+    answers: &mut A,
+    input: &mut R,
+    held: &mut Vec<u8>,
+    output: &mut W,
+) -> Result<(), ToolFault>
+    ensures ok { OnOk result (HasAnsweredInput (A.answer answers.old)
+        (traffic (R.remaining input.old) (R.remaining input.new)
+        (append_known (W.contents output.old) held.old.items)
+        (append_known (W.contents output.new) held.new.items))) }
+    ensures read { IsErrOf result ToolFault.Read → HasAnsweredEnded (A.answer answers.old)
+        (traffic (R.remaining input.old) (R.remaining input.new)
+        (append_known (W.contents output.old) held.old.items)
+        (append_known (W.contents output.new) held.new.items)) }
+    ensures memory { IsErrOf result ToolFault.Memory → HasAnsweredSome (A.answer answers.old)
+        (traffic (R.remaining input.old) (R.remaining input.new)
+        (append_known (W.contents output.old) held.old.items)
+        (append_known (W.contents output.new) held.new.items)) }
+    ensures kind { IfErr result
+        (λ fault. (fault ≡ ToolFault.Memory) ⊎ ((fault ≡ ToolFault.Read)
+        ⊎ (fault ≡ ToolFault.Write))) }
+{
+    let mut room = zeros(alloc, READ_SIZE)?;
+    let block = room.as_mut_slice();
+    let mut partial_line = Vec::new(alloc);
+    // No run comes to this many reads: the bound is for the proof that the loop ends.
+    'reads: for _ in 0..u64::MAX {
+        match send_and_read(held, output, input, block)? {
+            None => {}
+            Some(0) => return Ok(answer_last(answers, held, &partial_line)?),
+            Some(n) => feed(answers, held, output, &mut partial_line, &block[..n])?,
+        }
+    }
+    Err(ToolFault::Read)
+}
+
+/// Answers each line of the input, to its end. The answers to what was read go out before more is read.
 pub fn answer_lines<A: LineAnswers, R: Read, W: Write>(
     alloc: Global,
     answers: &mut A,
@@ -170,20 +238,7 @@ pub fn answer_lines<A: LineAnswers, R: Read, W: Write>(
         (λ fault. (fault ≡ ToolFault.Memory) ⊎ ((fault ≡ ToolFault.Read)
         ⊎ (fault ≡ ToolFault.Write))) }
 {
-    let mut room = zeros(alloc, READ_SIZE)?;
-    let block = room.as_mut_slice();
-    let mut partial_line = Vec::new(alloc);
-    // No run comes to this many reads: the bound is for the proof that the loop ends.
-    'reads: for _ in 0..u64::MAX {
-        match input.read(block) {
-            Ok(0) => return finish(answers, output, &partial_line),
-            Ok(n) => feed(answers, output, &mut partial_line, &block[..n])?,
-            Err(error) => {
-                if error.kind() != ErrorKind::Interrupted {
-                    return Err(ToolFault::Read);
-                }
-            }
-        }
-    }
-    Err(ToolFault::Read)
+    let mut held = Vec::new(alloc);
+    let ran = answer_blocks(alloc, answers, input, &mut held, output);
+    finish(ran, &mut held, output)
 }

@@ -3,14 +3,11 @@
 
 #[cfg(test)]
 mod tests;
-mod tied;
 
 pub use grok_commands::{ToolFault, run};
-use std::alloc::Global;
 use std::io::ErrorKind;
 use std::process::ExitCode;
 use std::{env, io};
-use tied::run_tied;
 
 /// Words that are no UTF-8 are a wrong use, and want of memory is itself.
 fn words_fault(error: io::Error) -> ToolFault {
@@ -32,7 +29,7 @@ fn work(rt: &HostRuntime) -> Result<(), ToolFault> {
     for argument in &arguments {
         words.push(argument.as_str())?;
     }
-    run_tied(alloc, &words, rt.stdin(), io::writer(rt))
+    run(alloc, &words, &mut rt.stdin(), &mut io::writer(rt))
 }
 
 fn main(rt: HostRuntime) -> ExitCode {

@@ -7,7 +7,6 @@ mod lines;
 mod outcome;
 mod sizes;
 mod splits;
-mod tied;
 
 use cases::{Run, UNREAD};
 use devices::{FakeReader, FakeWriter};

@@ -92,11 +92,11 @@ fn one_byte_a_call(rt: HostRuntime) -> Result<(), Fail> {
 }
 
 #[test]
-fn one_write_for_each_answer(rt: HostRuntime) -> Result<(), Fail> {
+fn one_write_before_each_read(rt: HostRuntime) -> Result<(), Fail> {
     for case in CASES {
         let reader = FakeReader::new(LINES);
         let outcome = check_run(&rt, &case, reader, FakeWriter::new(rt.alloc()));
-        check_calls(&rt, outcome, &case, 2, case.answers);
+        check_calls(&rt, outcome, &case, 2, case.wanted_writes());
     }
     Ok(())
 }
@@ -109,7 +109,13 @@ fn interrupted_calls_are_made_again(rt: HostRuntime) -> Result<(), Fail> {
         let mut writer = FakeWriter::new(rt.alloc());
         writer.failing.interrupts = true;
         let outcome = check_run(&rt, &case, reader, writer);
-        check_calls(&rt, outcome, &case, 4, case.answers.saturating_mul(2));
+        check_calls(
+            &rt,
+            outcome,
+            &case,
+            4,
+            case.wanted_writes().saturating_mul(2),
+        );
     }
     Ok(())
 }

@@ -152,3 +152,39 @@ impl Write for SharedWriter<'_> {
         writer.flush()
     }
 }
+
+/// Gives one byte a call, and notes how many bytes a fake writer has taken by then.
+#[derive(Drop)]
+pub struct WatchingReader<'a> {
+    left: &'a [u8],
+    writer: &'a RefCell<FakeWriter>,
+    pub seen: Vec<usize>,
+}
+
+impl<'a> WatchingReader<'a> {
+    /// A reader of these bytes that has noted nothing.
+    pub(crate) fn new(
+        alloc: Global,
+        left: &'a [u8],
+        writer: &'a RefCell<FakeWriter>,
+    ) -> WatchingReader<'a> {
+        WatchingReader {
+            left,
+            writer,
+            seen: Vec::new(alloc),
+        }
+    }
+}
+
+impl Read for WatchingReader<'_> {
+    fn read(&mut self, buf: &mut [u8]) -> io::Result<usize> {
+        let Ok(writer) = self.writer.try_borrow() else {
+            return Err(io::Error::from(ErrorKind::Other));
+        };
+        self.seen.push(writer.taken.len())?;
+        let n = self.left.len().min(buf.len()).min(1);
+        buf[..n].copy_from_slice(&self.left[..n]);
+        self.left = &self.left[n..];
+        Ok(n)
+    }
+}

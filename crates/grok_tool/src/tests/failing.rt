@@ -1,12 +1,9 @@
-//! Each command on devices that fail, and tied devices that do: no byte is lost without a word.
+//! Each command on devices that fail: no byte is lost without a word.
 use super::cases::{CASES, Case, KEYED, LINES, Run, check_run};
-use super::devices::{Failing, FakeReader, FakeWriter, SharedWriter};
-use super::outcome::{Ending, Outcome, check_outcome, ending_at, outcome_of};
-use super::tied::{check_flush, check_read, check_taken, check_write};
-use crate::tied::{Outlet, TiedInput, TiedOutput, run_tied};
-use grok_commands::ToolFault;
+use super::devices::{Failing, FakeReader, FakeWriter, SharedWriter, WatchingReader};
+use super::outcome::{Ending, Outcome, check_outcome, ending_of, outcome_of};
+use grok_commands::run;
 use std::cell::RefCell;
-use std::io::BufWriter;
 use std::process::Abort;
 use std::test::Fail;
 
@@ -202,15 +199,14 @@ fn a_reader_that_always_fails(rt: HostRuntime) -> Result<(), Fail> {
     Ok(())
 }
 
-/// Runs a case on this writer: it answers that a write failed, and the writer has the output's first `count` bytes. The
-/// writer was called and flushed so often.
+/// Runs a case on this writer: it answers that a write failed, and the writer has the output's first `count` bytes and
+/// was called so often.
 fn check_failed_write(
     rt: &(impl Abort + AllocGlobal),
     case: &Case,
     writer: FakeWriter,
     count: usize,
     writes: usize,
-    flushes: usize,
 ) {
     let reader = FakeReader::new(LINES);
     let outcome = outcome_of(rt, case.words, reader, writer, case.output);
@@ -223,19 +219,17 @@ fn check_failed_write(
             reads: case.wanted_reads(outcome.reads),
             taken: count,
             writes,
-            flushes,
             ..outcome
         },
     );
 }
 
-/// Runs a case on a writer that takes one byte a call and whose call `bad` fails so: nothing is written or flushed after
-/// that.
+/// Runs a case on a writer that takes one byte a call and whose call `bad` fails so: nothing is written after that.
 fn check_failed_call(rt: &(impl Abort + AllocGlobal), case: &Case, failing: Failing, bad: usize) {
     let mut writer = FakeWriter::new(rt.alloc());
     writer.most = 1;
     writer.failing = failing;
-    check_failed_write(rt, case, writer, bad, bad.saturating_add(1), 0);
+    check_failed_write(rt, case, writer, bad, bad.saturating_add(1));
 }
 
 /// Runs a case on writers that fail at a call, or are full for a while at it, each call in turn.
@@ -254,9 +248,10 @@ fn a_failed_write(rt: HostRuntime) -> Result<(), Fail> {
     Ok(())
 }
 
-/// Runs a case on writers that take a whole answer a call and fail at a call, each call in turn: no call is made after that.
+/// Runs a case on writers that take all that they are given and fail at a call, each call in turn: no call is made after
+/// that.
 fn check_failed_answers(rt: &(impl Abort + AllocGlobal), case: &Case) {
-    for bad in 0..case.answers {
+    for bad in 0..case.wanted_writes() {
         let mut writer = FakeWriter::new(rt.alloc());
         writer.failing = Failing::since(bad);
         let outcome = outcome_of(rt, case.words, FakeReader::new(LINES), writer, case.output);
@@ -267,7 +262,6 @@ fn check_failed_answers(rt: &(impl Abort + AllocGlobal), case: &Case) {
             Outcome {
                 ending: Ending::Write,
                 writes: bad.saturating_add(1),
-                flushes: 0,
                 ..outcome
             },
         );
@@ -312,111 +306,87 @@ fn a_writer_that_takes_nothing(rt: HostRuntime) -> Result<(), Fail> {
     for case in CASES {
         let mut writer = FakeWriter::new(rt.alloc());
         writer.most = 0;
-        check_failed_write(&rt, &case, writer, 0, 1, 0);
+        check_failed_write(&rt, &case, writer, 0, 1);
     }
     Ok(())
 }
 
+/// A run that reads flushes before its first read, and any other once it has written.
 #[test]
 fn a_failed_flush(rt: HostRuntime) -> Result<(), Fail> {
     for case in CASES {
         let mut writer = FakeWriter::new(rt.alloc());
         writer.bad_flush = true;
-        check_failed_write(&rt, &case, writer, case.output.len(), case.answers, 1);
+        let reader = FakeReader::new(LINES);
+        let outcome = outcome_of(&rt, case.words, reader, writer, case.output);
+        let wanted = Outcome {
+            ending: Ending::Write,
+            left: LINES,
+            reads: 0,
+            taken: if case.reads { 0 } else { case.output.len() },
+            writes: if case.reads { 0 } else { 1 },
+            flushes: 1,
+        };
+        check_outcome(&rt, case.name, outcome, wanted);
     }
     Ok(())
 }
 
-/// Once a flush has failed, the input is at its end, and all that is written fails, though the writer would take it.
+/// Each read finds that the answers to all lines before it have gone out.
 #[test]
-fn a_failed_flush_ends_the_input(rt: HostRuntime) -> Result<(), Fail> {
+fn answers_go_out_before_each_read(rt: HostRuntime) -> Result<(), Fail> {
     let writer = RefCell::new(FakeWriter::new(rt.alloc()));
-    let shared = SharedWriter { writer: &writer };
-    let outlet = RefCell::new(Outlet::new(BufWriter::with_capacity(rt.alloc(), 8, shared)?));
-    let mut input = TiedInput::new(FakeReader::new(b"pqr"), &outlet);
-    let mut output = TiedOutput::new(&outlet);
-    check_write(&rt, &mut output, b"abc", true);
-    writer.try_borrow_mut()?.failing = Failing::blocking_at(0);
-    check_read(&rt, &mut input, 0);
-    check_read(&rt, &mut input, 0);
-    check_write(&rt, &mut output, b"d", false);
-    check_flush(&rt, &mut output, false);
-    check_taken(&rt, &writer, 0);
+    let mut input = WatchingReader::new(rt.alloc(), b"p\n#\n\xff\nq", &writer);
+    let mut output = SharedWriter { writer: &writer };
+    let ran = run(rt.alloc(), &["match", KEYED], &mut input, &mut output);
+    assert!(rt; ran.is_ok());
+    assert_eq!(rt;
+        input.seen.as_slice(),
+        [0, 0, 5, 5, 15, 15, 26, 26].as_slice()
+    );
     Ok(())
 }
 
-/// Writes a few bytes, which are held, and then more than the buffer holds, to a writer that takes three bytes a call and
-/// would block at one call: that write fails, and so does all that follows, where so many bytes were taken.
-fn check_overflow(rt: &(impl Abort + AllocGlobal), bad: usize, taken: usize) -> Result<(), Fail> {
-    let mut fake = FakeWriter::new(rt.alloc());
-    fake.most = 3;
-    fake.failing = Failing::blocking_at(bad);
-    let writer = RefCell::new(fake);
-    let shared = SharedWriter { writer: &writer };
-    let outlet = RefCell::new(Outlet::new(BufWriter::with_capacity(rt.alloc(), 8, shared)?));
-    let mut input = TiedInput::new(FakeReader::new(b"pqr"), &outlet);
-    let mut output = TiedOutput::new(&outlet);
-    check_write(rt, &mut output, b"abcde", true);
-    check_write(rt, &mut output, b"fghijklmnopqrst", false);
-    check_read(rt, &mut input, 0);
-    check_write(rt, &mut output, b"u", false);
-    check_flush(rt, &mut output, false);
-    check_taken(rt, &writer, taken);
-    Ok(())
-}
-
-#[test]
-fn a_write_that_fails_while_the_buffer_overflows(rt: HostRuntime) -> Result<(), Fail> {
-    for (bad, taken) in [0, 3, 5, 8, 11, 14, 17].iter().enumerate() {
-        check_overflow(&rt, bad, *taken)?;
-    }
-    Ok(())
-}
-
-/// How a run of these words on tied devices ends.
-fn tied_ending(rt: &impl AllocGlobal, words: &[&str], input: &[u8], failing: Failing) -> Ending {
+/// How a run of these words ends whose writer takes 50,000 bytes a call and fails so.
+fn failed_ending(rt: &impl AllocGlobal, words: &[&str], input: &[u8], failing: Failing) -> Ending {
     let mut writer = FakeWriter::new(rt.alloc());
     writer.most = 50_000;
     writer.failing = failing;
-    match run_tied(rt.alloc(), words, FakeReader::new(input), writer) {
-        Ok(()) => Ending::Well,
-        Err(fault) => ending_at(&fault),
-    }
+    ending_of(rt.alloc(), words, &mut FakeReader::new(input), &mut writer)
 }
 
-/// Runs these words on tied devices whose writer is called so often: where none of the calls fails they end well, and
-/// where one of them does the run says so.
-fn check_tied(rt: &(impl Abort + AllocGlobal), words: &[&str], input: &[u8], calls: usize) {
+/// Runs these words on a writer that is called so often: where none of the calls fails they end well, and where one of them
+/// does the run says so.
+fn check_each_write(rt: &(impl Abort + AllocGlobal), words: &[&str], input: &[u8], calls: usize) {
     for bad in 0..calls {
         assert_eq!(rt;
-            tied_ending(rt, words, input, Failing::since(bad)),
+            failed_ending(rt, words, input, Failing::since(bad)),
             Ending::Write
         );
         assert_eq!(rt;
-            tied_ending(rt, words, input, Failing::blocking_at(bad)),
+            failed_ending(rt, words, input, Failing::blocking_at(bad)),
             Ending::Write
         );
     }
     assert_eq!(rt;
-        tied_ending(rt, words, input, Failing::since(calls)),
+        failed_ending(rt, words, input, Failing::since(calls)),
         Ending::Well
     );
 }
 
-/// A run that reads sends out what it holds before its second read, and all others once.
+/// A run that reads writes before its second read and at its end, and any other once.
 #[test]
-fn a_failed_write_behind_the_buffer(rt: HostRuntime) -> Result<(), Fail> {
+fn a_failed_write_of_what_was_held(rt: HostRuntime) -> Result<(), Fail> {
     for case in CASES {
-        let calls = if case.reads { 2 } else { 1 };
-        check_tied(&rt, case.words, LINES, calls);
+        check_each_write(&rt, case.words, LINES, case.wanted_writes());
     }
     Ok(())
 }
 
-/// The answer is longer than the buffer.
+/// The answer is longer than what is held at most.
 #[test]
 fn a_failed_write_in_a_long_answer(rt: HostRuntime) -> Result<(), Fail> {
     let line = vec![in rt.alloc(); b'a'; 300_000]?;
-    check_tied(&rt, &["match", "(?<k>a+)"], &line, 7);
+    check_each_write(&rt, &["match", "(?<k>a+)"], &line, 7);
     Ok(())
 }

@@ -189,8 +189,8 @@ fn with_doublings<'a>(
     Ok(words)
 }
 
-/// Runs words that succeed and read nothing, and gives what they write, in so many writes.
-fn written(rt: &(impl Abort + AllocGlobal), name: &str, words: &[&str], writes: usize) -> Vec<u8> {
+/// Runs words that succeed and read nothing, and gives what they write, in one write.
+fn written(rt: &(impl Abort + AllocGlobal), name: &str, words: &[&str]) -> Vec<u8> {
     let mut reader = FakeReader::new(UNREAD.input);
     let mut writer = FakeWriter::new(rt.alloc());
     let ending = ending_of(rt.alloc(), words, &mut reader, &mut writer);
@@ -203,7 +203,7 @@ fn written(rt: &(impl Abort + AllocGlobal), name: &str, words: &[&str], writes: 
             ending: Ending::Well,
             left: UNREAD.input,
             reads: 0,
-            writes,
+            writes: 1,
             flushes: 1,
             ..outcome
         },
@@ -211,15 +211,14 @@ fn written(rt: &(impl Abort + AllocGlobal), name: &str, words: &[&str], writes: 
     writer.taken
 }
 
-/// Runs a row, with these words behind its own: it succeeds, reads nothing and writes its output, in so many writes.
+/// Runs a row, with these words behind its own: it succeeds, reads nothing and writes its output, in one write.
 fn check_written(
     rt: &(impl Abort + AllocGlobal),
     row: &Run,
     more: &[String],
-    writes: usize,
 ) -> Result<(), AllocError> {
     let words = with_doublings(rt.alloc(), row.words, more)?;
-    let taken = written(rt, row.name, &words, writes);
+    let taken = written(rt, row.name, &words);
     assert_eq!(rt; taken.as_slice(), row.output.as_bytes(), "{}", row.name);
     Ok(())
 }
@@ -227,7 +226,7 @@ fn check_written(
 #[test]
 fn measure_prints_one_line(rt: HostRuntime) -> Result<(), Fail> {
     for row in SIZES {
-        check_written(&rt, row, &[], 1)?;
+        check_written(&rt, row, &[])?;
     }
     Ok(())
 }
@@ -244,7 +243,7 @@ fn measure_answers_a_fault_before_it_writes(rt: HostRuntime) -> Result<(), Fail>
 fn measure_of_a_text_past_the_limit(rt: HostRuntime) -> Result<(), Fail> {
     let doublings = doublings(rt.alloc(), 61)?;
     for row in DOUBLED {
-        check_written(&rt, row, &doublings, 1)?;
+        check_written(&rt, row, &doublings)?;
     }
     Ok(())
 }
@@ -252,7 +251,7 @@ fn measure_of_a_text_past_the_limit(rt: HostRuntime) -> Result<(), Fail> {
 #[test]
 fn check_lists_the_ten(rt: HostRuntime) -> Result<(), Fail> {
     for row in LISTS {
-        check_written(&rt, row, &[], 10)?;
+        check_written(&rt, row, &[])?;
     }
     Ok(())
 }
@@ -266,7 +265,7 @@ fn check_names_each_fault(rt: HostRuntime) -> Result<(), Fail> {
         CISCOMAC: length 50 groups 1 nesting 1\n";
     let last = "YEAR: length 20 groups 1 nesting 1\n\
         a-b: Something unexpected happened during the compilation phase: \"InvalidCharacter('-')\"\n";
-    let list = written(&rt, "each fault by its name", &words, 14);
+    let list = written(&rt, "each fault by its name", &words);
     assert!(rt; list.starts_with(first.as_bytes()));
     assert!(rt; list.ends_with(last.as_bytes()));
     Ok(())
@@ -280,7 +279,7 @@ fn check_names_a_definition_once(rt: HostRuntime) -> Result<(), Fail> {
         COMMONMAC: length 49 groups 1 nesting 1\n\
         DAY: length 10 groups 1 nesting 1\n\
         MAC: length 163 groups 4 nesting 2\n";
-    let list = written(&rt, "a definition once", &words, 11);
+    let list = written(&rt, "a definition once", &words);
     assert!(rt; list.starts_with(first.as_bytes()));
     Ok(())
 }
@@ -289,7 +288,7 @@ fn check_names_a_definition_once(rt: HostRuntime) -> Result<(), Fail> {
 fn check_of_long_texts_ends_at_once(rt: HostRuntime) -> Result<(), Fail> {
     let doublings = doublings(rt.alloc(), 70)?;
     let words = with_doublings(rt.alloc(), &["check", "-a"], &doublings)?;
-    let list = written(&rt, "long texts", &words, 81);
+    let list = written(&rt, "long texts", &words);
     let text = str::from_utf8(&list).unwrap_or("");
     for line in LONG_TEXTS {
         assert!(rt; text.contains(line), "at {line}");

@@ -81,9 +81,9 @@ fn split_prints_each_piece(rt: HostRuntime) -> Result<(), Fail> {
 }
 
 #[test]
-fn each_piece_goes_out_at_once(rt: HostRuntime) -> Result<(), Fail> {
+fn the_pieces_go_out_together(rt: HostRuntime) -> Result<(), Fail> {
     let outcome = check_split(&rt, &SEVERAL, FakeWriter::new(rt.alloc()));
-    assert_eq!(rt; outcome.writes, 3);
+    assert_eq!(rt; outcome.writes, 1);
     let mut narrow = FakeWriter::new(rt.alloc());
     narrow.most = 1;
     check_split(&rt, &SEVERAL, narrow);

@@ -1,14 +1,14 @@
 use Rattle.std.proofs.Common.{rules, string_bytes}
-use Rattle.std.specs.Io.KnownBytes.{Appends}
+use Rattle.std.specs.Io.KnownBytes.{Appends, append_known}
 use Rattle.grok.specs.Pieces.{pieces}
 use Rattle.grok.specs.Views.{piece_view}
 use Rattle.grok_commands.specs.Split.{IsPieceLine}
 use Rattle.grok_commands.proofs.Answering.{answered_step}
-use Rattle.grok_commands.proofs.split.split.Goals as goal
+use Rattle.grok_commands.proofs.split.hold_pieces.Goals as goal
 
 pub pieces-preserved : goal.pieces-preserved
 pieces-preserved g c =
-    let sent : Appends (g.W.Write.contents c.pieces.output) (g.W.Write.contents c.send.new.output) (string_bytes c.write_line.new.text) = rw c.as_bytes.ensures.value at c.in_ok-send.ensures.ok in
+    let sent : Appends (append_known (g.W.Write.contents c.pieces.output) c.pieces.held.items) (append_known (g.W.Write.contents c.hold.new.output) c.hold.new.held.items) (string_bytes c.write_line.new.text) = rw c.as_bytes.ensures.value at c.in_ok-hold.ensures.ok in
     record {
       can_next = tt;
       is_finite = tt;
