@@ -3,6 +3,7 @@ mod cases;
 mod cuts;
 mod devices;
 mod failing;
+mod large;
 mod lines;
 mod outcome;
 mod sizes;
