@@ -99,9 +99,8 @@ fn hold_definitions<W: Write>(
     Ok(())
 }
 
-/// Sends a line for each definition of the library, the ten too, in byte order of the names and
-/// each whole: the name, `: `, and the size of `%{NAME}` as `measure` tells it, or the
-/// text of its error. A fault is a line as any other and ends nothing.
+/// Sends a line for each definition of the library, the ten too, in byte order of the names:
+/// the name, `: `, and the size of `%{NAME}` as `measure` tells it, or the text of its error. A fault is a line as any other and ends nothing.
 ///
 /// # Errors
 ///

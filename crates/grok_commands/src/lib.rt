@@ -29,7 +29,9 @@ use matching::answer_input;
 use std::alloc::Global;
 use std::io::{Read, Write};
 
-/// Does what the words say: reads from `input` and writes the answers to `output`.
+/// Does what the words say: reads from `input` and writes the answers to `output`. Answers are held
+/// until they are many. They go out, and the output is flushed, before each read of the input and
+/// before the run ends, after a fault too unless that is the output's.
 ///
 /// # Errors
 ///

@@ -41,8 +41,9 @@ pub fn write_measure<'a>(
     Ok(None)
 }
 
-/// Sends the size of the text that the request's pattern stands for, with a line feed: its length in bytes, its groups, and how many levels of placeholders are nested; or
-/// `too long` where the length passes the greatest `usize`.
+/// Sends the size of the text that the request's pattern stands for, with a line feed: its length in
+/// bytes, its groups, and how many levels of placeholders are nested. Where the length passes the
+/// greatest `usize` it sends `too long`.
 ///
 /// # Errors
 ///
