@@ -1,7 +1,8 @@
 #!/usr/bin/env bash
-# What a line costs in a loop over a pattern's own call `match_against`, over a kept matcher and with a new matcher for each line,
-# beside the whole program; and the greatest memory of 2,000,000 calls. The library's calls are timed once they have
-# answered all lines. valgrind, where it is here, counts their instructions, so that the load of the machine doesn't matter.
+# What a line costs in a loop over a pattern's own call `match_against`, over a kept matcher by `match_against` and by `find`,
+# and with a new matcher for each line, beside the whole program; the greatest memory of 2,000,000 calls; and the tables of
+# shapes.sh. The library's calls are timed once they have answered all lines. valgrind, where it is here, counts their
+# instructions, so that the load of the machine doesn't matter.
 #
 #   bench/calls.sh [LINES]        20000 lines where no number is given
 set -euo pipefail
@@ -13,7 +14,7 @@ rounds=3
 upstream=4400
 grok_calls=$(program grok_calls)
 grok_tool=$(program grok_tool)
-ways=(match_against kept fresh)
+ways=(match_against kept find fresh)
 
 # Writes what grok_calls reads, the definitions and behind an empty line the log, and the log alone: `write_input PATTERN LOG LINES`.
 write_input() {
@@ -51,28 +52,28 @@ count_lines() {
         counted["$1 $2 $way"]=$instructions
     done < <(callgrind_annotate --inclusive=yes --tree=caller --threshold=100 "$room/profile" | awk '
         / < .*:count_matches \(/ { gsub(",", ""); calls = $0; sub(/.*count_matches \(/, "", calls); cost = $1 / calls }
-        / \* .*:ask_(pattern|kept|fresh) / { match($0, /ask_[a-z]+/); print substr($0, RSTART + 4, RLENGTH - 4), int(cost) }')
+        / \* .*:ask_(pattern|kept|find|fresh) / { match($0, /ask_[a-z]+/); print substr($0, RSTART + 4, RLENGTH - 4), int(cost) }')
 }
 
 # A row for each run.
 print_times() {
-    echo "| Microseconds a line | \`match_against\` | kept matcher | new matcher for each line | \`match -a\` | kept to \`match_against\` | new to \`match_against\` |"
-    echo '|---|---|---|---|---|---|---|'
+    echo "| Microseconds a line | \`match_against\` | kept matcher | its \`find\` | new matcher for each line | \`match -a\` | kept to \`match_against\` | new to \`match_against\` |"
+    echo '|---|---|---|---|---|---|---|---|'
     local run own
     for run in "${runs[@]}"; do
         own=${best[$run match_against]}
-        echo "| \`${run% *}\` on ${run#* } | $(ratio "$own" 1000) | $(ratio "${best[$run kept]}" 1000) | $(ratio "${best[$run fresh]}" 1000)" \
-            "| $(ratio "${best[$run match -a]}" 1000) | $(ratio "${best[$run kept]}" "$own") | $(ratio "${best[$run fresh]}" "$own" 1) |"
+        echo "| \`${run% *}\` on ${run#* } | $(ratio "$own" 1000) | $(ratio "${best[$run kept]}" 1000) | $(ratio "${best[$run find]}" 1000)" \
+            "| $(ratio "${best[$run fresh]}" 1000) | $(ratio "${best[$run match -a]}" 1000) | $(ratio "${best[$run kept]}" "$own") | $(ratio "${best[$run fresh]}" "$own" 1) |"
     done
 }
 
 # The same in instructions.
 print_counts() {
-    echo '| Instructions a line | `match_against` | kept matcher | new matcher for each line |'
-    echo '|---|---|---|---|'
+    echo '| Instructions a line | `match_against` | kept matcher | its `find` | new matcher for each line |'
+    echo '|---|---|---|---|---|'
     local run
     for run in "${runs[@]}"; do
-        echo "| \`${run% *}\` on ${run#* } | ${counted[$run pattern]} | ${counted[$run kept]} | ${counted[$run fresh]} |"
+        echo "| \`${run% *}\` on ${run#* } | ${counted[$run pattern]} | ${counted[$run kept]} | ${counted[$run find]} | ${counted[$run fresh]} |"
     done
 }
 
@@ -130,3 +131,5 @@ else
 fi
 echo
 print_memory
+echo
+"$root/bench/shapes.sh"

@@ -1,7 +1,7 @@
-//! The answers to the lines of a log, had in three ways.
+//! The answers to the lines of a log, had in four ways.
 use crate::timed::library;
 use anyhow::{Result, bail};
-use grok::{Matcher, Matches, Pattern};
+use grok::{Matcher, Matches, MatchesIter, MatchesRef, Pattern};
 use std::alloc::{AllocError, Global};
 use std::time::Instant;
 use std::{fmt, io};
@@ -11,8 +11,10 @@ use std::{fmt, io};
 enum Way<'p> {
     /// The pattern's own call.
     Shared(&'p Pattern),
-    /// One matcher for all lines.
+    /// One matcher for all lines, whose matches are lists of their own.
     Kept(Matcher<'p>),
+    /// One matcher for all lines, whose match is borrowed until the next line.
+    Found(Matcher<'p>),
     /// A new matcher for each line.
     Fresh(&'p Pattern),
 }
@@ -22,18 +24,33 @@ impl<'p> Way<'p> {
         match self {
             Way::Shared(_) => "match_against",
             Way::Kept(_) => "kept",
+            Way::Found(_) => "find",
             Way::Fresh(_) => "fresh",
         }
     }
 
-    fn answer<'a>(&mut self, line: &'a str) -> Result<Option<Matches<'a>>, AllocError>
-    where
-        'p: 'a,
-    {
+    /// Adds the answer to a line.
+    fn answer(&mut self, line: &str, answers: &mut Answers) -> Result<(), AllocError> {
         match self {
-            Way::Shared(pattern) => ask_pattern(pattern, line),
-            Way::Kept(matcher) => ask_kept(matcher, line),
-            Way::Fresh(pattern) => ask_fresh(pattern, line),
+            Way::Shared(pattern) => answers.add_matches(&ask_pattern(pattern, line)?),
+            Way::Kept(matcher) => answers.add_matches(&ask_kept(matcher, line)?),
+            Way::Found(matcher) => {
+                if let Some(found) = ask_find(matcher, line)? {
+                    answers.add(found.iter());
+                }
+            }
+            Way::Fresh(pattern) => answers.add_matches(&ask_fresh(pattern, line)?),
+        }
+        Ok(())
+    }
+
+    /// Whether a line matches.
+    fn is_match(&mut self, line: &str) -> Result<bool, AllocError> {
+        match self {
+            Way::Shared(pattern) => Ok(ask_pattern(pattern, line)?.is_some()),
+            Way::Kept(matcher) => Ok(ask_kept(matcher, line)?.is_some()),
+            Way::Found(matcher) => Ok(ask_find(matcher, line)?.is_some()),
+            Way::Fresh(pattern) => Ok(ask_fresh(pattern, line)?.is_some()),
         }
     }
 }
@@ -54,6 +71,17 @@ where
     'p: 'a,
 {
     matcher.match_against(line)
+}
+
+#[inline(never)]
+fn ask_find<'p, 'm>(
+    matcher: &'m mut Matcher<'p>,
+    line: &'m str,
+) -> Result<Option<MatchesRef<'m>>, AllocError>
+where
+    'p: 'm,
+{
+    matcher.find(line)
 }
 
 #[inline(never)]
@@ -83,11 +111,17 @@ impl Answers {
         }
     }
 
-    fn add(&mut self, found: &Matches<'_>) {
+    fn add(&mut self, pairs: MatchesIter<'_>) {
         self.matches = self.matches.saturating_add(1);
-        for (key, value) in found {
+        for (key, value) in pairs {
             self.add_text(key);
             self.add_text(value);
+        }
+    }
+
+    fn add_matches(&mut self, found: &Option<Matches<'_>>) {
+        if let Some(found) = found {
+            self.add(found.iter());
         }
     }
 }
@@ -96,9 +130,7 @@ impl Answers {
 fn ask_all(way: &mut Way<'_>, lines: &[&str]) -> Result<Answers> {
     let mut answers = Answers::default();
     for line in lines {
-        if let Some(found) = way.answer(line)? {
-            answers.add(&found);
-        }
+        way.answer(line, &mut answers)?;
     }
     Ok(answers)
 }
@@ -108,7 +140,7 @@ fn ask_all(way: &mut Way<'_>, lines: &[&str]) -> Result<Answers> {
 fn count_matches(way: &mut Way<'_>, lines: &[&str]) -> Result<u64> {
     let mut matches = 0u64;
     for line in lines {
-        if way.answer(line)?.is_some() {
+        if way.is_match(line)? {
             matches = matches.saturating_add(1);
         }
     }
@@ -137,7 +169,17 @@ fn time_ways(rt: &HostRuntime, pattern: &Pattern, lines: &[&str]) -> Result<()> 
     let expected = ask_all(&mut Way::Fresh(pattern), lines)?;
     time_way(rt, &mut Way::Shared(pattern), lines, expected)?;
     time_way(rt, &mut Way::Kept(pattern.matcher()?), lines, expected)?;
+    time_way(rt, &mut Way::Found(pattern.matcher()?), lines, expected)?;
     time_way(rt, &mut Way::Fresh(pattern), lines, expected)?;
+    println!(rt; "{expected}")?;
+    Ok(())
+}
+
+/// Times the pattern's own call and a kept matcher's `find`.
+fn time_own_and_find(rt: &HostRuntime, pattern: &Pattern, lines: &[&str]) -> Result<()> {
+    let expected = ask_all(&mut Way::Kept(pattern.matcher()?), lines)?;
+    time_way(rt, &mut Way::Shared(pattern), lines, expected)?;
+    time_way(rt, &mut Way::Found(pattern.matcher()?), lines, expected)?;
     println!(rt; "{expected}")?;
     Ok(())
 }
@@ -165,8 +207,10 @@ fn lines_of(alloc: Global, text: &str) -> Result<Vec<&str>, AllocError> {
 /// What is asked for the lines of a log.
 #[derive(Clone, Copy)]
 pub(crate) enum Asked {
-    /// All lines, in the three ways, which are timed.
+    /// All lines, in the four ways, which are timed.
     Ways,
+    /// All lines, by the pattern's own call and by a kept matcher's `find`, which are timed.
+    OwnAndFind,
     /// So many calls of the pattern's own.
     Calls(usize),
 }
@@ -182,6 +226,7 @@ pub(crate) fn call(rt: &HostRuntime, pattern: &str, asked: Asked) -> Result<()> 
     let lines = lines_of(rt.alloc(), log)?;
     match asked {
         Asked::Ways => time_ways(rt, &pattern, &lines),
+        Asked::OwnAndFind => time_own_and_find(rt, &pattern, &lines),
         Asked::Calls(calls) => repeat(&pattern, &lines, calls),
     }
 }
