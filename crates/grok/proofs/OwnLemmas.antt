@@ -1,5 +1,5 @@
 -- What an automaton of a text finds is what `regex` finds for that text.
-use Rattle.std.proofs.Common.{◌≡◌, Bool, ℕ, zero, suc, ◌+◌, ◌-◌, ◌*◌, ◌/◌, ◌<◌, ◌≤◌, ◌==◌, List, ◌∷◌, length, map, get_or, slice_index, Option, None, Some, IfSome, IsSome, IsSomeAnd, option_map, true, true≢false, refl, sym, ap, ap₂, subst, ◌∙◌, ⊎_elim, arith, ne_eqb, IsCharBoundary, slice_range}
+use Rattle.std.proofs.Common.{◌≡◌, Bool, ℕ, zero, suc, ◌+◌, ◌-◌, ◌*◌, ◌/◌, ◌<◌, ◌≤◌, ◌==◌, List, [], ◌∷◌, length, map, get_or, slice_index, Option, None, Some, IfSome, IsSome, IsSomeAnd, option_map, true, true≢false, refl, sym, ap, ap₂, subst, ◌∙◌, ⊎_elim, arith, ne_eqb, IsCharBoundary, slice_range}
 use Rattle.std.specs.List.{range_with_len}
 use Rattle.std.specs.Option.{option_or}
 use Rattle.std.specs.Str.{chars}
@@ -35,6 +35,7 @@ use Rattle.regex.proofs.ForCallers.{span_alike, found_alike}
 use Rattle.regex.proofs.Utf8Lemmas.{test_of_IsCharBoundary}
 use Rattle.grok.specs.RegexFinds.{IsReadByDefault, texts_at, span_of_group, captures_in}
 use Rattle.grok.specs.OwnSearches.{IsTreeOf, span_of_pair, span_of_cells}
+use Rattle.grok.proofs.Compiling.{no_bytes}
 
 -- ---- the same text
 
@@ -201,3 +202,14 @@ answered source hir r hay cells width count tree same read bytes found chosen sp
     (subst (λ (o : Option (ℕ × ℕ)). answer_of_cells hay cells (width / 2 + 1) o ≡ captures_in (regex_pattern r) (width / 2 + 1) hay) is
     (∥∥₁_elim tree set (λ t. ∥∥₁_elim read set (λ by_default.
     answers (meaning hir) (regex_pattern r) hay cells width bytes found spans are (read_alike source hir t.0 r t.1 same by_default)))))
+
+-- ---- a pattern without groups
+
+no_groups : (o : Option Match) → IfSome o (λ m. [] ≡ group_cells m 0)
+unfolding group_cells
+no_groups None = tt
+no_groups (Some m) = refl
+
+-- where there are no cells, none is left to write
+pub no_cells : (cells : List ℕ) (o : Option Match) → (length cells == 0) ≡ true → IfSome o (λ m. cells ≡ group_cells m (length cells))
+no_cells cells o e = rw (no_bytes cells e) (no_groups o)

@@ -190,7 +190,7 @@ fn leftmost_by_tables(
     groups_within(program, tagged, hay, (start, end), cells)
 }
 
-/// The same of a match whose span is known.
+/// The same of a match whose span is known. Where there are no groups, nothing more is searched.
 fn groups_within(
     program: &Program,
     tagged: &mut Tagged,
@@ -206,6 +206,9 @@ fn groups_within(
         (λ m. cells.new ≡ group_cells m (length cells.old))) }
     ensures own { IsFor tagged.new program.now.dfa }
 {
+    if cells.is_empty() {
+        return Ok(Some(whole));
+    }
     let found = tagged.find_at(&program.dfa, hay, whole.0, whole.1, cells)?;
     Ok(found)
 }
