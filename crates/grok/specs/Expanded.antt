@@ -4,7 +4,7 @@ use Rattle.grok.specs.Tree.{Event, Text, Open, Close, FaultEvent}
 use Rattle.grok.specs.Keys.{is_recorded, recorded}
 use Rattle.grok.specs.GeneratedNames.{named_head, unnamed_head}
 
--- The text of these events after so many capturing placeholders. Each further one writes the head of a
+-- The text of these events after `count` capturing placeholders. Each further one writes the head of a
 -- group with its number, and each other placeholder the head of a group without a name.
 abbrev pub text_after : Bool → ℕ → List Event → List ℕ
 text_after alias_only count [] = []
@@ -24,7 +24,7 @@ expanded alias_only tree = text_after alias_only 0 tree
 abbrev pub groups : Bool → List Event → ℕ
 groups alias_only tree = length (recorded alias_only tree)
 
--- the greatest nesting of an open, if so many are open already, and 0 if there is none
+-- the greatest nesting of an open, with those that are open already, and 0 if there is none
 abbrev pub nesting_after : ℕ → List Event → ℕ
 nesting_after depth [] = 0
 nesting_after depth (Text text ∷ events) = nesting_after depth events

@@ -32,7 +32,7 @@ wanted label = if is_absent label.alias then label.name else label.alias
 abbrev pub how_often : List Label → List ℕ → ℕ
 how_often before key = count_by (λ earlier. bytes_eq (wanted earlier) key) before
 
--- "key", then "key[1]", "key[2]": the key of the next placeholder after so many with this base key
+-- "key", then "key[1]", "key[2]": the n-th placeholder that asks for `key`, counted from 0, gets the n-th
 abbrev pub numbered : List ℕ → ℕ → List ℕ
 numbered key zero = key
 numbered key (suc count) = key ++ codes "[" ++ numeral (suc count) ++ codes "]"

@@ -19,7 +19,7 @@ MayBeWanted wanted key times = (count : ℕ) → 0 < wanted (numbered key (suc c
 abbrev pub IsFree : (List ℕ → ℕ) → Type 0
 IsFree wanted = (key : List ℕ) → MayBeWanted wanted key (wanted key)
 
--- a key is wanted more often than the greatest `usize`
+-- some base key is used more often than a `usize` can count
 pub record IsPastCounting (wanted : List ℕ → ℕ) : Type 0 where
   pub key : List ℕ
   pub past : 2 ^ 64 ≤ wanted key

@@ -77,7 +77,7 @@ enum Mark<'a> {
     Done(Sum),
     /// It has this fault.
     Failed(Failure<'a>),
-    /// It needs more than so many levels.
+    /// It needs more than this many levels.
     Deep(usize),
 }
 
@@ -267,7 +267,7 @@ fn too_deep<'a>() -> Failure<'a>
     }
 }
 
-/// Returns what to remember of a definition that was measured with so many levels left and has this
+/// Returns what to remember of a definition that was measured with `levels` levels left and has this
 /// fault.
 fn mark_of_failure<'a>(failure: Failure<'a>, levels: usize) -> Mark<'a>
     ensures { mark_view result ≡ failed_mark
@@ -317,7 +317,7 @@ impl<'a> Met<'a> {
         }
     }
 
-    /// Returns the size or fault of a name if so many levels are left, or `None` if its text has to
+    /// Returns the size or fault of a name if `levels` levels are left, or `None` if its text has to
     /// be measured first.
     fn known(&self, name: &'a str, levels: usize) -> Option<Result<Sum, Failure<'a>>>
         ensures known { MatchOption result ((is_kept (mark_of self.now.marks name.now) ≡ false)
@@ -358,7 +358,7 @@ impl<'a> Met<'a> {
     }
 }
 
-/// Returns what is known of the placeholder of a name, if so many levels are left with its own.
+/// Returns what is known of the placeholder of a name, if `levels` levels are left with its own.
 fn enter_stored<'a>(
     mode: Mode<'a>,
     met: &mut Met<'a>,
@@ -389,7 +389,7 @@ fn enter_stored<'a>(
     Ok(Entry::Unread(stored))
 }
 
-/// Returns what is known of a placeholder that was read, if so many levels are left.
+/// Returns what is known of a placeholder that was read, if `levels` levels are left.
 fn enter<'a>(
     mode: Mode<'a>,
     met: &mut Met<'a>,
@@ -422,7 +422,7 @@ fn enter<'a>(
     }
 }
 
-/// Measures a text with so many levels left: returns its size, or its first fault. A text that it
+/// Measures a text with `levels` levels left: returns its size, or its first fault. A text that it
 /// opens is measured first, while a frame keeps the rest of the one around it. On a fault the open
 /// frames stay, so that the caller can remember the fault for their names.
 fn measure_text<'a>(

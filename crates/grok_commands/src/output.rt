@@ -5,7 +5,7 @@ ghost use Rattle.std.specs.Io.KnownBytes.{Appends, Keeps, append_known};
 use crate::fault::ToolFault;
 use std::io::Write;
 
-/// Answers that are held go out once they have so many bytes.
+/// Held answers are sent once they have this many bytes.
 const HELD_SIZE: usize = 64 * 1024;
 
 /// Sends all that is held, and flushes.

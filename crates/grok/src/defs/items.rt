@@ -132,7 +132,7 @@ impl<'a> Items<'a> {
         Items::new(alloc, grok, pieces_kept(stored))
     }
 
-    /// Skips so many items, or all if there are fewer.
+    /// Skips `count` items, or all if there are fewer.
     ///
     /// # Errors
     ///

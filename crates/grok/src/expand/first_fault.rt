@@ -30,8 +30,11 @@ enum Step<'a> {
     Finds(Finding<'a>),
 }
 
-/// Counts the key that a recorded open wants, or answers its key if an earlier one has it. More uses
-/// of a key than the greatest `usize` are answered as want of memory.
+/// Counts the base key of a capturing placeholder, or returns its key if an earlier one has it.
+///
+/// # Errors
+///
+/// If an allocation fails, or if a base key is used more than `usize::MAX` times.
 fn want<'a>(
     mode: Mode<'a>,
     total: &mut WantedCounts<'a>,
@@ -55,9 +58,9 @@ fn want<'a>(
     Ok(Some(key))
 }
 
-/// Counts all that items of a text want at once, if so many levels are enough, the text among them,
-/// and no two keys clash then. Where a key would be wanted too often to be counted nothing is: the
-/// first fault may stand before so many uses.
+/// Counts all base keys of a definition at once, if `levels` more levels are enough for it and no two
+/// keys clash then. If a base key would be used more than `usize::MAX` times, nothing is counted: the
+/// first fault may come before the last of these uses.
 fn pass<'a>(
     total: &mut WantedCounts<'a>,
     tally: &Tally<'a>,

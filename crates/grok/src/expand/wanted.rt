@@ -57,7 +57,11 @@ impl<'a> WantedCounts<'a> {
         Ok(())
     }
 
-    /// Adds a count of a key. A sum past the greatest `usize` is answered as want of memory.
+    /// Adds the uses of a base key.
+    ///
+    /// # Errors
+    ///
+    /// If an allocation fails, or if the base key is used more than `usize::MAX` times.
     fn add_count(&mut self, key: &'a str, more: Count) -> Result<(), AllocError>
         ensures joins { OnOk result (Joins key.now more self.old self.new) }
         ensures fits { OnOk result
@@ -71,8 +75,11 @@ impl<'a> WantedCounts<'a> {
         self.set(key, Count { times, most })
     }
 
-    /// Counts a key that is wanted once more. More than the greatest `usize` is answered as want of
-    /// memory.
+    /// Counts one more use of a base key.
+    ///
+    /// # Errors
+    ///
+    /// If an allocation fails, or if the base key is used more than `usize::MAX` times.
     pub fn add(&mut self, key: &'a str) -> Result<(), AllocError>
         ensures { OnOk result ((wanted : List ℕ → ℕ) → Counts self.old wanted → Counts self.new
             (λ other. (if bytes_eq key.now other then 1 else 0) + wanted other)) }
@@ -96,8 +103,11 @@ impl<'a> WantedCounts<'a> {
         Ok(())
     }
 
-    /// Counts all keys of more counts. A sum past the greatest `usize` is answered as want of
-    /// memory.
+    /// Adds all uses of other counts.
+    ///
+    /// # Errors
+    ///
+    /// If an allocation fails, or if a base key is used more than `usize::MAX` times.
     pub fn add_all(&mut self, more: &WantedCounts<'a>) -> Result<(), AllocError>
         ensures { OnOk result ((wanted others : List ℕ → ℕ) → Counts self.old wanted
             → Counts more.now others → Counts self.new (λ key. others key + wanted key)) }
@@ -108,8 +118,8 @@ impl<'a> WantedCounts<'a> {
         Ok(())
     }
 
-    /// Whether the key may be wanted as often as it is in both counts together, if that fits a
-    /// `usize`.
+    /// Returns whether no alias clashes with this base key after the uses in both counts together, or
+    /// `None` if these are more than `usize::MAX`.
     fn is_free_at(&self, more: &WantedCounts<'a>, key: &'a str) -> Option<bool>
         ensures some { IfSome result (λ free. (wanted others : List ℕ → ℕ) → Counts self.now wanted
             → Counts more.now others → Decides free (MayBeWanted
@@ -123,8 +133,8 @@ impl<'a> WantedCounts<'a> {
         Some(times <= own.most && times <= other.most)
     }
 
-    /// Whether no two keys clash where those of more counts are wanted, too, and none clash without
-    /// them. No answer is given where a key is wanted more often than the greatest `usize`.
+    /// Returns whether no two keys clash after the uses in both counts together, if none clash after
+    /// those counted here, or `None` if a base key is then used more than `usize::MAX` times.
     pub fn is_free_with(&self, more: &WantedCounts<'a>) -> Option<bool>
         ensures some { IfSome result (λ free. (wanted others : List ℕ → ℕ) → Counts self.now wanted
             → Counts more.now others → IsFree wanted
