@@ -38,7 +38,7 @@ abbrev pub NameMeans : List (List ℕ) → List (Option (List ℕ)) → List ℕ
 NameMeans keys names key group = (name : List ℕ) × (slice_get names group ≡ Some (Some name))
     × (meant_key keys name ≡ key)
 
--- the group of a key is the greatest whose name means it, and a key without a group is meant by no name
+-- The group of a key is the greatest whose name means it. If a key has no group, no name means it.
 abbrev pub GroupsAreTheGreatest : Type 0
 GroupsAreTheGreatest = (keys : List (List ℕ)) (names : List (Option (List ℕ))) (key : List ℕ)
     → MatchOption (group_of keys names key)

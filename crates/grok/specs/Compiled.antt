@@ -4,7 +4,7 @@ use Rattle.std.specs.FinMap as finite
 use Rattle.grok.specs.Texts.{fault_words}
 use Rattle.grok.specs.Maps.{Texts}
 use Rattle.grok.specs.Tree.{Fault, MalformedPiece, Missing, TooDeep, Event, tree, first_structural}
-use Rattle.grok.specs.Keys.{Finding, Structural, Clash, first_fault, keys, recorded, extract_of}
+use Rattle.grok.specs.Keys.{TreeFault, Structural, Clash, first_fault, keys, capturing, extract_of}
 use Rattle.grok.specs.Expanded.{expanded}
 use Rattle.grok.specs.KeyTable.{IsKeyTable}
 use Rattle.grok.specs.Answers.{PatternValue}
@@ -25,7 +25,7 @@ IsFaultError (MalformedPiece fault) error = FailsWith (fault_words fault) error
 IsFaultError (Missing name) error = error ≡ DefinitionNotFound name
 IsFaultError TooDeep error = error ≡ RecursionTooDeep
 
-abbrev pub IsErrorOf : Finding → ErrorValue → Type 0
+abbrev pub IsErrorOf : TreeFault → ErrorValue → Type 0
 IsErrorOf (Structural fault) error = IsFaultError fault error
 IsErrorOf (Clash key) error = error ≡ GenericCompilationFailure (codes "Alias "
     ++ (key ++ codes " already exists"))
@@ -37,9 +37,9 @@ error_of_refusal refusal.Refused text = RegexCompilationFailed (codes "Regex com
 
 -- the error of the first fault
 pub record IsFirstError (alias_only : Bool) (tree : List Event) (error : ErrorValue) : Type 0 where
-  pub finding : Finding
-  pub first : first_fault alias_only tree ≡ Some finding
-  pub is : IsErrorOf finding error
+  pub tree_fault : TreeFault
+  pub first : first_fault alias_only tree ≡ Some tree_fault
+  pub is : IsErrorOf tree_fault error
 
 -- ---- patterns
 
@@ -78,7 +78,7 @@ pub record CanBuild (e : Expansion) : Type 0 where
 
 -- WHEN EACH ERROR COMES: the empty pattern's for the empty pattern, and for no other; the error of the first
 -- fault, unless that is a clash in a text that doesn't fit; the refusal only of a text that the engine may
--- refuse; and want of memory, which is also what a text that doesn't fit gives
+-- refuse; and out of memory, which is also the error of a text that doesn't fit
 pub data IsCompileError (may_refuse : List ℕ → Type 0) (e : Expansion) : ErrorValue → Type 0 where
   Empty : e.pattern ≡ [] → IsCompileError may_refuse e (CompiledPatternIsEmpty [])
   First : (error : ErrorValue) → e.pattern ≢ [] → IsFirstError e.alias_only e.tree error
@@ -95,7 +95,7 @@ pub record IsPatternOf {E : Type 0} (source_of : E → List ℕ) (group_names : 
   pub some : e.pattern ≢ []
   pub can : CanBuild e
   pub built : IsBuilt source_of group_names (expanded e.alias_only e.tree)
-      (keys (recorded e.alias_only e.tree))
+      (keys (capturing e.alias_only e.tree))
       (extract_of e.alias_only e.tree) pattern
 
 abbrev pub Compiles : {E : Type 0} → (E → List ℕ) → (E → List (Option (List ℕ))) → (List ℕ → Type 0)

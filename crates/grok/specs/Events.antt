@@ -1,4 +1,4 @@
--- What contracts see of the events of a tree that are left, while its texts are open on a stack.
+-- What contracts see of the events of a tree that are left, while the open texts lie on a stack.
 use Rattle.std.specs.Prelude.{ℕ, ◌-◌, List, [], ◌∷◌, ◌++◌, Option, Some, None}
 use Rattle.grok.specs.Tree as tree
 use Rattle.grok.specs.Tree.{Meaning, meaning_text, Item, events, inside, Close}
@@ -12,14 +12,14 @@ event_view (event.Open label meaning) = tree.Open (label_view label) (meaning_vi
 event_view event.Close = tree.Close
 event_view (event.Fault fault) = tree.FaultEvent (fault_view fault)
 
--- what stands behind an open that was read last: nothing, if it was opened or there is none
+-- the events inside a placeholder that was read last and is not entered yet, or none if there is no such one
 abbrev pub behind : (List ℕ → List Item) → ℕ → Option Meaning → List tree.Event
 behind items levels_left None = []
 behind items levels_left (Some meaning) = inside items levels_left (meaning_text meaning)
 
--- The events that are left of open texts, where so many levels may be opened in the outermost one: what is
--- left of the texts around, of which each was opened by the one before it, what the innermost one is about to
--- open, and what is left of it.
+-- The events that are left, with `levels_left` levels left in the outermost text: those of a placeholder that is
+-- about to be entered, then those of the innermost text, and then those of the texts around it from the inside
+-- out.
 abbrev pub events_left : (List ℕ → List Item) → ℕ → List (List Item) → Option Meaning → List Item
     → List tree.Event
 events_left items levels_left [] opening left = behind items levels_left opening

@@ -1,7 +1,7 @@
 -- The expanded text of a clean tree, and its size.
 use Rattle.std.specs.Prelude.{ℕ, suc, ◌-◌, max, Bool, List, [], ◌∷◌, ◌++◌, length, if◌then◌else◌, codes}
 use Rattle.grok.specs.Tree.{Event, Text, Open, Close, FaultEvent}
-use Rattle.grok.specs.Keys.{is_recorded, recorded}
+use Rattle.grok.specs.Keys.{is_capturing, capturing}
 use Rattle.grok.specs.GeneratedNames.{named_head, unnamed_head}
 
 -- The text of these events after `count` capturing placeholders. Each further one writes the head of a
@@ -12,7 +12,7 @@ text_after alias_only count (Text text ∷ events) = text ++ text_after alias_on
 text_after alias_only count (Close ∷ events) = codes ")" ++ text_after alias_only count events
 text_after alias_only count (FaultEvent fault ∷ events) = text_after alias_only count events
 text_after alias_only count (Open label meaning ∷ events) =
-    if is_recorded alias_only label
+    if is_capturing alias_only label
     then named_head count ++ text_after alias_only (suc count) events
     else unnamed_head ++ text_after alias_only count events
 
@@ -22,7 +22,7 @@ expanded alias_only tree = text_after alias_only 0 tree
 
 -- the number of groups with a generated name
 abbrev pub groups : Bool → List Event → ℕ
-groups alias_only tree = length (recorded alias_only tree)
+groups alias_only tree = length (capturing alias_only tree)
 
 -- the greatest nesting of an open, with those that are open already, and 0 if there is none
 abbrev pub nesting_after : ℕ → List Event → ℕ

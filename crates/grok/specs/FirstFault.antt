@@ -2,38 +2,38 @@
 -- placeholders, at the right position.
 use Rattle.std.specs.Prelude.{◌≡◌, ℕ, Bool, true, false, List, [], ◌∷◌, ◌++◌, Some, None}
 use Rattle.grok.specs.Tree.{is_absent, Label, Meaning, Fault, Event, Open, FaultEvent}
-use Rattle.grok.specs.Keys.{is_recorded, recorded, key_after, keys, Finding, Structural, Clash, is_among, first_fault, extract_of}
+use Rattle.grok.specs.Keys.{is_capturing, capturing, key_after, keys, TreeFault, Structural, Clash, is_among, first_fault, extract_of}
 
 -- This event, which comes after these others, is a fault: it is a structural fault, or a capturing
 -- placeholder whose key is that of an earlier one.
-pub data IsFaultBehind (alias_only : Bool) (before : List Event) : Event → Finding → Type 0 where
+pub data IsFaultBehind (alias_only : Bool) (before : List Event) : Event → TreeFault → Type 0 where
   Breaks : (fault : Fault) → IsFaultBehind alias_only before (FaultEvent fault) (Structural fault)
-  Meets : (label : Label) (meaning : Meaning) → is_recorded alias_only label ≡ true
-      → is_among (key_after (recorded alias_only before) label) (keys (recorded alias_only before)) ≡ true
+  Meets : (label : Label) (meaning : Meaning) → is_capturing alias_only label ≡ true
+      → is_among (key_after (capturing alias_only before) label) (keys (capturing alias_only before)) ≡ true
       → IsFaultBehind alias_only before (Open label meaning)
-      (Clash (key_after (recorded alias_only before) label))
+      (Clash (key_after (capturing alias_only before) label))
 
 -- wherever the events are cut, the next event is no fault
 abbrev pub HasNoFault : Bool → List Event → Type 0
 HasNoFault alias_only events =
-    (before : List Event) (event : Event) (after : List Event) (finding : Finding)
-    → events ≡ before ++ event ∷ after → IsFaultBehind alias_only before event finding → ⊥
+    (before : List Event) (event : Event) (after : List Event) (tree_fault : TreeFault)
+    → events ≡ before ++ event ∷ after → IsFaultBehind alias_only before event tree_fault → ⊥
 
 -- the events can be cut before this fault, and none of those before the cut is a fault
-pub record HasFirstFault (alias_only : Bool) (events : List Event) (finding : Finding) : Type 0 where
+pub record HasFirstFault (alias_only : Bool) (events : List Event) (tree_fault : TreeFault) : Type 0 where
   pub before : List Event
   pub event : Event
   pub after : List Event
   pub cut : events ≡ before ++ event ∷ after
   pub none : HasNoFault alias_only before
-  pub is : IsFaultBehind alias_only before event finding
+  pub is : IsFaultBehind alias_only before event tree_fault
 
 -- what `first_fault` is
 pub record FindsFirstFault (alias_only : Bool) (tree : List Event) : Type 0 where
-  pub some : (finding : Finding) → first_fault alias_only tree ≡ Some finding
-      → HasFirstFault alias_only tree finding
-  pub only : (finding : Finding) → HasFirstFault alias_only tree finding
-      → first_fault alias_only tree ≡ Some finding
+  pub some : (tree_fault : TreeFault) → first_fault alias_only tree ≡ Some tree_fault
+      → HasFirstFault alias_only tree tree_fault
+  pub only : (tree_fault : TreeFault) → HasFirstFault alias_only tree tree_fault
+      → first_fault alias_only tree ≡ Some tree_fault
   pub none : first_fault alias_only tree ≡ None → HasNoFault alias_only tree
   pub clean : HasNoFault alias_only tree → first_fault alias_only tree ≡ None
 
@@ -64,11 +64,11 @@ pub record HasLastExtract (labels : List Label) (key : List ℕ) (extract : List
 -- what `extract_of` is
 pub record FindsLastExtract (alias_only : Bool) (tree : List Event) (key : List ℕ) : Type 0 where
   pub some : (extract : List ℕ) → extract_of alias_only tree key ≡ Some extract
-      → HasLastExtract (recorded alias_only tree) key extract
-  pub only : (extract : List ℕ) → HasLastExtract (recorded alias_only tree) key extract
+      → HasLastExtract (capturing alias_only tree) key extract
+  pub only : (extract : List ℕ) → HasLastExtract (capturing alias_only tree) key extract
       → extract_of alias_only tree key ≡ Some extract
-  pub none : extract_of alias_only tree key ≡ None → HasNoExtract [] (recorded alias_only tree) key
-  pub nothing : HasNoExtract [] (recorded alias_only tree) key → extract_of alias_only tree key ≡ None
+  pub none : extract_of alias_only tree key ≡ None → HasNoExtract [] (capturing alias_only tree) key
+  pub nothing : HasNoExtract [] (capturing alias_only tree) key → extract_of alias_only tree key ≡ None
 
 abbrev pub ExtractIsLast : Type 0
 ExtractIsLast = (alias_only : Bool) (tree : List Event) (key : List ℕ) → FindsLastExtract alias_only tree key

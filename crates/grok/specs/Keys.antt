@@ -10,27 +10,27 @@ use Rattle.grok.specs.Tree.{Definitions, is_absent, Label, Event, Text, Open, Cl
 -- ---- capturing placeholders
 
 -- in alias-only mode a placeholder without an alias does not capture
-abbrev pub is_recorded : Bool → Label → Bool
-is_recorded alias_only label = not (alias_only && is_absent label.alias)
+abbrev pub is_capturing : Bool → Label → Bool
+is_capturing alias_only label = not (alias_only && is_absent label.alias)
 
 -- the capturing placeholders in reading order; the first has number 0
-abbrev pub recorded : Bool → List Event → List Label
-recorded alias_only [] = []
-recorded alias_only (Text text ∷ events) = recorded alias_only events
-recorded alias_only (Close ∷ events) = recorded alias_only events
-recorded alias_only (FaultEvent fault ∷ events) = recorded alias_only events
-recorded alias_only (Open label meaning ∷ events) =
-    if is_recorded alias_only label then label ∷ recorded alias_only events else recorded alias_only events
+abbrev pub capturing : Bool → List Event → List Label
+capturing alias_only [] = []
+capturing alias_only (Text text ∷ events) = capturing alias_only events
+capturing alias_only (Close ∷ events) = capturing alias_only events
+capturing alias_only (FaultEvent fault ∷ events) = capturing alias_only events
+capturing alias_only (Open label meaning ∷ events) =
+    if is_capturing alias_only label then label ∷ capturing alias_only events else capturing alias_only events
 
 -- ---- keys
 
 -- the base key: the alias, or the name if there is no alias
-abbrev pub wanted : Label → List ℕ
-wanted label = if is_absent label.alias then label.name else label.alias
+abbrev pub base_key : Label → List ℕ
+base_key label = if is_absent label.alias then label.name else label.alias
 
 -- how many of these have this base key
 abbrev pub how_often : List Label → List ℕ → ℕ
-how_often before key = count_by (λ earlier. bytes_eq (wanted earlier) key) before
+how_often before key = count_by (λ earlier. bytes_eq (base_key earlier) key) before
 
 -- "key", then "key[1]", "key[2]": the n-th placeholder that asks for `key`, counted from 0, gets the n-th
 abbrev pub numbered : List ℕ → ℕ → List ℕ
@@ -39,7 +39,7 @@ numbered key (suc count) = key ++ codes "[" ++ numeral (suc count) ++ codes "]"
 
 -- the key of a capturing placeholder after these others
 abbrev pub key_after : List Label → Label → List ℕ
-key_after before label = numbered (wanted label) (how_often before (wanted label))
+key_after before label = numbered (base_key label) (how_often before (base_key label))
 
 -- the keys of capturing placeholders that come after others, of which the nearest stands first
 abbrev pub keys_after : List Label → List Label → List (List ℕ)
@@ -52,9 +52,9 @@ keys labels = keys_after [] labels
 -- ---- the first fault
 
 -- what compiling finds first: a structural fault, or a capturing placeholder whose key is already taken
-pub data Finding : Type 0 where
-  Structural : (fault : Fault) → Finding
-  Clash : (key : List ℕ) → Finding
+pub data TreeFault : Type 0 where
+  Structural : (fault : Fault) → TreeFault
+  Clash : (key : List ℕ) → TreeFault
 
 abbrev pub is_among : List ℕ → List (List ℕ) → Bool
 is_among key [] = false
@@ -62,13 +62,13 @@ is_among key (other ∷ others) = if bytes_eq other key then true else is_among 
 
 -- The first fault of events that come after capturing placeholders. `before` are these, the nearest first,
 -- and `taken` are their keys.
-abbrev pub first_fault_after : Bool → List Label → List (List ℕ) → List Event → Option Finding
+abbrev pub first_fault_after : Bool → List Label → List (List ℕ) → List Event → Option TreeFault
 first_fault_after alias_only before taken [] = None
 first_fault_after alias_only before taken (Text text ∷ events) = first_fault_after alias_only before taken events
 first_fault_after alias_only before taken (Close ∷ events) = first_fault_after alias_only before taken events
 first_fault_after alias_only before taken (FaultEvent fault ∷ events) = Some (Structural fault)
 first_fault_after alias_only before taken (Open label meaning ∷ events) =
-    if is_recorded alias_only label
+    if is_capturing alias_only label
     then (if is_among (key_after before label) taken
     then Some (Clash (key_after before label))
     else first_fault_after alias_only (label ∷ before) (key_after before label ∷ taken) events)
@@ -76,7 +76,7 @@ first_fault_after alias_only before taken (Open label meaning ∷ events) =
 
 -- THE FIRST FAULT in reading order. At one and the same placeholder a missing definition comes first, then
 -- a clash, and then the depth.
-abbrev pub first_fault : Bool → List Event → Option Finding
+abbrev pub first_fault : Bool → List Event → Option TreeFault
 first_fault alias_only tree = first_fault_after alias_only [] [] tree
 
 -- ---- extracts
@@ -91,7 +91,7 @@ extract_after before key (label ∷ labels) found =
     else found)
 
 abbrev pub extract_of : Bool → List Event → List ℕ → Option (List ℕ)
-extract_of alias_only tree key = extract_after [] key (recorded alias_only tree) None
+extract_of alias_only tree key = extract_after [] key (capturing alias_only tree) None
 
 -- ---- which placeholders can clash
 
@@ -125,7 +125,8 @@ AreDistinct [] = Unit {0}
 AreDistinct (key ∷ keys) = (is_among key keys ≡ false) × AreDistinct keys
 
 -- THE LAWS: a key ends so exactly if it is a numbered one. If no alias that ends so is reached, the first
--- fault is a structural one. Without a fault, no two capturing placeholders have the same key.
+-- fault is a structural one. If the first fault is not a clash, no two capturing placeholders before it have
+-- the same key; without a fault, no two of the whole tree.
 abbrev pub EndsInNumberWhereNumbered : Type 0
 EndsInNumberWhereNumbered = (key : List ℕ) → (ends_in_number key ≡ true)
     ↔ ((front : List ℕ) × (count : ℕ) × (key ≡ numbered front (suc count)))
@@ -137,5 +138,6 @@ ClashNeedsNumber = (alias_only : Bool) (stored : Definitions) (pattern : List �
     (first_structural (tree stored pattern))
 
 abbrev pub KeysAreDistinct : Type 0
-KeysAreDistinct = (alias_only : Bool) (tree : List Event) → first_fault alias_only tree ≡ None
-    → AreDistinct (keys (recorded alias_only tree))
+KeysAreDistinct = (alias_only : Bool) (tree : List Event)
+    → ((key : List ℕ) → first_fault alias_only tree ≡ Some (Clash key) → ⊥)
+    → AreDistinct (keys (capturing alias_only (reached tree)))

@@ -16,10 +16,10 @@ pub mod RegexFinds
 pub mod OwnSearches
 pub mod Engines
 pub mod KeyTable
-pub mod KeyPlaces
+pub mod KeyRanges
 pub mod Answers
 pub mod Groups
-pub mod Lent
+pub mod BorrowedMatches
 pub mod AnswerLaws
 pub mod Spans
 pub mod Sources
@@ -31,19 +31,21 @@ pub mod Expanded
 pub mod Items
 pub mod Events
 pub mod Errors
-pub mod OpensSoFar
+pub mod CapturedSoFar
 pub mod FirstFault
-pub mod Wanted
+pub mod KeyUses
 pub mod Tallied
 pub mod Walks
-pub mod Passing
+pub mod FirstFaultSteps
 pub mod Writes
 pub mod Compiled
 pub mod Named
 pub mod Sizes
-pub mod Remembered
+pub mod MeasuredOnce
 pub mod Measured
-pub mod Met
+pub mod MeasureCache
+pub mod FaultPlaces
+pub mod FirstWrong
 pub mod TreeLaws
 -- THE WORDS FOR CALLERS: every word that a contract of a public call uses.
 -- pieces
@@ -55,11 +57,13 @@ pub use Rattle.grok.specs.Texts.{component_text}
 pub use Rattle.grok.specs.Maps.{set_all, pair_texts}
 pub use Rattle.grok.specs.DefaultDefinitions.{default_definitions}
 pub use Rattle.grok.specs.Tree.{Definitions, Event, Fault, tree, first_structural, reached}
-pub use Rattle.grok.specs.Keys.{recorded, keys, extract_of, first_fault}
+pub use Rattle.grok.specs.Keys.{capturing, keys, extract_of, first_fault}
 pub use Rattle.grok.specs.Expanded.{expanded}
 -- sizes
 pub use Rattle.grok.specs.Measured.{measured_tree, reached_pieces, reached_texts, counted}
-pub use Rattle.grok.specs.Met.{measure_view}
+pub use Rattle.grok.specs.MeasureCache.{measure_view}
+-- where the first structural fault stands
+pub use Rattle.grok.specs.FaultPlaces.{IsFaultAt, path_view}
 -- errors, and what compiling answers
 pub use Rattle.grok.specs.Items.{fault_view}
 pub use Rattle.grok.specs.Errors.{ErrorValue, error_value, error_text}
@@ -73,4 +77,4 @@ pub use Rattle.regex.specs.Strings
 -- patterns and matches
 pub use Rattle.grok.specs.KeyTable.{Entries, IsKeyTable}
 pub use Rattle.grok.specs.Answers.{PatternValue, MatchesValue, answer_of, walk}
-pub use Rattle.grok.specs.Lent.{lent_keys, lent_captures}
+pub use Rattle.grok.specs.BorrowedMatches.{borrowed_keys, borrowed_captures}

@@ -1,21 +1,21 @@
--- Where the groups of a match stand in its line, and the texts that stand there.
+-- The byte ranges of the groups of a match in its line, and their texts.
 use Rattle.std.specs.Prelude.{ℕ, ◌≤◌, List, Option, All, map, option_map, slice_range, IsCharBoundary}
 use Rattle.std.specs.Option.{ForSome}
 
--- a start and an end in bytes, where the line can be cut
+-- a start and an end in bytes, both at character boundaries of the line
 pub record IsLocationIn (line : List ℕ) (location : ℕ × ℕ) : Type 0 where
   pub ordered : location.0 ≤ location.1
   pub begins : IsCharBoundary line location.0
   pub ends : IsCharBoundary line location.1
 
--- each group that took part has its place in the line
+-- the range of each group that took part is one of the line
 abbrev pub AreLocationsIn : List ℕ → List (Option (ℕ × ℕ)) → Type 0
 AreLocationsIn line locations = All (λ location. ForSome location (IsLocationIn line)) locations
 
--- the text that stands there
+-- the text in that range
 abbrev pub located_text : List ℕ → ℕ × ℕ → List ℕ
 located_text line location = slice_range line location.0 location.1
 
--- the text of each group, where it took part
+-- the text of each group, if it took part
 abbrev pub located_texts : List ℕ → List (Option (ℕ × ℕ)) → List (Option (List ℕ))
 located_texts line locations = map (option_map (located_text line)) locations

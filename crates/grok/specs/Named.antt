@@ -1,4 +1,4 @@
--- Which pairs of a list name a definition.
+-- Whether a list of pairs has a definition of a name.
 use Rattle.std.specs.Prelude.{◌≢◌, ℕ, List, [], ◌∷◌}
 
 -- no pair of a name and its definition has this name

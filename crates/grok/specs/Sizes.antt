@@ -1,11 +1,12 @@
--- The size of what a text stands for, added up item by item.
+-- The size of an expanded text, added up item by item.
 use Rattle.std.specs.Prelude.{ℕ, zero, suc, ◌+◌, max, Bool, List, [], ◌∷◌, length, if◌then◌else◌, Result, Ok, Err}
 use Rattle.grok.specs.Tree.{Fault, TooDeep, Label, meaning_text, Item, TextItem, FaultItem, PlaceholderItem}
-use Rattle.grok.specs.Keys.{is_recorded}
+use Rattle.grok.specs.Keys.{is_capturing}
 use Rattle.grok.specs.Numeral.{numeral}
 use Rattle.grok.specs.GeneratedNames.{bracket_bytes}
 
--- The bytes without the numbers of groups, the groups, and how deep the opens go, 0 if there is none.
+-- The bytes without the numbers of groups, the number of groups, and how many levels are nested (0 without a
+-- placeholder).
 pub record Size : Type 0 where
   pub bytes : ℕ
   pub groups : ℕ
@@ -20,31 +21,31 @@ size_of_bytes text = record { bytes = length text; groups = 0; height = 0 }
 abbrev pub plus : Size → Size → Size
 plus a b = record { bytes = a.bytes + b.bytes; groups = a.groups + b.groups; height = max a.height b.height }
 
--- one after the other: the first fault, or the sum
+-- one text after the other: the first fault, or else the sizes together
 abbrev pub both : Result Size Fault → Result Size Fault → Result Size Fault
 both (Err fault) s = Err fault
 both (Ok a) (Err fault) = Err fault
 both (Ok a) (Ok b) = Ok (plus a b)
 
--- the brackets of an open, which is recorded or not, around what is inside, without the number
+-- the size of a placeholder with its brackets, from that of its text; the number of its group is left out
 abbrev pub in_brackets : Bool → Size → Size
-in_brackets recorded inner = record {
-  bytes = bracket_bytes recorded + inner.bytes;
-  groups = (if recorded then 1 else 0) + inner.groups;
+in_brackets capturing inner = record {
+  bytes = bracket_bytes capturing + inner.bytes;
+  groups = (if capturing then 1 else 0) + inner.groups;
   height = suc inner.height;
 }
 
 abbrev pub sum_in_brackets : Bool → Result Size Fault → Result Size Fault
-sum_in_brackets recorded (Err fault) = Err fault
-sum_in_brackets recorded (Ok inner) = Ok (in_brackets recorded inner)
+sum_in_brackets capturing (Err fault) = Err fault
+sum_in_brackets capturing (Ok inner) = Ok (in_brackets capturing inner)
 
 abbrev pub bracketed : Bool → Label → Size → Size
-bracketed alias_only label = in_brackets (is_recorded alias_only label)
+bracketed alias_only label = in_brackets (is_capturing alias_only label)
 
 abbrev pub wrapped : Bool → Label → Result Size Fault → Result Size Fault
-wrapped alias_only label = sum_in_brackets (is_recorded alias_only label)
+wrapped alias_only label = sum_in_brackets (is_capturing alias_only label)
 
--- the size of an item, where `inner` is that of the text of an open
+-- the size of an item, where `inner` gives that of a placeholder's text
 abbrev pub size_of : Bool → (List ℕ → Result Size Fault) → Item → Result Size Fault
 size_of alias_only inner (TextItem text) = Ok (size_of_bytes text)
 size_of alias_only inner (FaultItem fault) = Err fault
@@ -55,18 +56,18 @@ abbrev pub sizes : Bool → (List ℕ → Result Size Fault) → List Item → R
 sizes alias_only inner [] = Ok no_size
 sizes alias_only inner (item ∷ items) = both (size_of alias_only inner item) (sizes alias_only inner items)
 
--- The size of an opened text, where so many levels may still be opened, itself among them. `resolve` gives
--- the items of each text.
+-- The size of a placeholder's text with `levels` levels left, its own among them. `resolve` gives the items of
+-- each text.
 abbrev pub size_or_fault : Bool → (List ℕ → List Item) → ℕ → List ℕ → Result Size Fault
 size_or_fault alias_only resolve zero text = Err TooDeep
 size_or_fault alias_only resolve (suc levels) text = sizes alias_only
     (size_or_fault alias_only resolve levels) (resolve text)
 
--- the decimal places of so many numbers in a row, from the first on
-abbrev pub places_from : ℕ → ℕ → ℕ
-places_from first zero = 0
-places_from first (suc count) = length (numeral first) + places_from (suc first) count
+-- how many decimal digits `count` numbers in a row have together, from the first on
+abbrev pub digits_from : ℕ → ℕ → ℕ
+digits_from first zero = 0
+digits_from first (suc count) = length (numeral first) + digits_from (suc first) count
 
--- the length of a text of this size: it doesn't ask which group stands where
+-- the length of a text of this size, with the numbers of its groups
 abbrev pub length_of : Size → ℕ
-length_of size = size.bytes + places_from 0 size.groups
+length_of size = size.bytes + digits_from 0 size.groups

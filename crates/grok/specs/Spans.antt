@@ -1,18 +1,18 @@
 -- The pieces of a text, kept as ranges of it.
 use Rattle.std.specs.Prelude.{◌≡◌, ℕ, ◌+◌, ◌-◌, ◌≤◌, if◌then◌else◌, ◌==◌, List, All, map, length, slice_range, IsCharBoundary}
-use Rattle.grok.specs.declared.defs.spans.Place.{Place}
-use Rattle.grok.specs.declared.defs.spans.Places.{Places}
+use Rattle.grok.specs.declared.defs.spans.TextRange.{TextRange}
+use Rattle.grok.specs.declared.defs.spans.PartRanges.{PartRanges}
 use Rattle.grok.specs.declared.defs.spans.Span.{Span}
 use Rattle.grok.specs.declared.defs.spans.Span.TheVariants.{Regular, Placeholder, Malformed}
 use Rattle.grok.specs.Pieces as spec
 
 -- ---- reading a span
 
--- what stands in the range
-abbrev pub text_in : List ℕ → Place → List ℕ
+-- the text in the range
+abbrev pub text_in : List ℕ → TextRange → List ℕ
 text_in T p = slice_range T p.from p.to
 
-abbrev pub parts_in : List ℕ → Places → spec.Parts
+abbrev pub parts_in : List ℕ → PartRanges → spec.Parts
 parts_in T p = record { name = text_in T p.name; alias = text_in T p.alias; extract = text_in T p.extract; definition = text_in T p.definition }
 
 -- the piece that a span of the text stands for
@@ -21,22 +21,22 @@ piece_in T (Regular p) = spec.Regular p.from p.to (text_in T p)
 piece_in T (Placeholder p parts) = spec.Placeholder p.from p.to (text_in T p) (parts_in T parts)
 piece_in T (Malformed f) = spec.Malformed f
 
--- the range begins and ends where characters of the text do
-pub record IsPlaceOf (T : List ℕ) (p : Place) : Type 0 where
+-- the range begins and ends at character boundaries of the text
+pub record IsRangeOf (T : List ℕ) (p : TextRange) : Type 0 where
   pub ordered : p.from ≤ p.to
   pub begins : IsCharBoundary T p.from
   pub ends : IsCharBoundary T p.to
 
-pub record ArePlacesOf (T : List ℕ) (p : Places) : Type 0 where
-  pub name : IsPlaceOf T p.name
-  pub alias : IsPlaceOf T p.alias
-  pub extract : IsPlaceOf T p.extract
-  pub definition : IsPlaceOf T p.definition
+pub record AreRangesOf (T : List ℕ) (p : PartRanges) : Type 0 where
+  pub name : IsRangeOf T p.name
+  pub alias : IsRangeOf T p.alias
+  pub extract : IsRangeOf T p.extract
+  pub definition : IsRangeOf T p.definition
 
 -- each range of the span is one of the text
 abbrev pub IsSpanOf : List ℕ → Span → Type 0
-IsSpanOf T (Regular p) = IsPlaceOf T p
-IsSpanOf T (Placeholder p parts) = IsPlaceOf T p × ArePlacesOf T parts
+IsSpanOf T (Regular p) = IsRangeOf T p
+IsSpanOf T (Placeholder p parts) = IsRangeOf T p × AreRangesOf T parts
 IsSpanOf T (Malformed f) = Unit {0}
 
 -- the spans, read in the text, are its pieces
@@ -44,16 +44,16 @@ pub record AreSpansOf (T : List ℕ) (spans : List Span) : Type 0 where
   pub reads : map (piece_in T) spans ≡ spec.pieces T
   pub within : All (IsSpanOf T) spans
 
--- ---- where the parts of a piece stand
+-- ---- the ranges of the parts of a piece
 
--- the range of so many bytes from there on; a part that is empty stands at the start of the text
-abbrev pub placed : ℕ → ℕ → Place
-placed from len = if len == 0 then record { from = 0; to = 0 } else record { from = from; to = from + len }
+-- the range that begins at `from` and has `len` bytes; an empty part has the range at the start of the text
+abbrev pub range_from : ℕ → ℕ → TextRange
+range_from from len = if len == 0 then record { from = 0; to = 0 } else record { from = from; to = from + len }
 
--- the part stands there
+-- the part is the text in that range
 pub record StandsAt (T : List ℕ) (from : ℕ) (part : List ℕ) : Type 0 where
-  pub place : IsPlaceOf T (placed from (length part))
-  pub reads : text_in T (placed from (length part)) ≡ part
+  pub range : IsRangeOf T (range_from from (length part))
+  pub reads : text_in T (range_from from (length part)) ≡ part
 
 -- the parts of the placeholder from s to e, which is spelled `%{name:alias:extract=definition}`
 pub record PartsStand (T : List ℕ) (s e : ℕ) (p : spec.Parts) : Type 0 where
@@ -63,12 +63,12 @@ pub record PartsStand (T : List ℕ) (s e : ℕ) (p : spec.Parts) : Type 0 where
   pub extract : StandsAt T (s + 2 + length p.name + 1 + length p.alias + 1) p.extract
   pub definition : StandsAt T (e - 1 - length p.definition) p.definition
 
--- the piece from s to e has the text that stands there
+-- the piece from s to e has the text in that range
 pub record PieceStands (T : List ℕ) (s e : ℕ) (text : List ℕ) : Type 0 where
-  pub place : IsPlaceOf T (record { from = s; to = e })
+  pub range : IsRangeOf T (record { from = s; to = e })
   pub reads : text ≡ slice_range T s e
 
--- each text of the piece stands in T where the piece says
+-- each text of the piece is the part of T that the piece gives as its range
 abbrev pub IsPieceOf : List ℕ → spec.Piece → Type 0
 IsPieceOf T (spec.Regular s e text) = PieceStands T s e text
 IsPieceOf T (spec.Placeholder s e text parts) = PieceStands T s e text × PartsStand T s e parts

@@ -1,4 +1,4 @@
--- Laws of what placeholders stand for, and of the faults of a tree.
+-- Laws of the definitions of placeholders, and of the faults of a tree.
 use Rattle.std.specs.Prelude.{codes, ◌≡◌, ◌⊎◌, ℕ, suc, ◌+◌, Bool, true, false, List, [], ◌∷◌, ◌++◌, length, Some, None, slice_get}
 use Rattle.grok.specs.Pieces.{Parts, Piece, Regular, Placeholder, Malformed, pieces}
 use Rattle.grok.specs.Tree.{Definitions, is_absent, Fault, Missing, label_of, Inline, resolved, PlaceholderItem, items_of, Event, Text, Open, Close, FaultEvent, tree, first_structural, reached}
@@ -16,7 +16,7 @@ NoneDefines name (Malformed fault ∷ ps) = NoneDefines name ps
 NoneDefines name (Placeholder s e text parts ∷ ps) = (parts.name ≡ name → is_absent parts.definition ≡ true)
     × NoneDefines name ps
 
--- a placeholder with an inline definition stands for it
+-- a placeholder with an inline definition is resolved to it
 abbrev pub OwnDefinitionHolds : Type 0
 OwnDefinitionHolds = (stored : Definitions) (text : List ℕ) (before after : List Piece) (s e : ℕ)
     (pattern : List ℕ) (parts : Parts)
@@ -24,7 +24,7 @@ OwnDefinitionHolds = (stored : Definitions) (text : List ℕ) (before after : Li
     → slice_get (items_of stored text) (length before) ≡ Some
     (PlaceholderItem (label_of parts) (Inline parts.definition))
 
--- A placeholder without one stands for that of an earlier placeholder of its name in the same text, if no
+-- A placeholder without one is resolved to that of an earlier placeholder of its name in the same text, if no
 -- placeholder between them defines the name.
 abbrev pub EarlierDefinitionHolds : Type 0
 EarlierDefinitionHolds = (stored : Definitions) (text : List ℕ) (before between after : List Piece)
@@ -36,7 +36,7 @@ EarlierDefinitionHolds = (stored : Definitions) (text : List ℕ) (before betwee
     → slice_get (items_of stored text) (suc (length before + length between))
     ≡ Some (PlaceholderItem (label_of parts) (Inline earlier.definition))
 
--- If no placeholder before it in its own text defines the name, it stands for the stored definition, if
+-- If no placeholder before it in its own text defines the name, it is resolved to the stored definition, if
 -- there is one, whatever other texts define.
 abbrev pub StoredDefinitionHolds : Type 0
 StoredDefinitionHolds = (stored : Definitions) (text : List ℕ) (before after : List Piece) (s e : ℕ)
@@ -70,7 +70,7 @@ pub data IsHead : List ℕ → Type 0 where
   Unnamed : IsHead unnamed_head
   Numbered : (number : ℕ) → IsHead (named_head number)
 
--- the text is what the events write, where each open writes one of the two heads
+-- the text is what the events write, where each placeholder writes one of the two heads
 abbrev pub IsTextOf : List Event → List ℕ → Type 0
 IsTextOf [] text = text ≡ []
 IsTextOf (Text bytes ∷ events) text = (rest : List ℕ) × (text ≡ bytes ++ rest) × IsTextOf events rest

@@ -2,23 +2,23 @@
 use Rattle.std.specs.Prelude.{◌≡◌, ℕ, ◌+◌, ◌<◌, ◌≤◌, ◌^◌, Bool, List, ◌++◌, length, if◌then◌else◌, None}
 use Rattle.std.specs.String.{string_bytes, string_len, string_capacity}
 use Rattle.grok.specs.Tree.{Event, first_structural}
-use Rattle.grok.specs.Keys.{recorded}
+use Rattle.grok.specs.Keys.{capturing}
 use Rattle.grok.specs.GeneratedNames.{named_head, unnamed_head}
 use Rattle.grok.specs.Expanded.{text_after}
 use Rattle.grok.specs.declared.expand.write.Output.{Output}
 
--- what an open writes after so many groups
+-- what a placeholder writes as the head of its group, after `count` named groups
 abbrev pub head_of : Bool → ℕ → List ℕ
-head_of is_recorded count = if is_recorded then named_head count else unnamed_head
+head_of is_capturing count = if is_capturing then named_head count else unnamed_head
 
--- The events are clean, and the text that they stand for after what was written finds its room.
+-- The events are clean, and their text fits into the capacity that is left.
 pub record IsReady (alias_only : Bool) (events : List Event) (out : Output) : Type 0 where
   pub clean : first_structural events ≡ None
   pub room : string_len out.text + length (text_after alias_only out.groups events) ≤ string_capacity out.text
-  pub fits : out.groups + length (recorded alias_only events) < 2 ^ 64
+  pub fits : out.groups + length (capturing alias_only events) < 2 ^ 64
 
 -- The events were written.
 pub record Wrote (alias_only : Bool) (events : List Event) (old new : Output) : Type 0 where
   pub text : string_bytes new.text ≡ string_bytes old.text ++ text_after alias_only old.groups events
-  pub groups : new.groups ≡ old.groups + length (recorded alias_only events)
+  pub groups : new.groups ≡ old.groups + length (capturing alias_only events)
   pub capacity : string_capacity old.text ≤ string_capacity new.text

@@ -1,14 +1,14 @@
 //! Compiles patterns.
 
-ghost use Rattle.std.specs.Prelude.{◌≡◌, ◌≢◌, ℕ, ◌⊎◌, List, [], map, length as len, MatchResult, IfOk, Some, None};
+ghost use Rattle.std.specs.Prelude.{◌≡◌, ◌≢◌, ◌⊎◌, [], map, length as len, MatchResult, MatchOption, IfOk, None};
 ghost use Rattle.std.specs.Option.{option_map};
 ghost use Rattle.std.specs.FinMap as finite;
 ghost use Rattle.std.specs.String.{string_bytes};
 ghost use Rattle.std.specs.BTreeMap.{get_by_text};
-ghost use Rattle.grok.specs.Tree.{tree as tree_of, first_structural};
-ghost use Rattle.grok.specs.Keys.{first_fault};
+ghost use Rattle.grok.specs.Tree.{tree as tree_of, first_structural, reached};
+ghost use Rattle.grok.specs.Keys.{Structural, first_fault, has_numbered_alias};
 ghost use Rattle.grok.specs.Expanded.{expanded};
-ghost use Rattle.grok.specs.Walks.{finding_view};
+ghost use Rattle.grok.specs.Walks.{tree_fault_view};
 ghost use Rattle.grok.specs.Errors.{error_value, Memory as memory};
 ghost use Rattle.grok.specs.Compiled.{IsErrorOf, IsFirstError, error_of_refusal, IsBuilt, IsRefusal, Compiles, expansion_of};
 ghost use Rattle.grok.specs.RegexFinds.{IsReadByDefault, MayRefuse};
@@ -20,31 +20,31 @@ use crate::defs::Grok;
 use crate::engine::regex_engine::RegexEngine;
 use crate::engine::{Engine, Refusal};
 use crate::errors::Error;
-use crate::expand::first_fault::first_finding;
+use crate::errors::fault::TreeFault;
+use crate::expand::first_fault::find_first_fault;
 use crate::expand::key_assigner::KeyAssigner;
-use crate::expand::tallies::{Mode, Tallies};
-use crate::expand::walk::{Finding, walk};
-use crate::expand::write::write;
+use crate::expand::tallies::{CompileMode, DefinitionTallies};
+use crate::expand::write::{ExpandedPattern, write};
 use crate::key_table::KeyTable;
 use crate::matches::PatternOf;
-use crate::measure::Measure;
+use crate::measure::{FullMeasure, Measure};
 use std::alloc::{AllocError, Global};
 
-impl Finding<'_> {
-    /// The error that compiling answers for what it found first.
+impl TreeFault<'_> {
+    /// Returns the error that compiling returns for this fault.
     fn to_error(&self, alloc: Global) -> Result<Error, AllocError>
-        ensures { IfOk result (λ error. IsErrorOf (finding_view self.now) (error_value error)) }
+        ensures { IfOk result (λ error. IsErrorOf (tree_fault_view self.now) (error_value error)) }
     {
         match self {
-            Finding::Structural(fault) => fault.to_error(alloc),
-            Finding::Clash(key) => Ok(Error::GenericCompilationFailure(format!(in alloc;
+            TreeFault::Structural(fault) => fault.to_error(alloc),
+            TreeFault::Clash(key) => Ok(Error::GenericCompilationFailure(format!(in alloc;
                 "Alias {key} already exists"
             )?)),
         }
     }
 }
 
-/// The error for a text that the engine refused.
+/// Returns the error for a text that the engine refused.
 fn refused(alloc: Global, text: &str) -> Result<Error, AllocError>
     ensures { IfOk result (λ error. error_value error
         ≡ error_of_refusal Refusal.Refused text.now) }
@@ -53,7 +53,7 @@ fn refused(alloc: Global, text: &str) -> Result<Error, AllocError>
 }
 
 impl Refusal {
-    /// The error that compiling answers where the engine doesn't build the text.
+    /// Returns the error of compiling if the engine doesn't build the text.
     fn to_error(self, alloc: Global, text: &str) -> Result<Error, AllocError>
         ensures { IfOk result (λ error. error_value error ≡ error_of_refusal self text.now) }
     {
@@ -64,7 +64,7 @@ impl Refusal {
     }
 }
 
-/// The pattern that an engine builds from the text, with these keys and extracts.
+/// Builds an engine from the text, and returns the pattern with these keys and extracts.
 fn build<E: Engine>(alloc: Global, text: &str, given: KeyAssigner) -> Result<PatternOf<E>, Error>
     ensures { MatchResult result
         (IsBuilt E.source_of E.group_names text.now (map string_bytes given.keys.items)
@@ -81,30 +81,43 @@ fn build<E: Engine>(alloc: Global, text: &str, given: KeyAssigner) -> Result<Pat
 }
 
 impl Grok {
-    /// The error of a pattern whose tree has a structural fault: that of the first one, or of a clash before it. The names are those whose texts can be counted.
+    /// Returns the error of the first fault of a pattern that was measured, if an alias ends in a
+    /// number. Without such an alias nothing can clash, so the first fault is the structural one that
+    /// measuring found.
+    ///
+    /// # Errors
+    ///
+    /// If an allocation fails, or if a base key is used more than `usize::MAX` times before a fault.
     fn first_error<'a>(
         &'a self,
         pattern: &'a str,
         with_alias_only: bool,
-        names: &[(usize, &'a str)],
-    ) -> Result<Error, AllocError>
-        requires { first_structural (tree_of (finite.get self.now) pattern.now) ≢ None }
-        ensures { IfOk result
+        found: &FullMeasure<'a>,
+    ) -> Result<Option<Error>, AllocError>
+        requires { found.now.has_numbered_alias ≡ has_numbered_alias
+            (reached (tree_of (finite.get self.now) pattern.now)) }
+        ensures { IfOk result (λ error. MatchOption error
+            (first_fault with_alias_only (tree_of (finite.get self.now) pattern.now)
+            ≡ option_map Structural (first_structural (tree_of (finite.get self.now) pattern.now)))
             (λ error. IsFirstError with_alias_only (tree_of (finite.get self.now) pattern.now)
-            (error_value error)) }
+            (error_value error))) }
     {
-        let mode = Mode {
+        if !found.has_numbered_alias {
+            return Ok(None);
+        }
+        let mode = CompileMode {
             grok: self,
             with_alias_only,
         };
-        let tallies = Tallies::of_names(mode, names)?;
-        match first_finding(mode, &tallies, pattern)? {
-            None => unreachable!(),
-            Some(finding) => finding.to_error(self.alloc()),
+        let names = found.read_names(self.alloc())?;
+        let tallies = DefinitionTallies::of_names(mode, &names)?;
+        match find_first_fault(mode, &tallies, pattern)? {
+            None => Ok(None),
+            Some(tree_fault) => Ok(Some(tree_fault.to_error(self.alloc())?)),
         }
     }
 
-    /// Compiles a pattern whose tree has no structural fault, and stands for a text of so many bytes: only a clash, the engine or want of memory can hinder it.
+    /// Compiles a pattern that has no fault, and whose expanded text has `length` bytes.
     fn compile_clean<E: Engine>(
         &self,
         pattern: &str,
@@ -112,7 +125,8 @@ impl Grok {
         length: usize,
     ) -> Result<PatternOf<E>, Error>
         requires some { pattern.now ≢ [] }
-        requires clean { first_structural (tree_of (finite.get self.now) pattern.now) ≡ None }
+        requires clean { first_fault with_alias_only
+            (tree_of (finite.get self.now) pattern.now) ≡ None }
         requires long { length ≡ len (expanded with_alias_only
             (tree_of (finite.get self.now) pattern.now)) }
         ensures { Compiles E.source_of E.group_names E.may_refuse
@@ -120,13 +134,8 @@ impl Grok {
     {
         let alloc = self.alloc();
         let text = String::with_capacity(alloc, length)?;
-        match walk(self, pattern, with_alias_only)? {
-            Ok(given) => {
-                let text = write(self, pattern, with_alias_only, text)?;
-                build(alloc, text.as_str(), given)
-            }
-            Err(finding) => Err(finding.to_error(alloc)?),
-        }
+        let ExpandedPattern { text, keys } = write(self, pattern, with_alias_only, text)?;
+        build(alloc, text.as_str(), keys)
     }
 
     /// Compiles a pattern for an engine. Each placeholder is replaced by its definition, in a group
@@ -161,13 +170,15 @@ impl Grok {
         let found = self.measure_fully(pattern, with_alias_only)?;
         match found.measure {
             Measure::TooLong => Err(Error::Memory),
-            Measure::Fault(_) if found.has_numbered_alias => {
-                let names = found.read_names(self.alloc())?;
-                Err(self.first_error(pattern, with_alias_only, &names)?)
-            }
-            Measure::Fault(fault) => Err(fault.to_error(self.alloc())?),
+            Measure::Fault(fault) => match self.first_error(pattern, with_alias_only, &found)? {
+                Some(error) => Err(error),
+                None => Err(fault.to_error(self.alloc())?),
+            },
             Measure::Size { length, .. } => {
-                // What is known of the names isn't kept beside the text.
+                if let Some(error) = self.first_error(pattern, with_alias_only, &found)? {
+                    return Err(error);
+                }
+                // What measuring remembers isn't kept beside the text.
                 drop(found);
                 self.compile_clean(pattern, with_alias_only, length)
             }

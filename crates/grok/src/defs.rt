@@ -6,11 +6,13 @@ ghost use Rattle.grok.specs.DefaultDefinitions.{default_definitions};
 
 pub(crate) mod definition;
 pub(crate) mod items;
+pub(crate) mod names;
 pub(crate) mod pieces;
 mod spans;
 
 use crate::debug_map::write_map;
 use crate::defs::definition::Definition;
+use crate::defs::names::Names;
 use std::alloc::{AllocError, Global};
 use std::collections::BTreeMap;
 use std::fmt;
@@ -148,6 +150,15 @@ impl Grok {
         let definition = Definition::new(self.alloc, pattern)?;
         self.definitions.insert(key, definition)?;
         Ok(())
+    }
+
+    /// Returns the names that have a definition, each once, in byte order.
+    pub fn names(&self) -> Names<'_>
+        ensures { result ≡ finite.keys self.now }
+    {
+        Names {
+            keys: self.definitions.keys(),
+        }
     }
 
     /// Returns the allocator of the definitions.

@@ -58,7 +58,7 @@ pub trait Engine: Sized + Drop {
         ensures answer { IfOk result
             (λ found. option_map (λ captures. capture_texts captures.items) found
             ≡ answer_to self.now line.now) }
-        ensures places { IfOk result (λ found. IfSome found (λ captures. vec_len captures
+        ensures all_groups { IfOk result (λ found. IfSome found (λ captures. vec_len captures
             ≡ length (group_names self.now))) }
         ensures slices { IfOk result (λ found. IfSome found (λ captures. AreSlicesOf line.now
             (capture_texts captures.items))) };

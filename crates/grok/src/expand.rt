@@ -1,10 +1,9 @@
-//! Expands a pattern: its keys, its extracts and its text, or its first fault.
+//! Expands a pattern: finds its first fault, or computes its keys, its extracts and its text.
 
 pub(crate) mod events;
 pub(crate) mod first_fault;
 pub(crate) mod key_assigner;
+pub(crate) mod key_uses;
 pub(crate) mod numbered;
 pub(crate) mod tallies;
-pub(crate) mod walk;
-pub(crate) mod wanted;
 pub(crate) mod write;

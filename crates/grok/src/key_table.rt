@@ -56,7 +56,7 @@ fn groups_by_key<'a>(
 
 /// The byte range of a key in the joined text of all keys, and its group.
 #[derive(Clone, Copy)]
-struct Place {
+struct KeyRange {
     start: usize,
     end: usize,
     group: usize,
@@ -66,54 +66,54 @@ struct Place {
 #[derive(Drop)]
 pub(crate) struct KeyTable {
     text: String,
-    places: Vec<Place>,
+    ranges: Vec<KeyRange>,
 }
 
 // Contracts see the keys with their groups, in byte order.
 impl Model for KeyTable {
     ghost use Rattle.std.specs.String.{string_bytes};
     ghost use Rattle.grok.specs.KeyTable.{Entries};
-    ghost use Rattle.grok.specs.KeyPlaces.{entries_at, IsTable};
+    ghost use Rattle.grok.specs.KeyRanges.{entries_at, IsTable};
 
     ghost Value = { Entries };
 
-    ghost view = { λ table. entries_at (string_bytes table.text) table.places.items };
+    ghost view = { λ table. entries_at (string_bytes table.text) table.ranges.items };
 
-    ghost invariant = { λ table. IsTable (string_bytes table.text) table.places.items };
+    ghost invariant = { λ table. IsTable (string_bytes table.text) table.ranges.items };
 }
 
-ghost use Rattle.grok.specs.KeyPlaces.{key_at, key_or_none, entry_of, IsExtended, IsPlace};
+ghost use Rattle.grok.specs.KeyRanges.{key_at, key_or_none, entry_of, IsExtended, IsKeyRange};
 
 /// Returns the bytes of a key, or none if the text has no such range.
-fn bytes_at(text: &str, place: Place) -> &[u8]
-    ensures { result.now ≡ key_or_none text.now place }
+fn bytes_at(text: &str, range: KeyRange) -> &[u8]
+    ensures { result.now ≡ key_or_none text.now range }
 {
-    match text.as_bytes().get(place.start..place.end) {
+    match text.as_bytes().get(range.start..range.end) {
         Some(key) => key,
         None => &[],
     }
 }
 
 /// Compares the key of an entry with a key.
-fn compare_at(text: &str, place: Place, key: &str) -> Ordering
-    ensures { result ≡ slice_cmp nat_cmp (key_or_none text.now place) key.now }
+fn compare_at(text: &str, range: KeyRange, key: &str) -> Ordering
+    ensures { result ≡ slice_cmp nat_cmp (key_or_none text.now range) key.now }
 {
-    bytes_at(text, place).cmp(key.as_bytes())
+    bytes_at(text, range).cmp(key.as_bytes())
 }
 
 /// Appends a key to the text, and its entry to the entries.
 fn extend(
     text: &mut String,
-    places: &mut Vec<Place>,
+    ranges: &mut Vec<KeyRange>,
     key: &str,
     group: usize,
 ) -> Result<(), AllocError>
-    ensures { OnOk result (IsExtended (string_bytes text.old) places.old.items key.now group
-        (string_bytes text.new) places.new.items) }
+    ensures { OnOk result (IsExtended (string_bytes text.old) ranges.old.items key.now group
+        (string_bytes text.new) ranges.new.items) }
 {
     let start = text.len();
     text.push_str(key)?;
-    places.push(Place {
+    ranges.push(KeyRange {
         start,
         end: text.len(),
         group,
@@ -129,11 +129,11 @@ impl KeyTable {
             (λ table. IsStrictlySortedBy (slice_cmp nat_cmp) (keys_of table)) }
     {
         let mut text = String::new(alloc);
-        let mut places = Vec::with_capacity(alloc, groups.len())?;
+        let mut ranges = Vec::with_capacity(alloc, groups.len())?;
         'groups: for (key, group) in groups {
-            extend(&mut text, &mut places, key, *group)?;
+            extend(&mut text, &mut ranges, key, *group)?;
         }
-        Ok(KeyTable { text, places })
+        Ok(KeyTable { text, ranges })
     }
 
     /// Makes the table for the names of an engine's groups and the numbered keys.
@@ -154,10 +154,10 @@ impl KeyTable {
     {
         let text = self.text.as_str();
         match self
-            .places
-            .binary_search_by(|place| compare_at(text, *place, key))
+            .ranges
+            .binary_search_by(|range| compare_at(text, *range, key))
         {
-            Ok(at) => Some(self.places[at].group),
+            Ok(at) => Some(self.ranges[at].group),
             Err(_) => None,
         }
     }
@@ -169,7 +169,7 @@ impl KeyTable {
     {
         KeyEntries {
             text: self.text.as_str(),
-            places: self.places.as_slice(),
+            ranges: self.ranges.as_slice(),
         }
     }
 }
@@ -178,28 +178,28 @@ impl KeyTable {
 #[derive(Drop)]
 pub(crate) struct KeyEntries<'a> {
     text: &'a str,
-    places: &'a [Place],
+    ranges: &'a [KeyRange],
 }
 
 // Contracts see the keys that are left, with their groups.
 impl<'a> Model for KeyEntries<'a> {
     ghost use Rattle.std.specs.List.{AllByRecursion};
     ghost use Rattle.grok.specs.KeyTable.{Entries};
-    ghost use Rattle.grok.specs.KeyPlaces.{entries_at, IsPlace};
+    ghost use Rattle.grok.specs.KeyRanges.{entries_at, IsKeyRange};
 
     ghost Value = { Entries };
 
-    ghost view = { λ left. entries_at left.text.now left.places.now };
+    ghost view = { λ left. entries_at left.text.now left.ranges.now };
 
-    ghost invariant = { λ left. AllByRecursion (IsPlace left.text.now) left.places.now };
+    ghost invariant = { λ left. AllByRecursion (IsKeyRange left.text.now) left.ranges.now };
 }
 
 /// Returns the key of an entry.
-fn key_of<'a>(text: &'a str, place: Place) -> &'a str
-    requires { IsPlace text.now place }
-    ensures { result.now ≡ key_at text.now place }
+fn key_of<'a>(text: &'a str, range: KeyRange) -> &'a str
+    requires { IsKeyRange text.now range }
+    ensures { result.now ≡ key_at text.now range }
 {
-    &text[place.start..place.end]
+    &text[range.start..range.end]
 }
 
 impl<'a> Iterator for KeyEntries<'a> {
@@ -212,9 +212,9 @@ impl<'a> Iterator for KeyEntries<'a> {
     ghost remaining = { item_count (λ left. left) };
 
     fn next(&mut self) -> Option<(&'a str, usize)> {
-        let (first, rest) = self.places.split_first()?;
+        let (first, rest) = self.ranges.split_first()?;
         let key = key_of(self.text, *first);
-        self.places = rest;
+        self.ranges = rest;
         Some((key, first.group))
     }
 }

@@ -14,9 +14,9 @@ pub use splitting::pieces;
 
 /// Laws of the definitions of a library.
 ///
-/// Without a definition no name has a text. A text that is set stands at its name and leaves every
-/// other name as it was. Of the pairs that are set one after another, the last one of a name counts.
-#[tactic(auto, using(crate::proofs::Sets::sets))]
+/// Without a definition no name has a text. If a text is set for a name, that name
+/// has it, and every other name keeps what it had. Of the pairs that are set one after another, the last one of a name counts.
+#[tactic(auto, using(crate::proofs::Texts::SettingOneName::sets))]
 pub fn definitions()
     ensures none { (name : List ℕ) → finite.get (let texts : Texts = finite.empty in texts) name
         ≡ None }

@@ -14,8 +14,8 @@ ghost use Rattle.grok.specs.Maps.{pair_texts};
 ghost use Rattle.grok.specs.Debugs.{debug_pairs};
 ghost use Rattle.grok.specs.Answers.{extract_texts, capture_at, answer_of, walk};
 
+pub(crate) mod borrowed;
 pub(crate) mod groups;
-pub(crate) mod lent;
 pub(crate) mod matcher;
 pub(crate) mod search;
 
@@ -79,7 +79,7 @@ impl<'a, E> Model for MatchesOf<'a, E> {
 
 impl<E: Engine> PatternOf<E> {
     /// Makes a pattern of these parts.
-    #[tactic(auto, using(crate::proofs::AnswerLemmas::extract_found))]
+    #[tactic(auto, using(crate::proofs::KeyTables::WalksAreSorted::extract_found))]
     pub(crate) fn new(
         alloc: Global,
         engine: E,
@@ -119,7 +119,7 @@ impl<E: Engine> PatternOf<E> {
             ≡ E.answer_to self.now.engine text.now) }
         ensures pattern { IfOk result
             (λ found. IfSome found (λ matches. matches.pattern ≡ self.now)) }
-        ensures places { IfOk result (λ found. IfSome found (λ matches. length matches.captures
+        ensures all_groups { IfOk result (λ found. IfSome found (λ matches. length matches.captures
             ≡ length (E.group_names self.now.engine))) }
         ensures slices { IfOk result
             (λ found. IfSome found (λ matches. AreSlicesOf text.now matches.captures)) }
@@ -155,7 +155,7 @@ impl<E: Engine> PatternOf<E> {
     }
 
     /// Returns the extract of a key, whether or not a group has that key.
-    #[tactic(auto, using(crate::proofs::AnswerLemmas::extract_found))]
+    #[tactic(auto, using(crate::proofs::KeyTables::WalksAreSorted::extract_found))]
     pub fn get_extract(&self, name: &str) -> Option<&str>
         ensures { option_map text_of result ≡ finite.get self.now.extracts name.now }
     {

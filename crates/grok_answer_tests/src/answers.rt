@@ -255,7 +255,7 @@ fn check_default(rt: &(impl Abort + AllocGlobal), grok: &Grok, name: &str) -> Re
     check_keys(rt, name, &pattern, "k")
 }
 
-/// Each of the ten compiles by its name.
+/// Each of the default definitions compiles by its name.
 #[test]
 fn the_ten_compile(rt: HostRuntime) -> Result<(), Fail> {
     let grok = Grok::with_default_patterns(rt.alloc())?;

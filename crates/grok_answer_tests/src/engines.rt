@@ -10,18 +10,18 @@ use std::alloc::AllocError;
 use std::process::Abort;
 use std::test::Fail;
 
-/// The pattern is shown by the text of the row and, where that is said, by this behind it.
+/// The pattern is shown by the text of the row and, where that is said, by this after it.
 fn check_shown<E: Engine>(
     rt: &(impl Abort + AllocGlobal),
     row: &Row,
     pattern: &PatternOf<E>,
-    behind: Option<&str>,
+    suffix: Option<&str>,
 ) -> Result<(), Fail> {
     if let Compiled::Pattern(text, _) | Compiled::Refused(text) = row.compiled {
         assert_eq!(rt; pattern.text(), text, "{}", row.name);
-        if let Some(behind) = behind {
+        if let Some(suffix) = suffix {
             let given = shown(rt.alloc(), pattern)?;
-            let expected = format!(in rt.alloc(); "{text}{behind}")?;
+            let expected = format!(in rt.alloc(); "{text}{suffix}")?;
             assert_eq!(rt; given.as_str(), expected.as_str(), "{}", row.name);
         }
     }
@@ -44,14 +44,14 @@ fn check_taken<E: Engine>(
     row: &Row,
     grok: &Grok,
     with_alias_only: bool,
-    behind: Option<&str>,
+    suffix: Option<&str>,
 ) -> Result<(), Fail> {
     match grok.compile_with::<E>(row.pattern, with_alias_only) {
         Ok(pattern) => {
             let is_error = matches!(row.compiled, Compiled::Error(_));
             assert!(rt; !is_error, "{}: {}", row.name, pattern.text());
             check_extracts(rt, row, &pattern);
-            check_shown(rt, row, &pattern, behind)
+            check_shown(rt, row, &pattern, suffix)
         }
         Err(error) => check_error(rt, row, &error),
     }

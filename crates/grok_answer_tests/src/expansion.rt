@@ -47,8 +47,8 @@ pub struct Expansion<'a> {
     with_alias_only: bool,
     text: String,
     nesting: usize,
-    /// How many recorded placeholders have each wanted key.
-    wanted: BTreeMap<&'a str, usize>,
+    /// How many capturing placeholders have each base key.
+    uses: BTreeMap<&'a str, usize>,
     /// The keys of the recorded placeholders, in order.
     keys: Vec<String>,
     given: BTreeSet<String>,
@@ -114,7 +114,7 @@ impl<'a> Expansion<'a> {
             with_alias_only,
             text: String::new(alloc),
             nesting: 0,
-            wanted: BTreeMap::new(alloc),
+            uses: BTreeMap::new(alloc),
             keys: Vec::new(alloc),
             given: BTreeSet::new(alloc),
             clash: None,
@@ -149,14 +149,14 @@ impl<'a> Expansion<'a> {
         self.extracts.get(key).copied()
     }
 
-    /// The key of one more placeholder with this wanted key.
-    fn next_key(&mut self, wanted: &'a str) -> Result<String, AllocError> {
-        let before = self.wanted.get(&wanted).copied().unwrap_or(0);
-        self.wanted.insert(wanted, before.saturating_add(1))?;
+    /// The key of one more placeholder with this base key.
+    fn next_key(&mut self, base: &'a str) -> Result<String, AllocError> {
+        let before = self.uses.get(&base).copied().unwrap_or(0);
+        self.uses.insert(base, before.saturating_add(1))?;
         if before == 0 {
-            String::from_str(self.alloc, wanted)
+            String::from_str(self.alloc, base)
         } else {
-            format!(in self.alloc; "{wanted}[{before}]")
+            format!(in self.alloc; "{base}[{before}]")
         }
     }
 
@@ -185,9 +185,9 @@ impl<'a> Expansion<'a> {
     }
 
     /// Gives a recorded placeholder its number and its key.
-    fn record(&mut self, wanted: &'a str, extract: &'a str) -> Result<(), AllocError> {
+    fn record(&mut self, base: &'a str, extract: &'a str) -> Result<(), AllocError> {
         let number = self.keys.len();
-        let key = self.next_key(wanted)?;
+        let key = self.next_key(base)?;
         self.note_clash(key.as_str())?;
         self.note_extract(key.as_str(), extract)?;
         self.note_key(key)?;

@@ -8,6 +8,8 @@ mod answers;
 #[cfg(test)]
 mod compiling;
 #[cfg(test)]
+mod debugs;
+#[cfg(test)]
 mod engines;
 #[cfg(test)]
 mod expansion;

@@ -301,7 +301,7 @@ fn generated_names<'e>(
     Ok(numbered)
 }
 
-/// The name of the first group of the text, and what stands behind it.
+/// The name of the first group of the text, and the text after it.
 fn first_group(text: &str) -> Option<(&str, &str)> {
     let (_, head) = text.split_once("(?<")?;
     head.split_once(">")

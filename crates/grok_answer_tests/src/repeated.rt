@@ -181,7 +181,7 @@ fn lines_asked_again_and_again(rt: HostRuntime) -> Result<(), Fail> {
     Ok(())
 }
 
-/// Lines about as long as the tables serve: so many times `a`, what stands behind that, and the answer to the pattern
+/// Lines about as long as the tables serve: how many `a`, what follows them, and the answer to the pattern
 /// `^a*(?<last>[^a!])?(?<end>z)?$`.
 const LONG_LINES: [(usize, &str, &str); 14] = [
     // 399 bytes

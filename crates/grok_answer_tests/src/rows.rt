@@ -44,7 +44,7 @@ pub struct Row {
     pub looks: (u64, u64),
     pub measured: Measured,
     pub compiled: Compiled,
-    /// Over `Heads`, the keys and the pairs on the line `q`, as they are shown behind the text.
+    /// Over `Heads`, the keys and the pairs on the line `q`, as they are shown after the text.
     pub over_heads: Option<&'static str>,
     /// Keys with their extracts.
     pub extracts: &'static [(&'static str, Option<&'static str>)],
@@ -141,7 +141,7 @@ const PLAIN: &[Row] = &[
         ..BLANK
     },
     Row {
-        name: "no placeholder behind two percent signs",
+        name: "no placeholder after two percent signs",
         pattern: "é%%{A}",
         pieces: &["é", "%%{A}"],
         looks: (2, 1),
@@ -738,7 +738,7 @@ const INLINE: &[Row] = &[
     },
 ];
 
-/// Keys that several placeholders want.
+/// Keys that several placeholders ask for.
 const KEYS: &[Row] = &[
     Row {
         name: "an alias twice, and another between",
@@ -884,7 +884,7 @@ const FAULTS: &[Row] = &[
         ..BLANK
     },
     Row {
-        name: "a missing definition behind a placeholder",
+        name: "a missing definition after a placeholder",
         definitions: A,
         pattern: "%{A}%{nope}",
         pieces: &["%{A}", "%{nope}"],
@@ -894,7 +894,7 @@ const FAULTS: &[Row] = &[
         ..BLANK
     },
     Row {
-        name: "a missing definition behind two placeholders",
+        name: "a missing definition after two placeholders",
         definitions: A,
         pattern: "%{A}%{A}%{nope}",
         pieces: &["%{A}", "%{A}", "%{nope}"],
@@ -964,7 +964,7 @@ const FAULTS: &[Row] = &[
         ..BLANK
     },
     Row {
-        name: "a circle behind another name",
+        name: "a circle after another name",
         definitions: &[("A", "%{B}%{A}%{nope}"), ("B", "b")],
         pattern: "%{A}",
         pieces: &["%{A}"],
@@ -984,7 +984,7 @@ const FAULTS: &[Row] = &[
         ..BLANK
     },
     Row {
-        name: "a circle of three names behind a letter",
+        name: "a circle of three names after a letter",
         definitions: CIRCLE_OF_THREE,
         pattern: "x%{C}",
         pieces: &["x", "%{C}"],
@@ -1008,7 +1008,7 @@ const FAULTS: &[Row] = &[
 /// Malformed placeholders, in the pattern and in a definition.
 const MALFORMED: &[Row] = &[
     Row {
-        name: "a placeholder that is not closed, behind another one",
+        name: "a placeholder that is not closed, after another one",
         definitions: A,
         pattern: "%{A}%{",
         pieces: &["%{A}", "<error InvalidPattern>"],
@@ -1027,7 +1027,7 @@ const MALFORMED: &[Row] = &[
         ..BLANK
     },
     Row {
-        name: "a space in a name behind a letter",
+        name: "a space in a name after a letter",
         pattern: "x%{a b}",
         pieces: &["x", "<error InvalidCharacter(' ')>"],
         looks: (2, 0),

@@ -19,6 +19,7 @@ pub(crate) fn call(rt: &HostRuntime, name: &str) -> Result<()> {
     match name {
         "empty" => empty(rt),
         "patterns" => patterns(rt),
+        "names" => names(rt),
         "with_default_patterns" => with_default_patterns(rt),
         "default" => default(rt),
         "from_iter" => from_iter(rt),
@@ -36,6 +37,17 @@ fn empty(rt: &HostRuntime) -> Result<()> {
 
 fn patterns(rt: &HostRuntime) -> Result<()> {
     twice!(rt, grok::patterns());
+    Ok(())
+}
+
+fn first_names(grok: &Grok) -> [Option<&str>; 3] {
+    let mut names = grok.names();
+    [names.next(), names.next(), names.next()]
+}
+
+fn names(rt: &HostRuntime) -> Result<()> {
+    let grok = Grok::from_iter(rt.alloc(), &PAIRS)?;
+    twice!(rt, first_names(&grok));
     Ok(())
 }
 

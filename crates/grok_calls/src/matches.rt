@@ -1,4 +1,4 @@
-//! Matches of the pattern `%{MAC}` over the ten definitions, and the calls on them.
+//! Matches of the pattern `%{MAC}` over the default definitions, and the calls on them.
 use crate::LABELS;
 use anyhow::{Result, bail};
 use grok::{Engine, Grok, Matcher, Matches, Pattern, PatternOf};

@@ -1,4 +1,4 @@
-//! The measure of a pattern.
+//! The measure of a pattern, and where its first fault stands.
 use anyhow::{Result, bail};
 use grok::Grok;
 
@@ -7,6 +7,7 @@ pub(crate) fn call(rt: &HostRuntime, name: &str) -> Result<()> {
         "measure" => measure(rt),
         "counted" => counted(rt),
         "fault" => fault(rt),
+        "locate" => locate(rt),
         _ => bail!("no call has this name"),
     }
 }
@@ -32,5 +33,12 @@ fn counted(rt: &HostRuntime) -> Result<()> {
 fn fault(rt: &HostRuntime) -> Result<()> {
     let grok = two_levels(rt)?;
     twice!(rt, grok.measure("%{B:key[0]}%{MISSING}", true));
+    Ok(())
+}
+
+fn locate(rt: &HostRuntime) -> Result<()> {
+    let pairs = [("A", "a"), ("B", "%{A}%{MISSING}")];
+    let grok = Grok::from_iter(rt.alloc(), &pairs)?;
+    twice!(rt, grok.locate("%{A}%{B:key}"));
     Ok(())
 }

@@ -12,7 +12,7 @@ use std::io;
 use std::time::Instant;
 
 /// Times a call. Standard input has the pattern to split, the text for `regex`, or the definitions that the pattern is
-/// measured and compiled over, and behind an empty line the log that it matches.
+/// measured and compiled over, and after an empty line the log that it matches.
 pub(crate) fn call(rt: &HostRuntime, name: &str, pattern: Option<&str>) -> Result<()> {
     match (name, pattern) {
         ("split", None) => time_split(rt),

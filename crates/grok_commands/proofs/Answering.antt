@@ -1,6 +1,7 @@
 -- Answers that have gone out, one after another.
 use Rattle.std.proofs.Common.{◌≡◌, ℕ, List, [], ◌∷◌, ◌++◌, Option, Some, None, refl, sym, ap, map, ◌∙◌, append_assoc, append-nil}
 use Rattle.std.specs.Io.KnownBytes.{Appends, Keeps}
+use Rattle.grok_lines.proofs.Appending.{appends_both, appends_same}
 use Rattle.grok_commands.specs.Answers.{AreAnswers, HasAnswered, HasBegun}
 
 -- `sent` are the first of `all`, their answers have gone out, and `left` are the others
@@ -9,27 +10,6 @@ pub record Answered {A : Type 0} (IsAnswer : A → List ℕ → Type 0) (all lef
   pub sent : List A
   pub are : all ≡ sent ++ left
   pub written : HasAnswered IsAnswer sent old new
-
-pub appends_both : (a b c : Option (List ℕ)) (x y : List ℕ) → Appends a b x → Appends b c y → Appends a c (x ++ y)
-appends_both None b c x y h k = tt
-appends_both (Some xs) None c x y h k = absurd h
-appends_both (Some xs) (Some ys) None x y h k = absurd k
-appends_both (Some xs) (Some ys) (Some zs) x y h k = k ∙ ap (λ v. v ++ y) h ∙ append_assoc xs x y
-
-pub appends_still : (a b c : Option (List ℕ)) (x : List ℕ) → Appends a b x → Keeps b c → Appends a c x
-appends_still None b c x h k = tt
-appends_still (Some xs) None c x h k = absurd h
-appends_still (Some xs) (Some ys) None x h k = absurd k
-appends_still (Some xs) (Some ys) (Some zs) x h k = k ∙ h
-
-pub appends_same : (a : Option (List ℕ)) → Appends a a []
-appends_same None = tt
-appends_same (Some xs) = sym (append-nil xs)
-
-pub appends_none : (a b : Option (List ℕ)) → Keeps a b → Appends a b []
-appends_none None b h = tt
-appends_none (Some xs) None h = absurd h
-appends_none (Some xs) (Some ys) h = h ∙ sym (append-nil xs)
 
 pub answers_more : {A : Type 0} (IsAnswer : A → List ℕ → Type 0) (xs : List A) (x : A) (bytes answer : List ℕ)
     → AreAnswers IsAnswer xs bytes → IsAnswer x answer → AreAnswers IsAnswer (xs ++ x ∷ []) (bytes ++ answer)
@@ -55,10 +35,6 @@ pub answered_whole : {A : Type 0} (IsAnswer : A → List ℕ → Type 0) (all le
 answered_whole IsAnswer all left old now h e =
     let whole : all ≡ h.sent = h.are ∙ ap (λ v. h.sent ++ v) e ∙ append-nil h.sent in
     rw whole h.written
-
-pub answered_some : {A : Type 0} (IsAnswer : A → List ℕ → Type 0) (all left : List A) (old now : Option (List ℕ))
-    → Answered IsAnswer all left old now → HasBegun IsAnswer all old now
-answered_some IsAnswer all left old now h = (h.sent, left, h.are, h.written)
 
 -- ---- answers of another list
 

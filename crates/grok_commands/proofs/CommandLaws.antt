@@ -4,7 +4,7 @@ use Rattle.std.specs.Option.{option_map}
 use Rattle.std.specs.List.{AllByRecursion, list_all, position_or_len}
 use Rattle.std.specs.Str.{bytes_eq}
 use Rattle.std.proofs.lemmas.Bool.{eqb-true, cases_Bool, and_parts, and_from}
-use Rattle.grok.proofs.SameText.{same_text, text_same}
+use Rattle.grok.proofs.Texts.EqualBytesAreSameText.{same_text, text_same}
 use Rattle.grok_commands.specs.Commands.{is_equals, has_equals, cut_word, cut_words, definitions_of, RequestValue, CommandValue, Split, Measure, Match, Json, Check, mode_of, request_after, request_of, split_of, check_of, command_of}
 use Rattle.grok_commands.specs.CommandLaws.{mode_words, definition_words, NamesLackEquals, AreRequest, AreCommand, CommandsAreTheirWords, OtherWordsAreNoCommand}
 

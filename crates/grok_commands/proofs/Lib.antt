@@ -1,13 +1,6 @@
 pub mod Equals
-pub mod Named
 pub mod Answering
-pub mod Cuts
-pub mod LineFeeds
-pub mod LineLemmas
-pub mod LineLaws
 pub mod CommandLaws
-pub mod Held
-pub mod Steps
 pub mod Objects
 pub mod Utf8Lines
 pub mod Measures

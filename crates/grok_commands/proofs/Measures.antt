@@ -3,7 +3,7 @@ use Rattle.std.proofs.Common.{◌≡◌, ℕ, ◌<◌, List, [], ◌∷◌, Resu
 use Rattle.std.proofs.lemmas.List.{length-map, get_or-map}
 use Rattle.grok.specs.declared.measure.Measure.{Measure}
 use Rattle.grok.specs.Measured.{Measured}
-use Rattle.grok.specs.Met.{measure_view}
+use Rattle.grok.specs.MeasureCache.{measure_view}
 use Rattle.grok_commands.specs.Commands.{texts}
 use Rattle.grok_commands.specs.SizeTexts.{placeholder_of, IsMeasuredLine}
 

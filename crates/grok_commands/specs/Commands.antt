@@ -31,7 +31,7 @@ definitions_of words = if list_all has_equals words then Some (cut_words words) 
 
 -- ---- commands
 
--- what is told to words that are no command
+-- what is printed if the words are no command
 abbrev pub usage_text : List ℕ
 usage_text = codes "usage: grok_tool split PATTERN | measure [-a] PATTERN [NAME=DEF].."
     ++ codes " | match [-a] PATTERN [NAME=DEF].. | json [-a] PATTERN [NAME=DEF].."

@@ -2,6 +2,8 @@
 use Rattle.std.specs.Prelude.{ℕ, List, codes}
 use Rattle.grok.specs.Errors.{error_value, error_text}
 use Rattle.grok_commands.specs.Commands.{usage_text}
+use Rattle.grok_lines.specs.declared.error.LinesError.{LinesError}
+use Rattle.grok_lines.specs.declared.error.LinesError.TheVariants as lines
 use Rattle.grok_commands.specs.declared.fault.ToolFault.{ToolFault}
 use Rattle.grok_commands.specs.declared.fault.ToolFault.TheVariants.{Pattern, Usage, Memory, Read, Write}
 
@@ -11,3 +13,9 @@ fault_text Usage = usage_text
 fault_text Memory = codes "Out of memory"
 fault_text Read = codes "read failed"
 fault_text Write = codes "write failed"
+
+-- the fault of a run whose lines couldn't all be answered
+abbrev pub fault_of_lines : LinesError → ToolFault
+fault_of_lines lines.Memory = Memory
+fault_of_lines lines.Read = Read
+fault_of_lines (lines.Write reason) = Write

@@ -4,7 +4,7 @@ use Rattle.serde.specs.Event.{Log, Logs, map_begins}
 use Rattle.serde_json.specs.Events.{SendsMembers}
 use Rattle.grok_commands.specs.JsonObjects.{members_of}
 
--- The events of `object_of pairs`, but that the number of its members isn't said at its beginning.
+-- The events of `object_of pairs`, except that they don't give the number of members at the start.
 abbrev pub SendsObject : List (List ℕ × List ℕ) → Log → Log → Type 0
 SendsObject pairs old new =
     (first : Log) × Logs old first (map_begins None) × SendsMembers (members_of pairs) first new

@@ -6,18 +6,14 @@ pub mod Faults
 pub mod JsonEvents
 pub mod JsonObjects
 pub mod LineTexts
-pub mod Lines
-pub mod LineLaws
 pub mod CommandLaws
-pub mod Traffic
-pub mod Streams
 pub mod SizeTexts
 pub mod Split
 pub mod Runs
--- THE WORDS FOR CALLERS: each word that a clause of `run` is said in.
+-- THE WORDS FOR CALLERS: every word that a clause of `run` uses.
 pub use Rattle.grok_commands.specs.Commands.{texts, RequestValue, CommandValue, command_of}
 pub use Rattle.grok_commands.specs.Runs.{Job, HasJob, IsPatternFault, IsUntouched, IsDone, IsCutShort, IsReadFault, IsWriteFault}
-pub use Rattle.grok_commands.specs.Traffic.{traffic}
+pub use Rattle.grok_lines.specs.Traffic.{traffic}
 pub use Rattle.grok_commands.specs.Library.{library_of}
 pub use Rattle.grok_commands.specs.Faults.{fault_text}
 pub use Rattle.grok.specs.Errors.{ErrorValue, error_value}

@@ -1,4 +1,4 @@
--- What a command answers, and how a run of it ends.
+-- What a command prints, and how a run of it ends.
 use Rattle.std.specs.Prelude.{◌≡◌, ◌≢◌, ◌⊎◌, ℕ, Bool, List, [], ◌∷◌, ◌++◌, Option, Some, length, map, codes}
 use Rattle.std.specs.Io.KnownBytes.{Appends, Keeps}
 use Rattle.std.specs.FinMap as finite
@@ -17,8 +17,8 @@ use Rattle.grok_commands.specs.Library.{library_of}
 use Rattle.grok_commands.specs.LineTexts.{Finds, line_answer}
 use Rattle.grok_commands.specs.SizeTexts.{text_of_size, measure_of, IsFaulty, IsCheckLine}
 use Rattle.grok_commands.specs.Split.{IsPieceLine}
-use Rattle.grok_commands.specs.Streams.{HasAnsweredInput, HasAnsweredEnded, HasAnsweredSome}
-use Rattle.grok_commands.specs.Traffic.{Traffic}
+use Rattle.grok_lines.specs.Streams.{HasAnsweredInput, HasAnsweredEnded, HasAnsweredSome}
+use Rattle.grok_lines.specs.Traffic.{Traffic}
 use Rattle.grok_commands.specs.declared.line_answers.LineFormat.{LineFormat}
 use Rattle.grok_commands.specs.declared.line_answers.LineFormat.TheVariants.{Pairs, Object}
 
@@ -58,11 +58,11 @@ IsRefused request error =
 abbrev pub answer_by : LineFormat → Compiled → List ℕ → List ℕ
 answer_by format pattern = line_answer format (finds_of pattern.engine) pattern.keys
 
--- the request has a pattern that is so
+-- the request has a pattern with this property
 abbrev pub HasPattern : RequestValue → (Compiled → Type 0) → Type 0
 HasPattern request Is = (pattern : Compiled) × IsCompiled request pattern × Is pattern
 
--- ---- WHAT A COMMAND ANSWERS
+-- ---- WHAT A COMMAND PRINTS
 
 -- the line of a piece, or of a definition
 pub data Answer : Type 0 where
@@ -79,7 +79,7 @@ pub data Job : Type 0 where
   Each : (answers : List Answer) → Job
   EachLine : (answer : List ℕ → List ℕ) → Job
 
--- the command has a job that is so
+-- the command has a job with this property
 abbrev pub HasJob : CommandValue → (Job → Type 0) → Type 0
 HasJob (Split pattern) Is = Is (Each (map PieceLine (pieces pattern)))
 HasJob (Measure request) Is =
@@ -113,19 +113,19 @@ IsDone t (One text) = IsUnread t × Appends t.written_old t.written_new text
 IsDone t (Each answers) = IsUnread t × HasAnswered IsAnswer answers t.written_old t.written_new
 IsDone t (EachLine answer) = HasAnsweredInput answer t
 
--- for want of memory
+-- because an allocation failed
 abbrev pub IsCutShort : Traffic → Job → Type 0
 IsCutShort t (One text) = IsUntouched t
 IsCutShort t (Each answers) = IsUnread t × HasBegun IsAnswer answers t.written_old t.written_new
 IsCutShort t (EachLine answer) = HasAnsweredSome answer t
 
--- for a failed read
+-- because a read failed
 abbrev pub IsReadFault : Traffic → Job → Type 0
 IsReadFault t (One text) = ⊥
 IsReadFault t (Each answers) = ⊥
 IsReadFault t (EachLine answer) = HasAnsweredEnded answer t
 
--- for a failed write, of which nothing more is said
+-- because a write failed; nothing more is stated then
 abbrev pub IsWriteFault : Traffic → Job → Type 0
 IsWriteFault t (One text) = IsUnread t
 IsWriteFault t (Each answers) = IsUnread t

@@ -1,4 +1,4 @@
--- What is printed of a measure_of pattern.
+-- What `measure` and `check` print of a measured pattern.
 use Rattle.std.specs.Prelude.{◌≡◌, ℕ, Bool, List, [], ◌∷◌, ◌++◌, Option, Some, None, codes, decimal}
 use Rattle.grok.specs.Maps.{Texts}
 use Rattle.grok.specs.Measured.{Measured, Faulty, Sized, TooLong, tree_of, measured_tree}
@@ -11,19 +11,19 @@ abbrev pub size_text : ℕ → ℕ → ℕ → List ℕ
 size_text length groups nesting = codes "length " ++ decimal length ++ codes " groups " ++ decimal groups
     ++ codes " nesting " ++ decimal nesting
 
--- what is printed where no fault was found
+-- what is printed if no fault was found
 abbrev pub text_of_size : Measured → Option (List ℕ)
 text_of_size (Faulty fault) = None
 text_of_size (Sized length groups nesting) = Some (size_text length groups nesting)
 text_of_size TooLong = Some (codes "too long")
 
--- the answer of a pattern, where these texts are defined
+-- the result of measuring a pattern over these definitions
 abbrev pub measured_in : Texts → Bool → List ℕ → Measured
 measured_in texts alias_only pattern = measured_tree alias_only (tree_of texts pattern)
 
 -- ---- measure
 
--- the answer of a request's pattern
+-- the result of measuring a request's pattern
 abbrev pub measure_of : RequestValue → Measured
 measure_of request = measured_in (library_of request.definitions) request.alias_only request.pattern
 
@@ -47,12 +47,12 @@ IsMeasuredText TooLong text = text ≡ codes "too long"
 abbrev pub placeholder_of : List ℕ → List ℕ
 placeholder_of name = codes "%{" ++ name ++ codes "}"
 
--- a name, `: `, what was measure_of, and a line feed
+-- a name, `: `, its size or fault, and a line feed
 abbrev pub IsMeasuredLine : Measured → List ℕ → List ℕ → Type 0
 IsMeasuredLine size name line = (text : List ℕ) × IsMeasuredText size text
     × (line ≡ name ++ codes ": " ++ text ++ codes "\n")
 
--- the line of a definition: its name, and what measuring its placeholder answers
+-- the line of a definition: its name, and the size or fault of its placeholder
 abbrev pub IsCheckLine : Texts → Bool → List ℕ → List ℕ → Type 0
 IsCheckLine texts alias_only name line = IsMeasuredLine (measured_in texts alias_only
     (placeholder_of name)) name line

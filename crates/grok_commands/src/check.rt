@@ -2,8 +2,9 @@
 ghost use Rattle.std.specs.Prelude.{◌≡◌, ◌⊎◌, map, OnOk, IfOk, IfErr, IsErrOf, string_bytes};
 ghost use Rattle.std.specs.FinMap as finite;
 ghost use Rattle.std.specs.Io.KnownBytes.{append_known};
+ghost use Rattle.grok_lines.specs.Errors.{IsWriteError};
 ghost use Rattle.grok_commands.specs.Answers.{HasAnswered, HasBegun};
-ghost use Rattle.grok.specs.Met.{measure_view};
+ghost use Rattle.grok.specs.MeasureCache.{measure_view};
 ghost use Rattle.grok_commands.specs.Library.{library_of};
 ghost use Rattle.grok_commands.specs.Commands.{texts};
 ghost use Rattle.grok_commands.specs.SizeTexts.{placeholder_of, IsMeasuredText, IsMeasuredLine, IsCheckLine};
@@ -11,8 +12,8 @@ ghost use Rattle.grok_commands.specs.SizeTexts.{placeholder_of, IsMeasuredText, 
 use crate::definitions::Definitions;
 use crate::fault::ToolFault;
 use crate::measure::write_measure;
-use crate::output::{finish, hold};
-use grok::Measure;
+use grok::{Grok, Measure};
+use grok_lines::{LinesError, finish, hold};
 use std::alloc::{AllocError, Global};
 use std::io::Write;
 
@@ -26,6 +27,13 @@ fn text_of(alloc: Global, measure: Measure<'_>) -> Result<String, AllocError>
         None => Ok(text),
         Some(fault) => fault.to_error(alloc)?.to_string(alloc),
     }
+}
+
+/// Returns the names of a library in a list, in byte order.
+fn names_in<'a>(alloc: Global, grok: &'a Grok) -> Result<Vec<&'a str>, AllocError>
+    ensures { IfOk result (λ names. texts names.items ≡ finite.keys grok.now) }
+{
+    grok.names().collect(alloc)
 }
 
 /// The placeholder of each name.
@@ -74,20 +82,20 @@ fn hold_definitions<W: Write>(
     definitions: &Definitions<'_>,
     held: &mut Vec<u8>,
     output: &mut W,
-) -> Result<(), ToolFault>
+) -> Result<(), LinesError>
     ensures ok { OnOk result (HasAnswered (IsCheckLine (library_of definitions.now) alias_only)
         (finite.keys (library_of definitions.now))
         (append_known (W.contents output.old) held.old.items)
         (append_known (W.contents output.new) held.new.items)) }
-    ensures memory { IsErrOf result ToolFault.Memory → HasBegun
+    ensures memory { IsErrOf result LinesError.Memory → HasBegun
         (IsCheckLine (library_of definitions.now) alias_only)
         (finite.keys (library_of definitions.now))
         (append_known (W.contents output.old) held.old.items)
         (append_known (W.contents output.new) held.new.items) }
-    ensures kind { IfErr result (λ fault. (fault ≡ ToolFault.Memory) ⊎ (fault ≡ ToolFault.Write)) }
+    ensures kind { IfErr result (λ error. (error ≡ LinesError.Memory) ⊎ IsWriteError error) }
 {
     let grok = definitions.library(alloc)?;
-    let names = definitions.names(alloc)?;
+    let names = names_in(alloc, &grok)?;
     let patterns = placeholders(alloc, &names)?;
     let texts = texts_in(alloc, &patterns)?;
     let measures = grok.measure_all(&texts, alias_only)?;
@@ -99,7 +107,7 @@ fn hold_definitions<W: Write>(
     Ok(())
 }
 
-/// Sends a line for each definition of the library, the ten too, in byte order of the names:
+/// Sends a line for each definition of the library, also the default ones, in byte order of the names:
 /// the name, `: `, and the size of `%{NAME}` as `measure` tells it, or the text of its error. A fault is a line as any other and ends nothing.
 ///
 /// # Errors
@@ -123,5 +131,5 @@ pub fn check_definitions<W: Write>(
 {
     let mut held = Vec::new(alloc);
     let ran = hold_definitions(alloc, alias_only, definitions, &mut held, output);
-    finish(ran, &mut held, output)
+    Ok(finish(ran, &mut held, output)?)
 }

@@ -6,7 +6,7 @@ ghost use Rattle.grok_commands.specs.Views.{request_view, command_view};
 
 use crate::definitions::Definitions;
 
-/// What is told to words that are no command.
+/// What is printed if the words are no command.
 pub const USAGE: &str = "usage: grok_tool split PATTERN | measure [-a] PATTERN [NAME=DEF].. \
     | match [-a] PATTERN [NAME=DEF].. | json [-a] PATTERN [NAME=DEF].. \
     | check [-a] [NAME=DEF]..";

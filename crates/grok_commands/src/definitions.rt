@@ -1,15 +1,11 @@
 //! The definitions of a command line.
-ghost use Rattle.std.specs.Prelude.{◌≡◌, true, map, IfOk, OnOk};
-ghost use Rattle.std.specs.FinMap as finite;
+ghost use Rattle.std.specs.Prelude.{◌≡◌, true, IfOk};
 ghost use Rattle.std.specs.List.{list_all};
-ghost use Rattle.grok.specs.Maps.{Texts, set_all, pair_texts};
-ghost use Rattle.grok.specs.DefaultDefinitions.{default_definitions};
 ghost use Rattle.grok_commands.specs.Commands.{texts, has_equals, cut_word, definitions_of};
 ghost use Rattle.grok_commands.specs.Library.{library_of};
 
-use grok::{Grok, patterns};
+use grok::Grok;
 use std::alloc::{AllocError, Global};
-use std::collections::BTreeMap;
 use std::marker::Model;
 
 /// Words `NAME=DEF`. Contracts see the names with their definitions.
@@ -51,42 +47,6 @@ fn cut<'a>(word: &'a str) -> (&'a str, &'a str)
     word.split_once('=').unwrap()
 }
 
-/// Sets the text of a name.
-fn set<'a>(
-    named: &mut BTreeMap<&'a str, &'a str>,
-    name: &'a str,
-    text: &'a str,
-) -> Result<(), AllocError>
-    ensures { OnOk result ((all : Texts) → map pair_texts named.old.entries ≡ finite.entries all
-        → map pair_texts named.new.entries ≡ finite.entries (finite.insert all name.now text.now)) }
-{
-    named.insert(name, text)?;
-    Ok(())
-}
-
-/// The definitions that a library begins with, by name.
-fn default_definitions<'a>(alloc: Global) -> Result<BTreeMap<&'a str, &'a str>, AllocError>
-    ensures { IfOk result (λ named. map pair_texts named.entries
-        ≡ finite.entries (set_all finite.empty default_definitions)) }
-{
-    let mut named = BTreeMap::new(alloc);
-    let pairs = patterns();
-    'pairs: for &(name, text) in pairs {
-        set(&mut named, name, text)?;
-    }
-    Ok(named)
-}
-
-/// The names, in byte order.
-fn names_in<'a>(
-    alloc: Global,
-    named: &BTreeMap<&'a str, &'a str>,
-) -> Result<Vec<&'a str>, AllocError>
-    ensures { IfOk result (λ names. names.items ≡ map (λ entry. entry.0) named.now.entries) }
-{
-    named.keys().copied().collect(alloc)
-}
-
 impl<'a> Definitions<'a> {
     /// The words, if each has a `=`.
     pub fn new(words: &'a [&'a str]) -> Option<Definitions<'a>>
@@ -110,18 +70,5 @@ impl<'a> Definitions<'a> {
             grok.add_pattern(name, text)?;
         }
         Ok(grok)
-    }
-
-    /// Each name that the library has, once, in byte order.
-    pub fn names(&self, alloc: Global) -> Result<Vec<&'a str>, AllocError>
-        ensures { IfOk result (λ names. texts names.items ≡ finite.keys (library_of self.now)) }
-    {
-        let mut named = default_definitions(alloc)?;
-        let words = self.words;
-        'words: for word in words {
-            let (name, text) = cut(word);
-            set(&mut named, name, text)?;
-        }
-        names_in(alloc, &named)
     }
 }

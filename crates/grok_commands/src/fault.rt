@@ -1,9 +1,10 @@
 //! Why a run ended early.
 ghost use Rattle.std.specs.Prelude.{◌≡◌, Some};
-ghost use Rattle.grok_commands.specs.Faults.{fault_text};
+ghost use Rattle.grok_commands.specs.Faults.{fault_text, fault_of_lines};
 ghost use Rattle.grok_commands.specs.declared.fault.ToolFault.TheVariants.{Memory};
 
 use crate::command::USAGE;
+use grok_lines::LinesError;
 use std::alloc::{AllocError, AllocFailed};
 use std::fmt;
 use thiserror::Error;
@@ -50,5 +51,17 @@ impl<T: Drop> From<AllocFailed<T>> for ToolFault {
 
     fn from(_error: AllocFailed<T>) -> ToolFault {
         ToolFault::Memory
+    }
+}
+
+impl From<LinesError> for ToolFault {
+    ghost from_gives = { λ error fault. fault ≡ fault_of_lines error };
+
+    fn from(error: LinesError) -> ToolFault {
+        match error {
+            LinesError::Memory => ToolFault::Memory,
+            LinesError::Read => ToolFault::Read,
+            LinesError::Write(_) => ToolFault::Write,
+        }
     }
 }

@@ -3,7 +3,7 @@ ghost use Rattle.std.specs.Prelude.{◌≡◌, ◌++◌, OnOk};
 ghost use Rattle.grok_commands.specs.JsonEvents.{SendsObject};
 ghost use Rattle.grok_commands.specs.JsonObjects.{object_text, ReadsBack};
 ghost use Rattle.grok.specs.Answers.{walk};
-ghost use Rattle.grok.specs.Lent.{lent_keys, lent_captures};
+ghost use Rattle.grok.specs.BorrowedMatches.{borrowed_keys, borrowed_captures};
 
 use grok::MatchesRef;
 use serde::{Described, Serialize, Serializer};
@@ -14,7 +14,7 @@ use std::alloc::{AllocError, Global};
 struct MatchObject<'m>(MatchesRef<'m>);
 
 impl<'m> Described for MatchObject<'m> {
-    ghost writes = { λ object. SendsObject (walk (lent_keys object.0) (lent_captures object.0)) };
+    ghost writes = { λ object. SendsObject (walk (borrowed_keys object.0) (borrowed_captures object.0)) };
 }
 
 impl<'m> Serialize for MatchObject<'m> {
@@ -35,10 +35,10 @@ pub fn write_object(
     matches: MatchesRef<'_>,
 ) -> Result<(), AllocError>
     ensures object { OnOk result (text.new.items ≡ text.old.items
-        ++ object_text (walk (lent_keys matches.entry) (lent_captures matches.entry))) }
-    ensures reads_back { OnOk result (ReadsBack (walk (lent_keys matches.entry)
-        (lent_captures matches.entry))
-        (object_text (walk (lent_keys matches.entry) (lent_captures matches.entry)))) }
+        ++ object_text (walk (borrowed_keys matches.entry) (borrowed_captures matches.entry))) }
+    ensures reads_back { OnOk result (ReadsBack (walk (borrowed_keys matches.entry)
+        (borrowed_captures matches.entry))
+        (object_text (walk (borrowed_keys matches.entry) (borrowed_captures matches.entry)))) }
 {
     // No step above is refused for another reason than memory.
     match serde_json::to_vec(alloc, &MatchObject(matches)) {

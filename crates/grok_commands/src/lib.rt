@@ -7,7 +7,7 @@ ghost use Rattle.grok_commands.specs.Commands.{texts, command_of};
 ghost use Rattle.grok_commands.specs.Runs.{HasJob, IsPatternFault, IsUntouched, IsDone, IsCutShort, IsReadFault, IsWriteFault};
 ghost use Rattle.grok.specs.Errors.{error_value};
 ghost use Rattle.grok.specs.declared.errors.error.Error.{Error};
-ghost use Rattle.grok_commands.specs.Traffic.{traffic};
+ghost use Rattle.grok_lines.specs.Traffic.{traffic};
 
 mod check;
 mod command;
@@ -18,9 +18,7 @@ pub mod laws;
 mod line_answers;
 mod matching;
 mod measure;
-mod output;
 mod split;
-mod stream;
 
 use command::{Command, read_command};
 pub use fault::ToolFault;

@@ -3,11 +3,11 @@ ghost use Rattle.std.specs.Prelude.{◌≡◌, ◌++◌, OnOk, Some, None, optio
 ghost use Rattle.std.specs.Str.{is_utf8};
 ghost use Rattle.grok_commands.specs.LineTexts.{pair_line, not_utf8_text, no_match_text, match_text};
 ghost use Rattle.grok.specs.Answers.{walk};
-ghost use Rattle.grok.specs.Lent.{lent_keys, lent_captures};
+ghost use Rattle.grok.specs.BorrowedMatches.{borrowed_keys, borrowed_captures};
 
 use crate::json_object::write_object;
-use crate::stream::LineAnswers;
 use grok::{HasMatcher, MatcherOf, MatchesRef};
+use grok_lines::LineAnswers;
 use std::alloc::{AllocError, Global};
 
 /// How the answer to a line is written.
@@ -45,7 +45,7 @@ fn write_pair(text: &mut Vec<u8>, key: &str, value: &str) -> Result<(), AllocErr
 /// Appends the pairs of a match.
 fn write_pairs(text: &mut Vec<u8>, matches: MatchesRef<'_>) -> Result<(), AllocError>
     ensures { OnOk result (text.new.items ≡ text.old.items
-        ++ flat_map pair_line (walk (lent_keys matches.entry) (lent_captures matches.entry))) }
+        ++ flat_map pair_line (walk (borrowed_keys matches.entry) (borrowed_captures matches.entry))) }
 {
     'pairs: for (key, value) in matches.iter() {
         write_pair(text, key, value)?;
@@ -83,7 +83,7 @@ impl LineFormat {
         matches: MatchesRef<'_>,
     ) -> Result<(), AllocError>
         ensures { OnOk result (text.new.items ≡ text.old.items
-            ++ match_text self (walk (lent_keys matches.entry) (lent_captures matches.entry))) }
+            ++ match_text self (walk (borrowed_keys matches.entry) (borrowed_captures matches.entry))) }
     {
         match self {
             LineFormat::Pairs => write_pairs(text, matches)?,

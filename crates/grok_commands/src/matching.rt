@@ -4,15 +4,15 @@ ghost use Rattle.std.specs.Io.KnownBytes.{Keeps};
 ghost use Rattle.grok.specs.Errors.{error_value, Memory as memory};
 ghost use Rattle.grok.specs.declared.errors.error.Error.{Error};
 ghost use Rattle.grok_commands.specs.Views.{request_view};
-ghost use Rattle.grok_commands.specs.Traffic.{traffic};
-ghost use Rattle.grok_commands.specs.Streams.{HasAnsweredInput, HasAnsweredEnded, HasAnsweredSome};
+ghost use Rattle.grok_lines.specs.Traffic.{traffic};
+ghost use Rattle.grok_lines.specs.Streams.{HasAnsweredInput, HasAnsweredEnded, HasAnsweredSome};
 ghost use Rattle.grok_commands.specs.Runs.{answer_by, IsCompiled, IsRefused, HasPattern};
 
 use crate::command::Request;
 use crate::fault::ToolFault;
 use crate::line_answers::{LineFormat, MatchAnswers};
-use crate::stream::answer_lines;
 use grok::Pattern;
+use grok_lines::{LineAnswers, answer_lines};
 use std::alloc::Global;
 use std::io::{Read, Write};
 
@@ -38,6 +38,29 @@ fn compile(alloc: Global, request: &Request<'_>) -> Result<Pattern, ToolFault>
     let grok = request.definitions.library(alloc)?;
     grok.compile(request.pattern, request.alias_only)
         .map_err(pattern_fault)
+}
+
+/// Answers each line of the input, as `answer_lines` does, and returns its error as a fault of a run.
+fn answer_each<A: LineAnswers, R: Read, W: Write>(
+    alloc: Global,
+    answers: &mut A,
+    input: &mut R,
+    output: &mut W,
+) -> Result<(), ToolFault>
+    ensures ok { OnOk result (HasAnsweredInput (A.answer answers.old)
+        (traffic (R.remaining input.old) (R.remaining input.new)
+        (W.contents output.old) (W.contents output.new))) }
+    ensures read { IsErrOf result ToolFault.Read → HasAnsweredEnded (A.answer answers.old)
+        (traffic (R.remaining input.old) (R.remaining input.new)
+        (W.contents output.old) (W.contents output.new)) }
+    ensures memory { IsErrOf result ToolFault.Memory → HasAnsweredSome (A.answer answers.old)
+        (traffic (R.remaining input.old) (R.remaining input.new)
+        (W.contents output.old) (W.contents output.new)) }
+    ensures kind { IfErr result
+        (λ fault. (fault ≡ ToolFault.Memory) ⊎ ((fault ≡ ToolFault.Read)
+        ⊎ (fault ≡ ToolFault.Write))) }
+{
+    Ok(answer_lines(alloc, answers, input, output)?)
 }
 
 /// Sends the answer to each line of the input, by the pattern of a request.
@@ -76,5 +99,5 @@ pub fn answer_input<R: Read, W: Write>(
         matcher: pattern.matcher()?,
         answer: Vec::new(alloc),
     };
-    answer_lines(alloc, &mut answers, input, output)
+    answer_each(alloc, &mut answers, input, output)
 }

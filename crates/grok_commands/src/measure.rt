@@ -4,15 +4,15 @@ ghost use Rattle.std.specs.Io.KnownBytes.{Appends, Keeps};
 ghost use Rattle.grok.specs.Errors.{error_value};
 ghost use Rattle.grok.specs.Items.{fault_view};
 ghost use Rattle.grok.specs.Measured.{Faulty};
-ghost use Rattle.grok.specs.Met.{measure_view};
+ghost use Rattle.grok.specs.MeasureCache.{measure_view};
 ghost use Rattle.grok_commands.specs.Views.{request_view};
 ghost use Rattle.grok_commands.specs.SizeTexts.{text_of_size, measure_of, IsFaulty};
 ghost use Rattle.grok.specs.declared.errors.error.Error.{Error};
 
 use crate::command::Request;
 use crate::fault::ToolFault;
-use crate::output::send;
 use grok::{Fault, Measure};
+use grok_lines::send;
 use std::alloc::{AllocError, Global};
 use std::io::Write;
 
@@ -74,5 +74,5 @@ pub fn measure_pattern<W: Write>(
         return Err(ToolFault::Pattern(fault.to_error(alloc)?));
     }
     text.push('\n')?;
-    send(&mut text.into_bytes(), output)
+    Ok(send(&mut text.into_bytes(), output)?)
 }

@@ -4,12 +4,13 @@ ghost use Rattle.std.specs.Io.KnownBytes.{append_known};
 ghost use Rattle.grok.specs.Pieces.{pieces};
 ghost use Rattle.grok.specs.Texts.{fault_words};
 ghost use Rattle.grok.specs.Views.{piece_view};
+ghost use Rattle.grok_lines.specs.Errors.{IsWriteError};
 ghost use Rattle.grok_commands.specs.Answers.{HasAnswered, HasBegun, Prints};
 ghost use Rattle.grok_commands.specs.Split.{IsPieceLine};
 
 use crate::fault::ToolFault;
-use crate::output::{finish, hold};
 use grok::parser::{GrokComponent, GrokPatternError, grok_split};
+use grok_lines::{LinesError, finish, hold};
 use std::alloc::{AllocError, Global};
 use std::io::Write;
 
@@ -42,14 +43,14 @@ fn hold_pieces<W: Write>(
     pattern: &str,
     held: &mut Vec<u8>,
     output: &mut W,
-) -> Result<(), ToolFault>
+) -> Result<(), LinesError>
     ensures ok { OnOk result (HasAnswered IsPieceLine (pieces pattern.now)
         (append_known (W.contents output.old) held.old.items)
         (append_known (W.contents output.new) held.new.items)) }
-    ensures memory { IsErrOf result ToolFault.Memory → HasBegun IsPieceLine (pieces pattern.now)
+    ensures memory { IsErrOf result LinesError.Memory → HasBegun IsPieceLine (pieces pattern.now)
         (append_known (W.contents output.old) held.old.items)
         (append_known (W.contents output.new) held.new.items) }
-    ensures kind { IfErr result (λ fault. (fault ≡ ToolFault.Memory) ⊎ (fault ≡ ToolFault.Write)) }
+    ensures kind { IfErr result (λ error. (error ≡ LinesError.Memory) ⊎ IsWriteError error) }
 {
     let mut text = String::new(alloc);
     'pieces: for piece in grok_split(pattern) {
@@ -69,5 +70,5 @@ pub fn split<W: Write>(alloc: Global, pattern: &str, output: &mut W) -> Result<(
 {
     let mut held = Vec::new(alloc);
     let ran = hold_pieces(alloc, pattern, &mut held, output);
-    finish(ran, &mut held, output)
+    Ok(finish(ran, &mut held, output)?)
 }

@@ -1,6 +1,6 @@
 //! What compiling each row of the table gives, over an engine that takes every text, so that what stops it is the library.
 
-use crate::rows::{DEEPEST, Row, rows};
+use crate::rows::{DEEPEST, Row, clashes, rows};
 use grok::Measure::Size;
 use grok::{Error, Grok, Measure, PatternOf};
 use grok_engines::Heads;
@@ -74,6 +74,14 @@ fn check_row(rt: &(impl Abort + AllocGlobal), row: &Row) -> Result<(), Fail> {
 #[test]
 fn compiled_texts(rt: HostRuntime) -> Result<(), Fail> {
     for row in rows() {
+        check_row(&rt, row)?;
+    }
+    Ok(())
+}
+
+#[test]
+fn compiled_clashes(rt: HostRuntime) -> Result<(), Fail> {
+    for row in clashes() {
         check_row(&rt, row)?;
     }
     Ok(())

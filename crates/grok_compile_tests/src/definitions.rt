@@ -3,8 +3,8 @@ use std::alloc::{AllocError, Global};
 use std::process::Abort;
 use std::test::Fail;
 
-/// The ten names with their definitions, written out.
-const TEN: [(&str, &str); 10] = [
+/// The default definitions with their names, written out.
+const DEFAULT_DEFINITIONS: [(&str, &str); 10] = [
     ("USERNAME", r"[a-zA-Z0-9._-]+"),
     ("USER", r"%{USERNAME}"),
     ("YEAR", r"(\d\d){1,2}"),
@@ -44,10 +44,10 @@ fn check_pair(rt: &impl Abort, given: &(&str, &str), expected: &(&str, &str)) {
 }
 
 #[test]
-fn the_ten(rt: HostRuntime) {
+fn default_definitions_are_these(rt: HostRuntime) {
     let given = patterns();
-    assert_eq!(rt; given.len(), TEN.len());
-    for (pair, expected) in given.iter().zip(TEN.iter()) {
+    assert_eq!(rt; given.len(), DEFAULT_DEFINITIONS.len());
+    for (pair, expected) in given.iter().zip(DEFAULT_DEFINITIONS.iter()) {
         check_pair(&rt, pair, expected);
     }
 }
@@ -73,7 +73,7 @@ fn default_libraries(rt: HostRuntime) -> Result<(), Fail> {
         ciscomac,
         windowsmac,
         commonmac,
-    ] = TEN;
+    ] = DEFAULT_DEFINITIONS;
     let sorted = [
         ciscomac, commonmac, day, mac, month, space, user, username, windowsmac, year,
     ];
@@ -81,6 +81,29 @@ fn default_libraries(rt: HostRuntime) -> Result<(), Fail> {
     check_shown(&rt, &Grok::default(alloc)?, expected.as_str())?;
     check_shown(&rt, &Grok::with_default_patterns(alloc)?, expected.as_str())?;
     check_shown(&rt, &Grok::empty(alloc), "Grok {}")
+}
+
+/// The names of a library, each with a line feed after it.
+fn listed(alloc: Global, grok: &Grok) -> Result<String, AllocError> {
+    let mut all = String::new(alloc);
+    for name in grok.names() {
+        write!(&mut all, "{name}\n")?;
+    }
+    Ok(all)
+}
+
+#[test]
+fn names_come_once_in_byte_order(rt: HostRuntime) -> Result<(), Fail> {
+    let alloc = rt.alloc();
+    let defaults = listed(alloc, &Grok::default(alloc)?)?;
+    assert_eq!(rt;
+        defaults.as_str(),
+        "CISCOMAC\nCOMMONMAC\nDAY\nMAC\nMONTH\nSPACE\nUSER\nUSERNAME\nWINDOWSMAC\nYEAR\n"
+    );
+    assert_eq!(rt; listed(alloc, &Grok::empty(alloc))?.as_str(), "");
+    let grok = Grok::from_iter(alloc, &[("b", ""), ("", "x"), ("B", ""), ("b", "y")])?;
+    assert_eq!(rt; listed(alloc, &grok)?.as_str(), "\nB\nb\n");
+    Ok(())
 }
 
 #[test]

@@ -44,7 +44,7 @@ const SHOWN: &[Shown] = &[
         debug: "GenericCompilationFailure(\"InvalidCharacter(' ')\")",
     },
     Shown {
-        name: "want of memory",
+        name: "a failed allocation",
         display: "Out of memory",
         debug: "Memory",
     },

@@ -1,7 +1,8 @@
-//! Texts as large as `regex` takes them, and larger ones over an engine that takes every text: want of memory is
-//! answered to none of them, where memory is ample.
+//! Patterns, definitions and lines as large as a user may have them: each compiles or matches, and none is reported as
+//! `Memory`.
 
-use grok::{Grok, Pattern, PatternOf};
+use grok::Measure::Size;
+use grok::{Error, Grok, Matcher, MatchesRef, Pattern, PatternOf};
 use grok_engines::Heads;
 use std::alloc::{AllocError, Global};
 use std::process::Abort;
@@ -17,6 +18,13 @@ fn class_of(alloc: Global, length: u32) -> Result<String, AllocError> {
     Ok(text)
 }
 
+/// A library with this one definition.
+fn library_of(alloc: Global, name: &str, definition: &str) -> Result<Grok, AllocError> {
+    let mut grok = Grok::empty(alloc);
+    grok.add_pattern(name, definition)?;
+    Ok(grok)
+}
+
 /// So many placeholders of this name, whose aliases are `k0`, `k1` and so on.
 fn many_keys(alloc: Global, name: &str, count: u32) -> Result<String, AllocError> {
     let mut text = String::new(alloc);
@@ -26,13 +34,32 @@ fn many_keys(alloc: Global, name: &str, count: u32) -> Result<String, AllocError
     Ok(text)
 }
 
-/// So many placeholders of this name, each with the alias `k`.
-fn one_key(alloc: Global, name: &str, count: u32) -> Result<String, AllocError> {
+/// So many placeholders `%{A:k}`.
+fn one_key(alloc: Global, count: u32) -> Result<String, AllocError> {
     let mut text = String::new(alloc);
     for _ in 0..count {
-        write!(text, "%{{{name}:k}}")?;
+        text.push_str("%{A:k}")?;
     }
     Ok(text)
+}
+
+/// The placeholders `%{N0}`, `%{N1}` and so on, so many of them.
+fn many_names(alloc: Global, count: u32) -> Result<String, AllocError> {
+    let mut text = String::new(alloc);
+    for number in 0..count {
+        write!(text, "%{{N{number}}}")?;
+    }
+    Ok(text)
+}
+
+/// A library in which `N0`, `N1` and so on, so many of them, stand for `a`.
+fn many_definitions(alloc: Global, count: u32) -> Result<Grok, AllocError> {
+    let mut grok = Grok::empty(alloc);
+    for number in 0..count {
+        let name = format!(in alloc; "N{number}")?;
+        grok.add_pattern(name.as_str(), "a")?;
+    }
+    Ok(grok)
 }
 
 /// A line of so many x's, and a z.
@@ -60,11 +87,17 @@ fn check_found(
     Ok(())
 }
 
+/// The pattern has so many keys, and this one is among them.
+fn check_keys(rt: &impl Abort, pattern: &PatternOf<Heads>, count: usize, last: &str) {
+    assert_eq!(rt; pattern.capture_names().count(), count);
+    let has_last = pattern.capture_names().any(|name| name == last);
+    assert!(rt; has_last, "{last}");
+}
+
 #[test]
 fn a_text_of_a_mebibyte_with_5100_groups(rt: HostRuntime) -> Result<(), Fail> {
-    let mut grok = Grok::empty(rt.alloc());
     let class = class_of(rt.alloc(), 220)?;
-    grok.add_pattern("W", class.as_str())?;
+    let grok = library_of(rt.alloc(), "W", class.as_str())?;
     let text = many_keys(rt.alloc(), "W", 5100)?;
     let pattern = grok.compile(text.as_str(), true)?;
     assert!(rt; pattern.text().len() > 1024 * 1024);
@@ -75,35 +108,148 @@ fn a_text_of_a_mebibyte_with_5100_groups(rt: HostRuntime) -> Result<(), Fail> {
 }
 
 #[test]
-fn a_definition_of_a_mebibyte(rt: HostRuntime) -> Result<(), Fail> {
-    let mut grok = Grok::empty(rt.alloc());
-    let class = class_of(rt.alloc(), 1024 * 1024)?;
-    grok.add_pattern("LONG", class.as_str())?;
+fn a_definition_of_4_megabytes(rt: HostRuntime) -> Result<(), Fail> {
+    let class = class_of(rt.alloc(), 4_000_000)?;
+    let grok = library_of(rt.alloc(), "LONG", class.as_str())?;
     let pattern = grok.compile("%{LONG:k}", true)?;
-    assert!(rt; pattern.text().len() > 1024 * 1024);
+    assert_eq!(rt; pattern.text().len(), 4_000_009);
     check_found(&rt, &pattern, "xby", "k", "b")
 }
 
+/// Each of the 32 placeholders writes a mebibyte and what names its group.
 #[test]
-fn a_key_wanted_100000_times(rt: HostRuntime) -> Result<(), Fail> {
-    let mut grok = Grok::empty(rt.alloc());
-    grok.add_pattern("A", "a")?;
-    let text = one_key(rt.alloc(), "A", 100_000)?;
+fn a_text_of_32_megabytes(rt: HostRuntime) -> Result<(), Fail> {
+    let class = class_of(rt.alloc(), 1024 * 1024)?;
+    let grok = library_of(rt.alloc(), "LONG", class.as_str())?;
+    let text = many_keys(rt.alloc(), "LONG", 32)?;
     let pattern: PatternOf<Heads> = grok.compile_with(text.as_str(), true)?;
-    assert_eq!(rt; pattern.capture_names().count(), 100_000);
-    let has_last = pattern.capture_names().any(|name| name == "k[99999]");
-    assert!(rt; has_last);
+    assert!(rt; pattern.text().len() > 32 * 1024 * 1024);
+    check_keys(&rt, &pattern, 32, "k31");
+    Ok(())
+}
+
+/// The match has 1,100 pairs, of which each has the value `a`.
+fn check_many_pairs(rt: &impl Abort, found: Option<MatchesRef<'_>>) -> Result<(), Fail> {
+    let Some(found) = found else {
+        return Err("no match")?;
+    };
+    let mut count = 0usize;
+    for (key, value) in &found {
+        assert_eq!(rt; value, "a", "{key}");
+        count = count.saturating_add(1);
+    }
+    assert_eq!(rt; count, 1100);
+    Ok(())
+}
+
+/// The kept matcher finds the line, which has an `a` for each group.
+fn check_kept(rt: &impl Abort, matcher: &mut Matcher<'_>, line: &str) -> Result<(), Fail> {
+    check_many_pairs(rt, matcher.find(line)?)?;
+    let found = matcher.match_against(line)?;
+    let is_right = found.is_some_and(|found| found.get("k1099") == Some("a"));
+    assert!(rt; is_right);
+    Ok(())
+}
+
+/// The second and the third line meet the tables that the matcher made at the first.
+#[test]
+fn a_kept_matcher_with_1100_named_groups(rt: HostRuntime) -> Result<(), Fail> {
+    let grok = library_of(rt.alloc(), "A", "a")?;
+    let text = many_keys(rt.alloc(), "A", 1100)?;
+    let pattern = grok.compile(text.as_str(), true)?;
+    let mut line = String::new(rt.alloc());
+    for _ in 0..1100u32 {
+        line.push_str("a")?;
+    }
+    let mut matcher = pattern.matcher()?;
+    for _ in 0..3u32 {
+        check_kept(&rt, &mut matcher, line.as_str())?;
+    }
+    Ok(())
+}
+
+/// The library of these pairs of names and definitions has each of the 2,000.
+fn check_from_iter(rt: &(impl Abort + AllocGlobal), names: &Vec<String>) -> Result<(), Fail> {
+    let mut pairs = Vec::new(rt.alloc());
+    for name in names {
+        pairs.push((name.as_str(), "a"))?;
+    }
+    let grok = Grok::from_iter(rt.alloc(), &pairs)?;
+    let text = many_names(rt.alloc(), 2000)?;
+    let pattern: PatternOf<Heads> = grok.compile_with(text.as_str(), false)?;
+    check_keys(rt, &pattern, 2000, "N1999");
     Ok(())
 }
 
 #[test]
-fn a_line_of_ten_megabytes(rt: HostRuntime) -> Result<(), Fail> {
+fn a_library_from_2000_pairs(rt: HostRuntime) -> Result<(), Fail> {
+    let mut names = Vec::new(rt.alloc());
+    for number in 0..2000u32 {
+        names.push(format!(in rt.alloc(); "N{number}")?)?;
+    }
+    check_from_iter(&rt, &names)
+}
+
+/// `(?:a)` is written for each of the names.
+#[test]
+fn a_pattern_that_reaches_200000_names(rt: HostRuntime) -> Result<(), Fail> {
+    let grok = many_definitions(rt.alloc(), 200_000)?;
+    let text = many_names(rt.alloc(), 200_000)?;
+    let expected = Size {
+        length: 1_000_000,
+        groups: 0,
+        nesting: 1,
+    };
+    assert!(rt; grok.measure(text.as_str(), true)? == expected);
+    let pattern: PatternOf<Heads> = grok.compile_with(text.as_str(), false)?;
+    check_keys(&rt, &pattern, 200_000, "N199999");
+    Ok(())
+}
+
+#[test]
+fn a_key_used_two_million_times(rt: HostRuntime) -> Result<(), Fail> {
+    let grok = library_of(rt.alloc(), "A", "a")?;
+    let text = one_key(rt.alloc(), 2_000_000)?;
+    let pattern: PatternOf<Heads> = grok.compile_with(text.as_str(), true)?;
+    check_keys(&rt, &pattern, 2_000_000, "k[1999999]");
+    Ok(())
+}
+
+/// The pattern has this clash.
+fn check_clash(
+    rt: &(impl Abort + AllocGlobal),
+    grok: &Grok,
+    pattern: &str,
+    expected: &str,
+) -> Result<(), Fail> {
+    let Err(Error::GenericCompilationFailure(text)) = grok.compile(pattern, true) else {
+        return Err("another answer")?;
+    };
+    assert_eq!(rt; text.as_str(), expected);
+    Ok(())
+}
+
+/// The key of the last of two million uses is taken.
+#[test]
+fn a_clash_after_two_million_uses(rt: HostRuntime) -> Result<(), Fail> {
+    let grok = library_of(rt.alloc(), "A", "a")?;
+    let mut text = one_key(rt.alloc(), 2_000_000)?;
+    text.push_str("%{A:k[1999999]}")?;
+    check_clash(&rt, &grok, text.as_str(), "Alias k[1999999] already exists")
+}
+
+/// Each of the three calls finds the z at the end.
+#[test]
+fn a_line_of_20_megabytes(rt: HostRuntime) -> Result<(), Fail> {
     let grok = Grok::empty(rt.alloc());
     let pattern = grok.compile("(?<k>x)y|(?<l>z)", true)?;
-    let line = long_line(rt.alloc(), 10_000_000)?;
+    let line = long_line(rt.alloc(), 20_000_000)?;
     check_found(&rt, &pattern, line.as_str(), "l", "z")?;
     let mut matcher = pattern.matcher()?;
     let found = matcher.match_against(line.as_str())?;
+    let is_right = found.is_some_and(|found| found.get("l") == Some("z"));
+    assert!(rt; is_right);
+    let found = matcher.find(line.as_str())?;
     let is_right = found.is_some_and(|found| found.get("l") == Some("z"));
     assert!(rt; is_right);
     Ok(())

@@ -13,6 +13,8 @@ mod large;
 #[cfg(test)]
 mod libraries;
 #[cfg(test)]
+mod locations;
+#[cfg(test)]
 mod measure;
 #[cfg(test)]
 mod pieces;

@@ -2,7 +2,7 @@
 //! the greatest length; and how measures are shown and compared.
 
 use crate::libraries::add_doublings;
-use crate::rows::{Row, rows};
+use crate::rows::{Row, clashes, rows};
 use grok::Fault::{Malformed, Missing, TooDeep};
 use grok::Measure::TooLong;
 use grok::parser::GrokPatternError::{InvalidCharacter, InvalidPattern, InvalidPatternDefinition};
@@ -21,7 +21,7 @@ struct DefaultSize {
     aliased_length: usize,
 }
 
-/// The sizes of the ten, by name.
+/// The sizes of the default definitions, by name.
 const DEFAULT_SIZES: &[DefaultSize] = &[
     DefaultSize {
         name: "CISCOMAC",
@@ -197,6 +197,14 @@ fn measures(rt: HostRuntime) -> Result<(), Fail> {
     Ok(())
 }
 
+#[test]
+fn measures_of_clashes(rt: HostRuntime) -> Result<(), Fail> {
+    for row in clashes() {
+        check_row(&rt, row)?;
+    }
+    Ok(())
+}
+
 /// The text so many times.
 fn repeated(alloc: Global, text: &str, times: u32) -> Result<String, AllocError> {
     let mut all = String::new(alloc);
@@ -255,7 +263,7 @@ fn check_default(
 }
 
 #[test]
-fn the_ten_definitions(rt: HostRuntime) -> Result<(), Fail> {
+fn default_definitions(rt: HostRuntime) -> Result<(), Fail> {
     let grok = Grok::default(rt.alloc())?;
     for row in DEFAULT_SIZES {
         check_default(&rt, &grok, row)?;

@@ -11,7 +11,7 @@ use std::test::Fail;
 struct Split {
     name: &'static str,
     text: &'static str,
-    /// The range, the text and the parts of each piece, with a line feed behind it.
+    /// The range, the text and the parts of each piece, with a line feed after it.
     pieces: &'static str,
 }
 
@@ -52,7 +52,7 @@ const SPLITS: &[Split] = &[
         pieces: "0..7 Hello, \n7..14 %{name} name=name alias= extract= definition=\n14..15 !\n",
     },
     Split {
-        name: "nothing behind a fault",
+        name: "nothing after a fault",
         text: "a%{A}%{b c}%{A}",
         pieces: "0..1 a\n1..5 %{A} name=A alias= extract= definition=\nInvalidCharacter(' ')\n",
     },
@@ -155,12 +155,12 @@ struct Malformed {
 
 const ILLEGAL: &[Malformed] = &[
     Malformed {
-        name: "the end behind the name",
+        name: "the end after the name",
         text: "%{name",
         fault: InvalidPattern,
     },
     Malformed {
-        name: "the end behind the equals sign",
+        name: "the end after the equals sign",
         text: "%{name=",
         fault: InvalidPatternDefinition,
     },
@@ -175,7 +175,7 @@ const ILLEGAL: &[Malformed] = &[
         fault: InvalidPatternDefinition,
     },
     Malformed {
-        name: "the end behind a colon",
+        name: "the end after a colon",
         text: "%{name:",
         fault: InvalidPattern,
     },
@@ -185,27 +185,27 @@ const ILLEGAL: &[Malformed] = &[
         fault: InvalidPatternDefinition,
     },
     Malformed {
-        name: "the end behind the alias",
+        name: "the end after the alias",
         text: "%{name:a",
         fault: InvalidPattern,
     },
     Malformed {
-        name: "the end behind the extract",
+        name: "the end after the extract",
         text: "%{name:a:b",
         fault: InvalidPattern,
     },
     Malformed {
-        name: "the end behind two colons",
+        name: "the end after two colons",
         text: "%{name::",
         fault: InvalidPattern,
     },
     Malformed {
-        name: "the end behind an extract without an alias",
+        name: "the end after an extract without an alias",
         text: "%{name::b",
         fault: InvalidPattern,
     },
     Malformed {
-        name: "an empty extract behind an alias",
+        name: "an empty extract after an alias",
         text: "%{name:a:}",
         fault: InvalidPatternDefinition,
     },
@@ -245,7 +245,7 @@ const ILLEGAL: &[Malformed] = &[
         fault: InvalidCharacter('!'),
     },
     Malformed {
-        name: "an exclamation mark behind a fourth word",
+        name: "an exclamation mark after a fourth word",
         text: "%{name:a:b:c!",
         fault: InvalidCharacter('!'),
     },
@@ -256,7 +256,7 @@ const ILLEGAL: &[Malformed] = &[
     },
 ];
 
-/// A text, and how its pieces are shown, each with a line feed behind it.
+/// A text, and how its pieces are shown, each with a line feed after it.
 #[derive(Clone, Copy)]
 struct Shown {
     name: &'static str,
@@ -392,14 +392,14 @@ fn row(alloc: Global, piece: &GrokComponent<'_>) -> Result<String, AllocError> {
     }
 }
 
-/// Adds the row of a piece, with a line feed behind it.
+/// Adds the row of a piece, with a line feed after it.
 fn push_row(alloc: Global, all: &mut String, piece: &GrokComponent<'_>) -> Result<(), AllocError> {
     let row = row(alloc, piece)?;
     all.push_str(row.as_str())?;
     all.push_str("\n")
 }
 
-/// The rows of the pieces of the text, each with a line feed behind it.
+/// The rows of the pieces of the text, each with a line feed after it.
 fn rows(alloc: Global, text: &str) -> Result<String, AllocError> {
     let mut all = String::new(alloc);
     for piece in grok_split(text) {
@@ -469,7 +469,7 @@ fn illegal_placeholders(rt: HostRuntime) {
     }
 }
 
-/// The pieces of the text as Display writes them, each with a line feed behind it.
+/// The pieces of the text as Display writes them, each with a line feed after it.
 fn displayed(alloc: Global, text: &str) -> Result<String, AllocError> {
     let mut all = String::new(alloc);
     for piece in grok_split(text) {
@@ -478,7 +478,7 @@ fn displayed(alloc: Global, text: &str) -> Result<String, AllocError> {
     Ok(all)
 }
 
-/// The pieces of the text as Debug writes them, each with a line feed behind it.
+/// The pieces of the text as Debug writes them, each with a line feed after it.
 fn debugged(alloc: Global, text: &str) -> Result<String, AllocError> {
     let mut all = String::new(alloc);
     for piece in grok_split(text) {

@@ -96,9 +96,9 @@ const LONGER: Row = Row {
     ..BLANK
 };
 
-/// What wants a key in each of very many texts, and a missing definition behind them.
+/// A base key that is used in very many texts, and a missing definition after them.
 const MANY_KEYS: Row = Row {
-    name: "a key that is wanted 2^44 times",
+    name: "a key that is used 2^44 times",
     definitions: &[("A", "a")],
     doubled: Some("%{A:x}"),
     pattern: "%{A:y[1]}%{D44}%{missing}",
@@ -109,7 +109,7 @@ const MANY_KEYS: Row = Row {
     ..BLANK
 };
 
-/// Definitions that together want a key 2^64 - 1 times, and a missing one behind them.
+/// Definitions that together use a key 2^64 - 1 times, and a missing one after them.
 const MOST_USES: &str =
     "%{A:y[1]}%{D63}%{D62}%{D61}%{D60}%{D59}%{D58}%{D57}%{D56}%{D55}%{D54}%{D53}%{D52}%{D51}%{D50}%{D49}%{D48}%{D47}%{D46}%{D45}%{D44}%{D43}%{D42}%{D41}%{D40}%{D39}%{D38}%{D37}%{D36}%{D35}%{D34}%{D33}%{D32}%{D31}%{D30}%{D29}%{D28}%{D27}%{D26}%{D25}%{D24}%{D23}%{D22}%{D21}%{D20}%{D19}%{D18}%{D17}%{D16}%{D15}%{D14}%{D13}%{D12}%{D11}%{D10}%{D9}%{D8}%{D7}%{D6}%{D5}%{D4}%{D3}%{D2}%{D1}%{D0}%{missing}";
 
@@ -230,7 +230,7 @@ const ROWS: &[Row] = &[
         ..DEEPER
     },
     Row {
-        name: "a circle behind a long chain",
+        name: "a circle after a long chain",
         definitions: &[("A", "%{B1}%{A}%{missing}")],
         chains: &[("B", 600, "x")],
         pattern: "%{A}",
@@ -283,7 +283,7 @@ const ROWS: &[Row] = &[
         ..LONGER
     },
     Row {
-        name: "a missing definition behind a text that is far too long",
+        name: "a missing definition after a text that is far too long",
         pattern: "%{D70}%{missing}",
         every: Fault(Missing("missing")),
         aliased: Fault(Missing("missing")),
@@ -292,7 +292,7 @@ const ROWS: &[Row] = &[
         ..LONGER
     },
     Row {
-        name: "a space in a name behind a text that is far too long",
+        name: "a space in a name after a text that is far too long",
         pattern: "%{D70}%{a b}",
         every: Fault(Malformed(InvalidCharacter(' '))),
         aliased: Fault(Malformed(InvalidCharacter(' '))),
@@ -301,7 +301,7 @@ const ROWS: &[Row] = &[
         ..LONGER
     },
     Row {
-        name: "a placeholder that is not closed behind a text that is far too long",
+        name: "a placeholder that is not closed after a text that is far too long",
         pattern: "%{D70}%{",
         every: Fault(Malformed(InvalidPattern)),
         aliased: Fault(Malformed(InvalidPattern)),
@@ -334,7 +334,7 @@ const ROWS: &[Row] = &[
         looks: Some((1096, 1025)),
         ..DEEPER
     },
-    // Keys that are wanted very often, up to a missing definition: no walk takes each of their placeholders.
+    // Keys that are used very often, up to a missing definition: no walk takes each of their placeholders.
     MANY_KEYS,
     Row {
         name: "a key that the second of 2^44 placeholders is to get",
@@ -355,7 +355,7 @@ const ROWS: &[Row] = &[
         ..MANY_KEYS
     },
     Row {
-        name: "the key of the last of 2^22 placeholders, behind them",
+        name: "the key of the last of 2^22 placeholders, after them",
         pattern: "%{D22}%{A:x[4194303]}%{missing}",
         error: Some("GenericCompilationFailure(\"Alias x[4194303] already exists\")"),
         ..MANY_KEYS
@@ -372,20 +372,20 @@ const ROWS: &[Row] = &[
         ..MANY_KEYS
     },
     Row {
-        name: "a key with a number that is wanted 2^44 times",
+        name: "a key with a number that is used 2^44 times",
         doubled: Some("%{A:x[1]}"),
         pattern: "%{A:x}%{D44}%{A:x}%{missing}",
         error: Some("GenericCompilationFailure(\"Alias x[1] already exists\")"),
         ..MANY_KEYS
     },
     Row {
-        name: "a key that is wanted 2^70 times, and a number that is wanted before",
+        name: "a key that is used 2^70 times, and a number that is used before",
         pattern: "%{A:x[1]}%{D70}%{missing}",
         error: Some("GenericCompilationFailure(\"Alias x[1] already exists\")"),
         ..MANY_KEYS
     },
     Row {
-        name: "a clash in a definition whose keys are wanted too often in all",
+        name: "a clash in a definition whose keys are used too often in all",
         definitions: &[("A", "a"), ("T", "%{A:y}%{A:y}%{A:y[1]}%{D61}")],
         pattern: "%{D62}%{D62}%{D62}%{D61}%{T}%{missing}",
         error: Some("GenericCompilationFailure(\"Alias y[1] already exists\")"),
@@ -404,25 +404,106 @@ const ROWS: &[Row] = &[
         ..MANY_KEYS
     },
     Row {
-        name: "a key that is wanted 2^64 - 1 times",
+        name: "a key that is used 2^64 - 1 times",
         pattern: MOST_USES,
         ..MANY_KEYS
     },
     Row {
-        name: "a key that is wanted 2^64 times",
+        name: "a key that is used 2^64 times",
         pattern: "%{A:y[1]}%{D62}%{D62}%{D62}%{D62}%{missing}",
         error: Some("Memory"),
         ..MANY_KEYS
     },
     Row {
-        name: "a key that is wanted 2^70 times",
+        name: "a key that is used 2^70 times",
         pattern: "%{A:y[1]}%{D70}%{missing}",
         error: Some("Memory"),
         ..MANY_KEYS
     },
 ];
 
-/// All rows.
+/// Clashes in texts without a structural fault, which are found before room for the text is reserved. They are a table of
+/// their own because the prover can't take a longer one.
+const CLASHES: &[Row] = &[
+    Row {
+        name: "a clash in a text that is far too long",
+        definitions: &[("A", "a")],
+        pattern: "%{A:x[1]}%{A:x}%{A:x}%{D70}",
+        looks: Some((146, 73)),
+        ..LONGER
+    },
+    Row {
+        name: "an alias with a number, no clash, and a text that is far too long",
+        definitions: &[("A", "a")],
+        pattern: "%{A:x[1]}%{A:x}%{D70}",
+        looks: Some((145, 73)),
+        ..LONGER
+    },
+    Row {
+        name: "a clash before a text of 238 GB",
+        definitions: &[("A", "a")],
+        doubled: Some("%{A}"),
+        pattern: "%{A:x[1]}%{A:x}%{A:x}%{D32}",
+        every: Size {
+            length: 237996992099,
+            groups: 12884901890,
+            nesting: 34,
+        },
+        aliased: Size {
+            length: 55834574874,
+            groups: 3,
+            nesting: 34,
+        },
+        looks: Some((70, 35)),
+        error: Some("GenericCompilationFailure(\"Alias x[1] already exists\")"),
+        ..BLANK
+    },
+    Row {
+        name: "a clash after a text of 238 GB",
+        definitions: &[("A", "a")],
+        doubled: Some("%{A:x}"),
+        pattern: "%{D32}%{A:x[1]}",
+        every: Size {
+            length: 237996992059,
+            groups: 12884901888,
+            nesting: 34,
+        },
+        aliased: Size {
+            length: 114853005897,
+            groups: 4294967297,
+            nesting: 34,
+        },
+        looks: Some((68, 35)),
+        error: Some("GenericCompilationFailure(\"Alias x[1] already exists\")"),
+        ..BLANK
+    },
+    Row {
+        name: "an alias with a number, no clash, and a text that fits no memory",
+        definitions: &[("A", "a")],
+        doubled: Some("%{A}"),
+        pattern: "%{A:x[1]}%{A:x}%{D50}",
+        every: Size {
+            length: 81079582088400468,
+            groups: 3377699720527873,
+            nesting: 52,
+        },
+        aliased: Size {
+            length: 14636698788954128,
+            groups: 2,
+            nesting: 52,
+        },
+        looks: Some((105, 53)),
+        error: Some("Memory"),
+        ..BLANK
+    },
+];
+
+/// The rows of clashes in texts without a structural fault.
+pub(crate) fn clashes() -> &'static [Row] {
+    CLASHES
+}
+
+/// All other rows.
 pub(crate) fn rows() -> &'static [Row] {
     ROWS
 }

@@ -47,7 +47,7 @@ impl Engine for Heads {
         line: &'t str,
     ) -> Result<Option<Vec<Option<&'t str>>>, AllocError> {
         let mut captures = Vec::with_capacity(alloc, self.names.len())?;
-        'places: for place in 0..self.names.len() {
+        'all_groups: for place in 0..self.names.len() {
             let capture = whole_at(line, place);
             captures.push(capture)?;
         }
@@ -93,7 +93,7 @@ fn write_locations(
     ensures inside { OnOk result (AreLocationsIn line.now locations.new.items) }
 {
     locations.clear();
-    'places: for place in 0..count {
+    'all_groups: for place in 0..count {
         locations.push(location_at(line, place))?;
     }
     Ok(())

@@ -23,11 +23,11 @@ fn heads_reads_names(rt: HostRuntime) -> Result<(), Fail> {
     };
     let names = engine.names();
     assert_eq!(rt; names.len(), 4);
-    let wanted = [None, Some("_n_0"), Some("_n_1"), Some("b")];
-    for (name, want) in names.iter().zip(&wanted) {
+    let expected = [None, Some("_n_0"), Some("_n_1"), Some("b")];
+    for (name, expected) in names.iter().zip(&expected) {
         match name {
-            Some(name) => assert_eq!(rt; Some(name.as_str()), *want),
-            None => assert_eq!(rt; None, *want),
+            Some(name) => assert_eq!(rt; Some(name.as_str()), *expected),
+            None => assert_eq!(rt; None, *expected),
         }
     }
     let mut matcher = engine.matcher(rt.alloc())?;

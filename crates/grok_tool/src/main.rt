@@ -9,7 +9,7 @@ use std::io::ErrorKind;
 use std::process::ExitCode;
 use std::{env, io};
 
-/// Words that are no UTF-8 are a wrong use, and want of memory is itself.
+/// Words that are no UTF-8 are a wrong use. A failed allocation is reported as such.
 fn words_fault(error: io::Error) -> ToolFault {
     if error.kind() == ErrorKind::OutOfMemory {
         ToolFault::Memory

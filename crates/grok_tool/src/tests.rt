@@ -16,8 +16,8 @@ use outcome::{Ending, check_untouched, outcome_of};
 use std::process::Abort;
 use std::test::Fail;
 
-/// What `check` without words writes: the sizes of the ten names.
-const THE_TEN: &str = "CISCOMAC: length 50 groups 1 nesting 1\n\
+/// What `check` without words writes: the sizes of the default definitions.
+const DEFAULT_SIZES: &str = "CISCOMAC: length 50 groups 1 nesting 1\n\
     COMMONMAC: length 49 groups 1 nesting 1\n\
     DAY: length 104 groups 1 nesting 1\n\
     MAC: length 163 groups 4 nesting 2\n\
@@ -99,9 +99,13 @@ fn wrong_words(rt: HostRuntime) -> Result<(), Fail> {
 }
 
 /// The fault prints this text.
-fn check_text(rt: &(impl Abort + AllocGlobal), fault: ToolFault, wanted: &str) -> Result<(), Fail> {
+fn check_text(
+    rt: &(impl Abort + AllocGlobal),
+    fault: ToolFault,
+    expected: &str,
+) -> Result<(), Fail> {
     let text = fault.to_string(rt.alloc())?;
-    assert_eq!(rt; text.as_str(), wanted);
+    assert_eq!(rt; text.as_str(), expected);
     Ok(())
 }
 

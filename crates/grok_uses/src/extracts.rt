@@ -6,7 +6,7 @@ use grok::{Engine, PatternOf};
 use std::alloc::{AllocError, Global};
 
 /// The values of this kind, by the extract of their key, that the pattern finds in the line, in
-/// byte order of their keys. The only error is want of memory.
+/// byte order of their keys. It fails only if an allocation fails.
 pub(crate) fn values_of_kind<E: Engine>(
     alloc: Global,
     pattern: &PatternOf<E>,

@@ -21,7 +21,7 @@ fn gives_key<'p, E: HasMatcher<'p>>(
     }
 }
 
-/// How many of the lines give the key a text. The only error is want of memory.
+/// How many of the lines give the key a text. It fails only if an allocation fails.
 #[tactic(auto, using(std::proofs::lemmas::List::Sums::count_by_more_yes, std::proofs::lemmas::List::Sums::count_by_more_no))]
 pub(crate) fn count_of_key<'p, E: HasMatcher<'p>>(
     pattern: &'p PatternOf<E>,

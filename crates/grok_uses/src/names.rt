@@ -6,7 +6,7 @@ ghost use Rattle.grok_uses.specs.Uses.{name_of};
 use grok::parser::{GrokComponent, grok_split};
 use std::alloc::{AllocError, Global};
 
-/// The names of the placeholders of a pattern, in its order. The only error is want of memory.
+/// The names of the placeholders of a pattern, in its order. It fails only if an allocation fails.
 pub(crate) fn placeholder_names<'a>(
     alloc: Global,
     pattern: &'a str,

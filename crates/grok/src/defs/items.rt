@@ -5,7 +5,7 @@ ghost use Rattle.std.specs.Str.{bytes_eq};
 ghost use Rattle.std.specs.FinMap as finite;
 ghost use Rattle.grok.specs.Pieces.{pieces};
 ghost use Rattle.grok.specs.Tree.{no_definitions, items_of, items_after, is_absent, resolved};
-ghost use Rattle.grok.specs.Keys.{is_recorded};
+ghost use Rattle.grok.specs.Keys.{is_capturing};
 ghost use Rattle.grok.specs.Items.{item_view, label_view, written_in};
 ghost use Rattle.std.specs.Borrow.{Bor};
 
@@ -30,8 +30,8 @@ pub(crate) struct Label<'a> {
 impl Label<'_> {
     /// Returns whether the placeholder captures. In alias-only mode it captures only if it has an
     /// alias.
-    pub fn is_recorded(self, with_alias_only: bool) -> bool
-        ensures { result ≡ is_recorded with_alias_only (label_view self.entry) }
+    pub fn is_capturing(self, with_alias_only: bool) -> bool
+        ensures { result ≡ is_capturing with_alias_only (label_view self.entry) }
     {
         !(with_alias_only && self.alias.is_empty())
     }

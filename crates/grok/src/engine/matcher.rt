@@ -25,7 +25,7 @@ pub trait EngineMatcher: Sized + Drop {
         ensures answer { IfOk result
             (λ found. option_map (λ captures. capture_texts captures.items) found
             ≡ finds self.old line.now) }
-        ensures places { IfOk result (λ found. IfSome found (λ captures. vec_len captures
+        ensures all_groups { IfOk result (λ found. IfSome found (λ captures. vec_len captures
             ≡ group_count self.old)) }
         ensures slices { IfOk result (λ found. IfSome found (λ captures. AreSlicesOf line.now
             (capture_texts captures.items))) }
@@ -43,7 +43,7 @@ pub trait EngineMatcher: Sized + Drop {
         ensures answer { IfOk result (λ is_match. (if is_match
             then Some (located_texts line.now locations.new.items) else None)
             ≡ finds self.old line.now) }
-        ensures places { IfOk result (λ is_match. IsTrue is_match
+        ensures all_groups { IfOk result (λ is_match. IsTrue is_match
             → vec_len locations.new ≡ group_count self.old) }
         ensures inside { IfOk result (λ is_match. IsTrue is_match
             → AreLocationsIn line.now locations.new.items) }

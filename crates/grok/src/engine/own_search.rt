@@ -1,9 +1,11 @@
 //! A search that owns its automaton and its tables, and keeps both from line to line.
-ghost use Rattle.std.specs.Prelude.{◌≡◌, ◌+◌, ◌-◌, ◌/◌, ◌≤◌, true, Some, length, vec_len, string_bytes, option_map, slice_range, IfOk, IfSome, OnOk, IsTrue, IsFalse, IsCharBoundary};
+ghost use Rattle.std.specs.Prelude.{◌≡◌, ◌+◌, ◌-◌, ◌/◌, ◌≤◌, true, Some, length, vec_len, string_bytes, option_map, slice_range, IfOk, IfSome, OnOk, IsTrue, IsFalse, IsCharBoundary, None};
+ghost use Rattle.std.specs.Option.{ForSome};
 ghost use Rattle.regex.specs.Patterns.{find_str, span};
 ghost use Rattle.regex.specs.Strings.{regex_pattern, regex_source, regex_names};
 ghost use Rattle.regex_dfa.specs.Search.{IsForwardFor, IsReverseFor};
 ghost use Rattle.regex_extract.specs.Bounds.{IsAnchored};
+ghost use Rattle.regex_extract.specs.Needles.{ContainsNeedle};
 ghost use Rattle.regex_meta.specs.Programs.{pattern_of, leftmost};
 ghost use Rattle.regex_meta.specs.Located.{EndsAt};
 ghost use Rattle.regex_tagged.specs.Valid.{IsFor};
@@ -14,6 +16,7 @@ ghost use Rattle.grok.specs.OwnSearches.{IsTreeOf, span_of_cells};
 
 use regex::Regex;
 use regex_dfa::{End, Forward, Reverse, Start};
+use regex_literal::{Bounded, Prefilter};
 use regex_meta::Program;
 use regex_syntax::{Config, Parsed};
 use regex_tagged::Tagged;
@@ -30,6 +33,8 @@ pub(crate) struct OwnSearch {
     program: Program,
     /// Whether a match starts where the line starts.
     is_anchored: bool,
+    /// Literals of which each match contains one, if such are known.
+    needles: Option<Prefilter>,
     tagged: Tagged,
     forward: Forward,
     reverse: Reverse,
@@ -41,6 +46,7 @@ pub(crate) struct OwnSearch {
     matched_at_start: bool,
     ghost read: { ∥ IsTreeOf (string_bytes source) program.hir ∥₁ },
     ghost starts: { ∥ (is_anchored ≡ true → IsAnchored true (pattern_of program)) ∥₁ },
+    ghost contains: { ∥ ForSome needles (ContainsNeedle (pattern_of program)) ∥₁ },
     ghost own: { IsFor tagged program.dfa },
     ghost ahead: { IsForwardFor forward program.dfa },
     ghost back: { IsReverseFor reverse program.dfa },
@@ -55,6 +61,7 @@ impl OwnSearch {
         let source = String::from_str(alloc, text)?;
         let program = program_of(alloc, text)?;
         let is_anchored = regex_extract::is_anchored_start(&program.hir);
+        let needles = needles_of_matches(alloc, &program, is_anchored)?;
         let tagged = Tagged::new(alloc, &program.dfa)?;
         let forward = Forward::new(alloc, &program.dfa, false)?;
         let reverse = Reverse::new(alloc, &program.dfa)?;
@@ -64,6 +71,7 @@ impl OwnSearch {
             source,
             program,
             is_anchored,
+            needles,
             tagged,
             forward,
             reverse,
@@ -85,7 +93,7 @@ impl OwnSearch {
         ensures answer { IfOk result
             (λ found. option_map (λ captures. capture_texts captures.items) found
             ≡ captures_in (regex_pattern regex.now) (length (regex_names regex.now)) line.now) }
-        ensures places { IfOk result (λ found. IfSome found (λ captures. vec_len captures
+        ensures all_groups { IfOk result (λ found. IfSome found (λ captures. vec_len captures
             ≡ length (regex_names regex.now))) }
         ensures slices { IfOk result (λ found. IfSome found (λ captures. AreSlicesOf line.now
             (capture_texts captures.items))) }
@@ -131,6 +139,9 @@ impl OwnSearch {
             (λ m. self.new.cells.items ≡ group_cells m (vec_len self.old.cells))) }
         ensures width { vec_len self.new.cells ≡ vec_len self.old.cells }
     {
+        if self.lacks_needle(hay) {
+            return Ok(None);
+        }
         let by_tables = leftmost_by_tables(
             &self.program,
             &mut self.tagged,
@@ -147,6 +158,37 @@ impl OwnSearch {
         }
         let found = by_steps(&self.program, &mut self.backtracker, hay, &mut self.cells)?;
         Ok(found)
+    }
+
+    /// Whether the line contains none of the literals of which each match contains one.
+    fn lacks_needle(&self, hay: &[u8]) -> bool
+        ensures { IsTrue result → leftmost self.now.program hay.now 0 ≡ None }
+    {
+        match &self.needles {
+            Some(needles) => match needles.find_bounded(hay, 0) {
+                Bounded::Missing => true,
+                Bounded::Found(_, _) | Bounded::Tired(_) => false,
+            },
+            None => false,
+        }
+    }
+}
+
+/// The literals of which each match of the program contains one, if such are known. A match that has to
+/// start where the line starts, or to end where it ends, is found or refused sooner without them.
+fn needles_of_matches(
+    alloc: Global,
+    program: &Program,
+    is_anchored: bool,
+) -> Result<Option<Prefilter>, Declined>
+    ensures { IfOk result (λ needles. IfSome needles (ContainsNeedle (pattern_of program.now))) }
+{
+    if is_anchored || program.at_end {
+        return Ok(None);
+    }
+    match regex_extract::required(alloc, &program.hir)? {
+        Some(needles) => Ok(Prefilter::new(alloc, needles)?),
+        None => Ok(None),
     }
 }
 

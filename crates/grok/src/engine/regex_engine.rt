@@ -20,7 +20,7 @@ pub struct RegexEngine {
     ghost by_default: { ∥ IsReadByDefault regex ∥₁ },
 }
 
-// Want of memory where `regex` wants memory, and a refusal for each other error.
+// If `regex` reports a failed allocation, so does this. Every other error is a refusal.
 impl From<regex::Error> for Refusal {
     ghost use Rattle.grok.specs.declared.engine.Refusal.TheVariants.{Memory};
 
@@ -71,13 +71,13 @@ impl Engine for RegexEngine {
     ) -> Result<Option<Vec<Option<&'t str>>>, AllocError> {
         match self.search.captures(alloc, &self.regex, line) {
             Ok(found) => Ok(found),
-            Err(_) => captures_afresh(alloc, &self.regex, line),
+            Err(_) => captures_uncached(alloc, &self.regex, line),
         }
     }
 }
 
 /// Searches one line with a new matcher.
-fn captures_afresh<'t>(
+fn captures_uncached<'t>(
     alloc: Global,
     regex: &Regex,
     line: &'t str,
@@ -85,7 +85,7 @@ fn captures_afresh<'t>(
     ensures answer { IfOk result
         (λ found. option_map (λ captures. capture_texts captures.items) found
         ≡ captures_in (regex_pattern regex.now) (length (regex_names regex.now)) line.now) }
-    ensures places { IfOk result (λ found. IfSome found (λ captures. vec_len captures
+    ensures all_groups { IfOk result (λ found. IfSome found (λ captures. vec_len captures
         ≡ length (regex_names regex.now))) }
     ensures slices { IfOk result (λ found. IfSome found (λ captures. AreSlicesOf line.now
         (capture_texts captures.items))) }

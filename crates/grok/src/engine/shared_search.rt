@@ -10,10 +10,10 @@ use regex_vm::Declined;
 use std::alloc::Global;
 use std::sync::Mutex;
 
-/// The search that is kept, or whether one is to be made by the next call.
+/// The search that is kept, or whether the next call makes one.
 #[derive(Drop)]
 enum Kept {
-    /// No call was made: one call alone is soonest done with a matcher of its own.
+    /// There was no call yet. A single call is fastest with a matcher of its own.
     No,
     Next,
     Yes(Box<OwnSearch>),
@@ -32,8 +32,8 @@ impl SharedSearch {
         }
     }
 
-    /// The text of each group of the first match in the line, or none where nothing matches, as the
-    /// regex finds it.
+    /// Returns the text of each group of the first match that the regex finds in the line, or `None`
+    /// if nothing matches.
     pub(crate) fn captures<'t>(
         &self,
         alloc: Global,
@@ -44,7 +44,7 @@ impl SharedSearch {
         ensures answer { IfOk result
             (λ found. option_map (λ captures. capture_texts captures.items) found
             ≡ captures_in (regex_pattern regex.now) (length (regex_names regex.now)) line.now) }
-        ensures places { IfOk result (λ found. IfSome found (λ captures. vec_len captures
+        ensures all_groups { IfOk result (λ found. IfSome found (λ captures. vec_len captures
             ≡ length (regex_names regex.now))) }
         ensures slices { IfOk result (λ found. IfSome found (λ captures. AreSlicesOf line.now
             (capture_texts captures.items))) }
@@ -57,7 +57,7 @@ impl SharedSearch {
 }
 
 impl Kept {
-    /// As `SharedSearch::captures`.
+    /// Returns what `SharedSearch::captures` returns.
     fn captures<'t>(
         &mut self,
         alloc: Global,
@@ -68,7 +68,7 @@ impl Kept {
         ensures answer { IfOk result
             (λ found. option_map (λ captures. capture_texts captures.items) found
             ≡ captures_in (regex_pattern regex.now) (length (regex_names regex.now)) line.now) }
-        ensures places { IfOk result (λ found. IfSome found (λ captures. vec_len captures
+        ensures all_groups { IfOk result (λ found. IfSome found (λ captures. vec_len captures
             ≡ length (regex_names regex.now))) }
         ensures slices { IfOk result (λ found. IfSome found (λ captures. AreSlicesOf line.now
             (capture_texts captures.items))) }

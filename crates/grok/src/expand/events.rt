@@ -1,4 +1,4 @@
-//! The events of a pattern's tree, one after another, on a stack of their own.
+//! The events of a pattern's tree, one after another. They use a stack of their own.
 ghost use Rattle.std.specs.Prelude.{◌≡◌, [], ◌∷◌, IfOk, MatchOption};
 ghost use Rattle.std.specs.FinMap as finite;
 ghost use Rattle.grok.specs.Tree.{items_of, meaning_text, tree as tree_of};
@@ -11,28 +11,28 @@ use crate::errors::fault::{Fault, LEVELS};
 use std::alloc::AllocError;
 use std::marker::Model;
 
-/// What is read of a pattern in which each placeholder stands with all that it opens.
+/// One event of reading a pattern in which each placeholder is followed by its definition.
 #[derive(Clone, Copy)]
 pub(crate) enum Event<'a> {
     Text(&'a str),
-    /// A placeholder, with what it stands for.
+    /// A placeholder, and the definition that it stands for.
     Open(Label<'a>, Meaning<'a>),
-    /// The end of what the last open placeholder stands for.
+    /// The end of the innermost definition.
     Close,
     Fault(Fault<'a>),
 }
 
 /// The events of a pattern's tree that are left.
 ///
-/// The texts that are open lie on a stack, so no nesting of definitions takes more of the caller's.
+/// The open texts lie on a stack of their own, so nested definitions take nothing of the call stack.
 #[derive(Drop)]
 pub(crate) struct Events<'a> {
     grok: &'a Grok,
-    /// What is left of the texts around the innermost one, the pattern first.
+    /// The items that are left of the texts around the innermost one, those of the pattern first.
     around: Vec<Items<'a>>,
-    /// What is left of the innermost text.
+    /// The items that are left of the innermost text.
     items: Items<'a>,
-    /// What the placeholder stands for that was read last, if it is still to be opened.
+    /// The definition of the placeholder that was read last, if it is entered next.
     opening: Option<Meaning<'a>>,
 }
 
@@ -53,7 +53,7 @@ impl<'a> Model for Events<'a> {
         s.around.items (option_map meaning_view s.opening) s.items };
 }
 
-/// The items of what a placeholder stands for.
+/// Returns the items of a placeholder's definition.
 fn items_inside<'a>(grok: &'a Grok, meaning: Meaning<'a>) -> Items<'a>
     ensures { result ≡ items_of (finite.get grok.now) (meaning_text (meaning_view meaning.entry)) }
 {
@@ -64,7 +64,7 @@ fn items_inside<'a>(grok: &'a Grok, meaning: Meaning<'a>) -> Items<'a>
 }
 
 impl<'a> Events<'a> {
-    /// The events of a pattern's tree.
+    /// Returns the events of a pattern's tree.
     pub fn of_pattern(grok: &'a Grok, pattern: &'a str) -> Events<'a>
         ensures { result ≡ tree_of (finite.get grok.now) pattern.now }
     {
@@ -77,8 +77,11 @@ impl<'a> Events<'a> {
         }
     }
 
-    /// The next event, if there is one. An error is want of memory, for a text that is opened or for
-    /// a definition that it writes.
+    /// Returns the next event, if there is one.
+    ///
+    /// # Errors
+    ///
+    /// If an allocation fails, for the stack or for an inline definition.
     pub fn next(&mut self) -> Result<Option<Event<'a>>, AllocError>
         ensures { IfOk result (λ found. MatchOption found ((self.old ≡ []) × (self.new ≡ []))
             (λ event. self.old ≡ event_view event ∷ self.new)) }

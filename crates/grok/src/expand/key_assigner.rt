@@ -1,72 +1,70 @@
-//! An assigner of keys and extracts to the recorded opens of a tree.
-ghost use Rattle.std.specs.Prelude.{◌≡◌, ℕ, ◌+◌, List, [], ◌∷◌, ◌++◌, map, not, ◌&&◌, if◌then◌else◌, true, IfOk, OnOk, MatchOption, unwrap_or, Some};
+//! Assigns keys and extracts to the capturing placeholders of a tree.
+ghost use Rattle.std.specs.Prelude.{◌≡◌, ℕ, ◌+◌, ◌<◌, ◌^◌, List, [], ◌∷◌, not, ◌&&◌, if◌then◌else◌, IfOk, OnOk, unwrap_or, Some};
 ghost use Rattle.std.specs.Option.{option_map, option_copied};
 ghost use Rattle.std.specs.Str.{bytes_eq};
 ghost use Rattle.std.specs.String.{string_bytes};
 ghost use Rattle.std.specs.BTreeMap.{get_by_text};
-ghost use Rattle.std.specs.BTreeSet.{contains_text};
 ghost use Rattle.grok.specs.Tree as tree;
 ghost use Rattle.grok.specs.Tree.{is_absent};
-ghost use Rattle.grok.specs.Keys.{numbered, wanted as wanted_by};
+ghost use Rattle.grok.specs.Keys.{numbered, base_key as base_key_of};
 ghost use Rattle.grok.specs.Items.{label_view};
-ghost use Rattle.grok.specs.Walks.{HasAssigned, Assigns};
+ghost use Rattle.grok.specs.Walks.{HasAssigned, CanAssign};
 
 use crate::defs::items::Label;
 use std::alloc::{AllocError, Global};
-use std::collections::{BTreeMap, BTreeSet};
+use std::collections::BTreeMap;
 
-/// The keys and extracts that the recorded opens so far were assigned.
+/// The keys and extracts of the capturing placeholders so far.
 #[derive(Drop)]
 pub(crate) struct KeyAssigner {
     alloc: Global,
-    /// How often each key was wanted.
-    times_wanted: BTreeMap<String, usize>,
-    /// The keys that were assigned.
-    assigned: BTreeSet<String>,
-    /// These keys in the order of reading.
+    /// How often each base key was used.
+    uses: BTreeMap<String, usize>,
+    /// The keys in reading order.
     pub keys: Vec<String>,
     pub extracts: BTreeMap<String, String>,
 }
 
-/// The key of an open that wants this key, after so many that wanted it.
-pub(crate) fn numbered_key(alloc: Global, wanted: &str, count: usize) -> Result<String, AllocError>
-    ensures { IfOk result (λ key. string_bytes key ≡ numbered wanted.now count) }
+/// Returns the key of a placeholder with this base key, which was used `count` times before.
+pub(crate) fn numbered_key(alloc: Global, base: &str, count: usize) -> Result<String, AllocError>
+    ensures { IfOk result (λ key. string_bytes key ≡ numbered base.now count) }
 {
     if count == 0 {
-        String::from_str(alloc, wanted)
+        String::from_str(alloc, base)
     } else {
-        format!(in alloc; "{wanted}[{count}]")
+        format!(in alloc; "{base}[{count}]")
     }
 }
 
-/// How often the key was wanted.
-fn times_wanted_of(times_wanted: &BTreeMap<String, usize>, wanted: &str) -> usize
-    ensures { result ≡ unwrap_or (get_by_text times_wanted.now wanted.now) 0 }
+/// Returns how often the base key was used.
+fn uses_of(uses: &BTreeMap<String, usize>, base: &str) -> usize
+    ensures { result ≡ unwrap_or (get_by_text uses.now base.now) 0 }
 {
-    times_wanted.get(wanted).copied().unwrap_or(0)
+    uses.get(base).copied().unwrap_or(0)
 }
 
-/// Counts a key that was wanted so often once more. More than the greatest `usize` is answered as
-/// want of memory.
+/// Counts one more use of a base key, which was used `count` times before.
+///
+/// # Errors
+///
+/// If an allocation fails.
 fn count_once_more(
     alloc: Global,
-    times_wanted: &mut BTreeMap<String, usize>,
-    wanted: &str,
+    uses: &mut BTreeMap<String, usize>,
+    base: &str,
     count: usize,
 ) -> Result<(), AllocError>
-    requires { count ≡ unwrap_or (get_by_text times_wanted.old wanted.now) 0 }
-    ensures { OnOk result ((key : List ℕ) → unwrap_or (get_by_text times_wanted.new key) 0 ≡
-        (if bytes_eq wanted.now key then 1 else 0)
-        + unwrap_or (get_by_text times_wanted.old key) 0) }
+    requires counted { count ≡ unwrap_or (get_by_text uses.old base.now) 0 }
+    requires fits { count + 1 < 2 ^ 64 }
+    ensures { OnOk result ((key : List ℕ) → unwrap_or (get_by_text uses.new key) 0 ≡
+        (if bytes_eq base.now key then 1 else 0)
+        + unwrap_or (get_by_text uses.old key) 0) }
 {
-    let Some(next) = count.checked_add(1) else {
-        return Err(AllocError);
-    };
-    times_wanted.insert(String::from_str(alloc, wanted)?, next)?;
+    uses.insert(String::from_str(alloc, base)?, count + 1)?;
     Ok(())
 }
 
-/// Keeps an extract that isn't empty under the key.
+/// Keeps an extract under the key, unless it is empty.
 fn keep_extract(
     alloc: Global,
     extracts: &mut BTreeMap<String, String>,
@@ -87,25 +85,9 @@ fn keep_extract(
     Ok(())
 }
 
-/// Keeps a key that is assigned.
-fn keep_key(
-    assigned: &mut BTreeSet<String>,
-    keys: &mut Vec<String>,
-    key: String,
-) -> Result<(), AllocError>
-    ensures assigned { OnOk result ((other : List ℕ) → contains_text assigned.new other ≡
-        (if bytes_eq (string_bytes key) other then true else contains_text assigned.old other)) }
-    ensures keys { OnOk result (map string_bytes keys.new.items ≡
-        map string_bytes keys.old.items ++ string_bytes key ∷ []) }
-{
-    keys.push(key.clone()?)?;
-    assigned.insert(key)?;
-    Ok(())
-}
-
-/// The key that an open wants: its alias, or its name where it has none.
-pub(crate) fn wanted_key<'a>(label: Label<'a>) -> &'a str
-    ensures { result.now ≡ wanted_by (label_view label.entry) }
+/// Returns the base key of a placeholder: its alias, or its name if it has no alias.
+pub(crate) fn base_key<'a>(label: Label<'a>) -> &'a str
+    ensures { result.now ≡ base_key_of (label_view label.entry) }
 {
     if label.alias.is_empty() {
         label.name
@@ -115,40 +97,35 @@ pub(crate) fn wanted_key<'a>(label: Label<'a>) -> &'a str
 }
 
 impl KeyAssigner {
-    /// No open was assigned a key yet.
+    /// Makes an assigner that has assigned no key yet.
     pub fn new(alloc: Global) -> KeyAssigner
         ensures { HasAssigned result [] }
     {
         KeyAssigner {
             alloc,
-            times_wanted: BTreeMap::new(alloc),
-            assigned: BTreeSet::new(alloc),
+            uses: BTreeMap::new(alloc),
             keys: Vec::new(alloc),
             extracts: BTreeMap::new(alloc),
         }
     }
 
-    /// Whether an earlier open has the key.
-    fn has_key(&self, key: &str) -> bool
-        ensures { result ≡ contains_text self.now.assigned key.now }
+    /// Assigns a capturing placeholder its key, and keeps its extract. The caller knows that no
+    /// earlier placeholder has the key.
+    ///
+    /// # Errors
+    ///
+    /// If an allocation fails.
+    pub fn assign(&mut self, label: Label<'_>) -> Result<(), AllocError>
+        requires { CanAssign self.old 1 }
+        ensures { OnOk result ((before : List tree.Label) → HasAssigned self.old before →
+            HasAssigned self.new (label_view label.entry ∷ before)) }
     {
-        self.assigned.contains(key)
-    }
-
-    /// Assigns a recorded open its key, or answers the key if an earlier one has it.
-    pub fn assign(&mut self, label: Label<'_>) -> Result<Option<String>, AllocError>
-        ensures { IfOk result (λ clash. (before : List tree.Label) → HasAssigned self.old before →
-            Assigns before (label_view label.entry) self.new clash) }
-    {
-        let wanted = wanted_key(label);
-        let count = times_wanted_of(&self.times_wanted, wanted);
-        let key = numbered_key(self.alloc, wanted, count)?;
-        if self.has_key(key.as_str()) {
-            return Ok(Some(key));
-        }
-        count_once_more(self.alloc, &mut self.times_wanted, wanted, count)?;
+        let base = base_key(label);
+        let count = uses_of(&self.uses, base);
+        let key = numbered_key(self.alloc, base, count)?;
+        count_once_more(self.alloc, &mut self.uses, base, count)?;
         keep_extract(self.alloc, &mut self.extracts, key.as_str(), label.extract)?;
-        keep_key(&mut self.assigned, &mut self.keys, key)?;
-        Ok(None)
+        self.keys.push(key)?;
+        Ok(())
     }
 }

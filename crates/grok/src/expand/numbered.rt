@@ -1,26 +1,26 @@
-//! Which aliases end as a numbered key does, and what they number.
+//! Reads back numbered keys such as `key[2]`.
 ghost use Rattle.std.specs.Prelude.{◌≡◌, ℕ, suc, ◌<◌, ◌^◌, List, ◌∷◌, MatchOption};
 ghost use Rattle.grok.specs.Keys.{numbered, ends_in_number};
-ghost use Rattle.grok.specs.Endings.{ends_so};
+ghost use Rattle.grok.specs.Endings.{ends_after};
 
 use crate::numeral::number_of_numeral;
 
-/// What stands at the end of the bytes that were read so far.
+/// How the bytes that were read so far end.
 #[derive(Clone, Copy)]
 enum Ending {
     Other,
-    /// The bracket before a number.
+    /// In the bracket before a number.
     Bracket,
-    /// A bracket and a number from 1 up.
+    /// In a bracket and a number from 1 up.
     Number,
-    /// A number from 1 up in brackets.
+    /// In a number from 1 up in brackets.
     Closed,
 }
 
 impl Ending {
-    /// The end after one more byte.
+    /// Returns how the bytes end after one more byte.
     fn then(self, byte: u8) -> Ending
-        ensures { (rest : List ℕ) → ends_so self (byte ∷ rest) ≡ ends_so result rest }
+        ensures { (rest : List ℕ) → ends_after self (byte ∷ rest) ≡ ends_after result rest }
     {
         match (self, byte) {
             (_, b'[') => Ending::Bracket,
@@ -31,8 +31,8 @@ impl Ending {
     }
 }
 
-/// Whether the bytes, read one after another, end in a number from 1 up in brackets.
-fn reads_so(alias: &str) -> bool
+/// Returns whether the bytes end in a number from 1 up in brackets. It reads them all.
+fn bytes_end_in_number(alias: &str) -> bool
     ensures { result ≡ ends_in_number alias.now }
 {
     let mut ending = Ending::Other;
@@ -42,19 +42,19 @@ fn reads_so(alias: &str) -> bool
     matches!(ending, Ending::Closed)
 }
 
-/// Whether the alias ends in a number from 1 up in brackets: no other can be a key that an earlier
-/// placeholder was assigned for another alias.
+/// Returns whether the alias ends in a number from 1 up in brackets. Only such an alias can be equal
+/// to the numbered key of another alias.
 pub(crate) fn ends_in_number(alias: &str) -> bool
     ensures { result ≡ ends_in_number alias.now }
 {
     // Few aliases end in a bracket.
     match alias.strip_suffix(']') {
-        Some(_) => reads_so(alias),
+        Some(_) => bytes_end_in_number(alias),
         None => false,
     }
 }
 
-/// The key that this one numbers, and the number, if that fits.
+/// Returns the base key and the number of a numbered key, if the number fits a `usize`.
 pub(crate) fn parts_of_numbered(key: &str) -> Option<(&str, usize)>
     ensures { MatchOption result
         ((base : List ℕ) (count : ℕ) → suc count < 2 ^ 64 → key.now ≡ numbered base (suc count) → ⊥)

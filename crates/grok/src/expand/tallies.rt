@@ -1,118 +1,116 @@
-//! What the texts of names come to, up to their first faults: how deep their opens go, and which
-//! keys these want. Each text is read once for that.
+//! Counts each definition once, up to its first fault: how deep its placeholders are nested, and how
+//! often each base key is used.
 ghost use Rattle.std.specs.Prelude.{◌≡◌, ℕ, ◌+◌, ◌<◌, ◌≤◌, List, if◌then◌else◌, IsTrue, IfOk, OnOk, IfSome, Some, false};
 ghost use Rattle.std.specs.Str.{bytes_eq};
 ghost use Rattle.std.specs.FinMap as finite;
 ghost use Rattle.grok.specs.Tree as tree;
-ghost use Rattle.grok.specs.Keys.{is_recorded, wanted as wanted_by};
+ghost use Rattle.grok.specs.Keys.{is_capturing, base_key as base_key_of};
 ghost use Rattle.grok.specs.Items.{label_view, item_view};
-ghost use Rattle.grok.specs.Wanted.{Counts};
-ghost use Rattle.grok.specs.Tallied.{IsTallyOf, HasTallied, IsFrontOf, AreTallied, IsSoundItem, with_item};
+ghost use Rattle.grok.specs.KeyUses.{CountsUses};
+ghost use Rattle.grok.specs.Tallied.{IsTallyOf, HasTallied, IsCountedPartOf, AreTallied, IsSoundItem, with_item};
 
 use crate::defs::Grok;
 use crate::defs::definition::Definition;
 use crate::defs::items::{Item, Items, Label, Meaning};
 use crate::errors::fault::LEVELS;
-use crate::expand::key_assigner::wanted_key;
-use crate::expand::wanted::WantedCounts;
+use crate::expand::key_assigner::base_key;
+use crate::expand::key_uses::KeyUses;
 use std::alloc::{AllocError, Global};
 use std::collections::BTreeMap;
 
-/// More recorded opens than this aren't counted, so that no count of a tally is too large.
-const MOST_OPENS: usize = 1 << 62;
-
-/// What items come to where as many levels as their height may be opened: they have no structural
-/// fault, and their recorded opens want these keys.
+/// The count of some items: how many levels they need, and how often their capturing placeholders use
+/// each base key. With as many levels they have no structural fault.
 #[derive(Drop)]
-pub(crate) struct Tally<'a> {
+pub(crate) struct KeyTally<'a> {
     pub height: usize,
-    /// How many recorded opens were counted.
-    opens: usize,
-    pub wanted: WantedCounts<'a>,
+    pub uses: KeyUses<'a>,
 }
 
-/// The definitions, and whether placeholders without an alias are left unrecorded.
+/// The definitions, and whether only placeholders with an alias capture.
 #[derive(Clone, Copy)]
-pub(crate) struct Mode<'a> {
+pub(crate) struct CompileMode<'a> {
     pub grok: &'a Grok,
     pub with_alias_only: bool,
 }
 
-/// What was counted of a text: its first items, or all of them.
+/// The part of a definition that was counted: its first items, or all of them.
 #[derive(Drop)]
-pub(crate) struct Front<'a> {
-    pub tally: Tally<'a>,
+pub(crate) struct CountedPart<'a> {
+    pub tally: KeyTally<'a>,
     /// How many items were counted.
     pub items: usize,
     pub is_whole: bool,
 }
 
-/// What was counted of the texts of names.
+/// The counted parts of definitions, by name.
 #[derive(Drop)]
-pub(crate) struct Tallies<'a> {
-    by_name: BTreeMap<&'a str, Front<'a>>,
+pub(crate) struct DefinitionTallies<'a> {
+    by_name: BTreeMap<&'a str, CountedPart<'a>>,
 }
 
-impl<'a> Tally<'a> {
-    /// That of a text that holds no placeholder.
-    pub fn new(alloc: Global) -> Tally<'a>
+impl<'a> KeyTally<'a> {
+    /// Makes the tally of a text without placeholders.
+    pub fn new(alloc: Global) -> KeyTally<'a>
         ensures height { result.height ≡ 0 }
-        ensures counts { Counts result.wanted (λ key. 0) }
+        ensures counts { CountsUses result.uses (λ key. 0) }
     {
-        Tally {
+        KeyTally {
             height: 0,
-            opens: 0,
-            wanted: WantedCounts::new(alloc),
+            uses: KeyUses::new(alloc),
         }
     }
 
-    /// Counts the key that an open wants, if it is recorded.
+    /// Counts the use of a base key by a placeholder, if that captures.
     fn add_open(&mut self, label: Label<'a>, with_alias_only: bool) -> Result<(), AllocError>
         ensures height { OnOk result (self.new.height ≡ self.old.height) }
-        ensures counts { OnOk result ((wanted : List ℕ → ℕ) → Counts self.old.wanted wanted →
-            Counts self.new.wanted (λ key. (if is_recorded with_alias_only (label_view label.entry)
-            then (if bytes_eq (wanted_by (label_view label.entry)) key then 1 else 0) else 0)
-            + wanted key)) }
+        ensures counts { OnOk result ((uses : List ℕ → ℕ) → CountsUses self.old.uses uses →
+            CountsUses self.new.uses (λ key. (if is_capturing with_alias_only (label_view label.entry)
+            then (if bytes_eq (base_key_of (label_view label.entry)) key then 1 else 0) else 0)
+            + uses key)) }
     {
-        if label.is_recorded(with_alias_only) {
-            self.opens = self.opens.saturating_add(1);
-            self.wanted.add(wanted_key(label))?;
+        if label.is_capturing(with_alias_only) {
+            self.uses.add(base_key(label))?;
         }
         Ok(())
     }
 
-    /// Counts what an open holds, if the levels may be enough for it and it isn't too much.
-    fn add_opened(&mut self, inner: &Tally<'a>) -> Result<bool, AllocError>
+    /// Counts the definition of a placeholder, unless it needs too many levels, two keys clash with it, or a
+    /// base key is then used more than `usize::MAX` times. Entering such a
+    /// definition ends the search for the first fault, so it need not be counted.
+    fn add_opened(&mut self, inner: &KeyTally<'a>) -> Result<bool, AllocError>
         ensures height { IfOk result (λ added. IsTrue added →
             (inner.now.height < self.new.height) × (self.old.height ≤ self.new.height)) }
-        ensures counts { IfOk result (λ added. IsTrue added → (wanted others : List ℕ → ℕ)
-            → Counts self.old.wanted wanted → Counts inner.now.wanted others →
-            Counts self.new.wanted (λ key. others key + wanted key)) }
+        ensures counts { IfOk result (λ added. IsTrue added → (uses others : List ℕ → ℕ)
+            → CountsUses self.old.uses uses → CountsUses inner.now.uses others →
+            CountsUses self.new.uses (λ key. others key + uses key)) }
         ensures unchanged { IfOk result (λ added. added ≡ false → self.new ≡ self.old) }
     {
-        let opens = self.opens.saturating_add(inner.opens);
-        if inner.height >= LEVELS || opens > MOST_OPENS {
+        if inner.height >= LEVELS || self.uses.is_free_with(&inner.uses) != Some(true) {
             return Ok(false);
         }
-        self.opens = opens;
         self.height = self.height.max(inner.height + 1);
-        self.wanted.add_all(&inner.wanted)?;
+        self.uses.add_all(&inner.uses)?;
         Ok(true)
     }
 
-    /// Counts an open with what it holds, if that isn't too much.
+    /// Counts a placeholder with its definition, as `add_opened` does, if its own use can be counted too.
     fn add_placeholder(
         &mut self,
         label: Label<'a>,
         with_alias_only: bool,
-        inner: &Tally<'a>,
+        inner: &KeyTally<'a>,
     ) -> Result<bool, AllocError>
-        ensures { IfOk result (λ added. (mode : Mode) (meaning : tree.Meaning)
+        ensures { IfOk result (λ added. (mode : CompileMode) (meaning : tree.Meaning)
             (front : List tree.Item) → mode.with_alias_only ≡ with_alias_only
             → IsTallyOf mode (tree.meaning_text meaning) inner.now
             → HasTallied mode front self.old → HasTallied mode
             (with_item added front (tree.PlaceholderItem (label_view label.entry) meaning)) self.new) }
     {
+        let key = base_key(label);
+        let uses = self.uses.times_of(key);
+        if uses.saturating_add(inner.uses.times_of(key)) == usize::MAX {
+            return Ok(false);
+        }
         if !self.add_opened(inner)? {
             return Ok(false);
         }
@@ -121,22 +119,21 @@ impl<'a> Tally<'a> {
     }
 }
 
-impl<'a> Tallies<'a> {
-    /// What was counted of the text of a name, if that was.
-    pub fn of_name(&self, name: &'a str) -> Option<&Front<'a>>
-        ensures { IfSome result (λ front. (mode : Mode) → AreTallied mode self.now → (text : List ℕ)
-            → finite.get mode.grok.now name.now ≡ Some text → IsFrontOf mode text front.now) }
+impl<'a> DefinitionTallies<'a> {
+    /// Returns the counted part of the definition of a name, if there is one.
+    pub fn of_name(&self, name: &'a str) -> Option<&CountedPart<'a>>
+        ensures { IfSome result (λ front. (mode : CompileMode) → AreTallied mode self.now → (text : List ℕ)
+            → finite.get mode.grok.now name.now ≡ Some text → IsCountedPartOf mode text front.now) }
     {
         self.by_name.get(&name)
     }
 
-    /// Counts an item of a text, with all that it opens. Answers whether that is known to have no
-    /// fault.
+    /// Counts an item with its definition. Returns whether these are known to have no fault.
     fn count_item(
         &self,
-        mode: Mode<'a>,
+        mode: CompileMode<'a>,
         item: Item<'a>,
-        tally: &mut Tally<'a>,
+        tally: &mut KeyTally<'a>,
     ) -> Result<bool, AllocError>
         requires { AreTallied mode self.now }
         ensures { IfOk result (λ known. IsSoundItem mode.entry (item_view item.entry)
@@ -148,7 +145,7 @@ impl<'a> Tallies<'a> {
             Item::Fault(_) => Ok(false),
             Item::Placeholder(label, meaning) => match meaning {
                 Meaning::Inline(_) => {
-                    let nothing = Tally::new(mode.grok.alloc());
+                    let nothing = KeyTally::new(mode.grok.alloc());
                     tally.add_placeholder(label, mode.with_alias_only, &nothing)
                 }
                 Meaning::Stored(_) => match self.of_name(label.name) {
@@ -161,15 +158,19 @@ impl<'a> Tallies<'a> {
         }
     }
 
-    /// Counts the items of a stored text up to the first that isn't known to have no fault.
-    fn count_text(&self, mode: Mode<'a>, stored: &'a Definition) -> Result<Front<'a>, AllocError>
+    /// Counts the items of a definition up to the first that isn't known to have no fault.
+    fn count_text(
+        &self,
+        mode: CompileMode<'a>,
+        stored: &'a Definition,
+    ) -> Result<CountedPart<'a>, AllocError>
         requires { AreTallied mode self.now }
-        ensures { IfOk result (λ front. IsFrontOf mode.entry stored.now front) }
+        ensures { IfOk result (λ front. IsCountedPartOf mode.entry stored.now front) }
     {
         let alloc = mode.grok.alloc();
         let mut items = Items::of_stored(alloc, mode.grok, stored);
-        let mut front = Front {
-            tally: Tally::new(alloc),
+        let mut front = CountedPart {
+            tally: KeyTally::new(alloc),
             items: 0,
             is_whole: false,
         };
@@ -186,8 +187,8 @@ impl<'a> Tallies<'a> {
         Ok(front)
     }
 
-    /// Counts the text of a name.
-    fn add_name(&mut self, mode: Mode<'a>, name: &'a str) -> Result<(), AllocError>
+    /// Counts the definition of a name.
+    fn add_name(&mut self, mode: CompileMode<'a>, name: &'a str) -> Result<(), AllocError>
         requires { AreTallied mode self.old }
         ensures { OnOk result (AreTallied mode.entry self.new) }
     {
@@ -198,12 +199,15 @@ impl<'a> Tallies<'a> {
         Ok(())
     }
 
-    /// What is counted of the texts of these names, of which each stands behind those that its text
-    /// opens: else its text is counted up to there.
-    pub fn of_names(mode: Mode<'a>, names: &[(usize, &'a str)]) -> Result<Tallies<'a>, AllocError>
+    /// Counts the definitions of these names. Each name should come after the names that its
+    /// definition uses. Otherwise the definition is counted up to the first that is missing.
+    pub fn of_names(
+        mode: CompileMode<'a>,
+        names: &[(usize, &'a str)],
+    ) -> Result<DefinitionTallies<'a>, AllocError>
         ensures { IfOk result (λ tallies. AreTallied mode.entry tallies) }
     {
-        let mut tallies = Tallies {
+        let mut tallies = DefinitionTallies {
             by_name: BTreeMap::new(mode.grok.alloc()),
         };
         'names: for &(_, name) in names {

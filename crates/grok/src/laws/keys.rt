@@ -2,16 +2,17 @@
 ghost use Rattle.grok.specs.Keys.{EndsInNumberWhereNumbered, ClashNeedsNumber, KeysAreDistinct};
 ghost use Rattle.grok.specs.FirstFault.{FirstFaultIsFirst, ExtractIsLast};
 
-/// Laws of the keys that recorded opens of a tree are assigned: a key ends in a number in brackets
-/// exactly where it is a numbered one, without an alias that ends so there is no clash, and without
-/// a fault no two opens share a key.
+/// Laws of the keys of capturing placeholders. A key ends in a number in brackets exactly if it is a
+/// numbered one. Without an alias that ends so there is no clash. If the first fault is not a clash,
+/// no two capturing placeholders before it share a key.
 pub fn laws_of_keys()
     ensures numbered { EndsInNumberWhereNumbered }
     ensures clash { ClashNeedsNumber }
     ensures distinct { KeysAreDistinct }
 {}
 
-/// The first fault of a tree is where its events can be cut with no fault before, and the extract of a key is that of the last open that has the key and an extract.
+/// No event before the first fault of a tree is a fault. The extract of a key is that of the last
+/// placeholder that has the key and an extract.
 pub fn laws_of_order()
     ensures fault { FirstFaultIsFirst }
     ensures extract { ExtractIsLast }

@@ -2,7 +2,7 @@
 //! its contract is what is proved.
 ghost use Rattle.std.specs.Prelude.{◌≡◌, ℕ, ◌++◌, List, [], ◌∷◌, length};
 ghost use Rattle.grok.specs.Grammar.{NonePass};
-ghost use Rattle.grok.specs.Joined.{joined, IsClean, AreRegular};
+ghost use Rattle.grok.specs.Joined.{joined, AreWellFormed, AreRegular};
 ghost use Rattle.grok.specs.Pieces.{Piece, Parts, Placeholder, Malformed, pieces, is_brace};
 ghost use Rattle.grok.specs.Tiles.{Tile};
 
@@ -14,12 +14,12 @@ use crate::parser::GrokPatternError;
 /// Joining the pieces of a text without a fault gives the text back. A text without braces has
 /// regular pieces only, which join to it, and the definition in a placeholder is such a text. The
 /// text of a placeholder, split by itself, is that placeholder.
-#[tactic(auto, using(crate::proofs::PieceLaws::laws))]
+#[tactic(auto, using(crate::proofs::Pieces::PieceLaws::laws))]
 pub fn pieces()
     ensures tile { (text : List ℕ) → Tile text 0 (pieces text) }
     ensures last { (text : List ℕ) (before after : List Piece) (fault : GrokPatternError)
         → pieces text ≡ before ++ Malformed fault ∷ after → after ≡ [] }
-    ensures join { (text : List ℕ) → IsClean (pieces text) → joined (pieces text) ≡ text }
+    ensures join { (text : List ℕ) → AreWellFormed (pieces text) → joined (pieces text) ≡ text }
     ensures regular { (text : List ℕ) → NonePass is_brace text → AreRegular (pieces text)
         × (joined (pieces text) ≡ text) }
     ensures inline { (text : List ℕ) (before after : List Piece) (from to : ℕ) (pattern : List ℕ)

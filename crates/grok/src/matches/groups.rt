@@ -1,14 +1,14 @@
-//! The texts of a match's groups: in a list, or where they stand in the line.
+//! The texts of a match's groups, kept as a list of texts or as byte ranges of the line.
 ghost use Rattle.std.specs.Prelude.{◌≡◌, IfSome, option_map, slice_index_or};
 ghost use Rattle.grok.specs.Captures.{text_of, capture_texts};
 ghost use Rattle.grok.specs.Locations.{IsLocationIn, AreLocationsIn, located_texts};
 ghost use Rattle.grok.specs.Answers.{capture_at};
 
-/// Where the groups of a match stand in its line.
+/// The byte ranges of the groups of a match in its line.
 #[derive(Clone, Copy)]
 pub(crate) struct Located<'a> {
     line: &'a str,
-    /// From group 0 on the start and the end of each group that took part, in bytes.
+    /// The start and the end of each group that took part, in bytes, from group 0 on.
     locations: &'a [Option<(usize, usize)>],
     ghost inside: { AreLocationsIn line.now locations.now },
 }
@@ -16,13 +16,13 @@ pub(crate) struct Located<'a> {
 /// The texts of a match's groups.
 #[derive(Clone, Copy)]
 pub(crate) enum GroupTexts<'a> {
-    /// In a list, from group 0 on.
+    /// A list of texts, from group 0 on.
     Listed(&'a [Option<&'a str>]),
-    /// In the line.
+    /// Byte ranges of the line.
     Located(Located<'a>),
 }
 
-/// The text of a group in a list, if it took part.
+/// Returns the text of a group in a list, if it took part.
 pub(crate) fn capture_of<'a>(captures: &[Option<&'a str>], group: usize) -> Option<&'a str>
     ensures { option_map text_of result ≡ capture_at (capture_texts captures.now) group }
 {
@@ -30,7 +30,7 @@ pub(crate) fn capture_of<'a>(captures: &[Option<&'a str>], group: usize) -> Opti
 }
 
 impl<'a> Located<'a> {
-    /// The places of a match's groups in this line.
+    /// Takes these byte ranges as those of a match's groups in the line.
     pub(crate) fn new(line: &'a str, locations: &'a [Option<(usize, usize)>]) -> Located<'a>
         requires { AreLocationsIn line.now locations.now }
         ensures line { result.line.now ≡ line.now }
@@ -39,8 +39,8 @@ impl<'a> Located<'a> {
         Located { line, locations }
     }
 
-    /// Where a group stands, if it took part.
-    #[tactic(auto, using(crate::proofs::LocationLemmas::location_in))]
+    /// Returns the byte range of a group, if it took part.
+    #[tactic(auto, using(crate::proofs::Captures::GroupsLieInLine::location_in))]
     fn location(&self, group: usize) -> Option<(usize, usize)>
         ensures at { result ≡ slice_index_or self.now.locations.now group None }
         ensures inside { IfSome result (IsLocationIn self.now.line.now) }
@@ -48,8 +48,8 @@ impl<'a> Located<'a> {
         self.locations.get(group).copied()?
     }
 
-    /// The text of a group, if it took part.
-    #[tactic(auto, using(crate::proofs::LocationLemmas::text_located))]
+    /// Returns the text of a group, if it took part.
+    #[tactic(auto, using(crate::proofs::Captures::GroupsLieInLine::text_located))]
     pub(crate) fn get(&self, group: usize) -> Option<&'a str>
         ensures { option_map text_of result
             ≡ capture_at (located_texts self.now.line.now self.now.locations.now) group }
@@ -62,7 +62,7 @@ impl<'a> Located<'a> {
 impl<'a> GroupTexts<'a> {
     ghost use Rattle.grok.specs.Groups.{group_texts};
 
-    /// The text of a group, if it took part.
+    /// Returns the text of a group, if it took part.
     pub(crate) fn get(&self, group: usize) -> Option<&'a str>
         ensures { option_map text_of result ≡ capture_at (group_texts self.now) group }
     {

@@ -6,7 +6,7 @@ ghost use mir.Syntax.{named};
 ghost use Rattle.grok.specs.Captures.{AreSlicesOf};
 
 use crate::engine::matcher::{EngineMatcher, HasMatcher};
-use crate::matches::lent::MatchesRef;
+use crate::matches::borrowed::MatchesRef;
 use crate::matches::search::KeptSearch;
 use crate::matches::{MatchesOf, PatternOf};
 use std::alloc::{AllocError, Global};
@@ -33,7 +33,7 @@ impl<'p, E: HasMatcher<'p>> Model for MatcherOf<'p, E> {
 
 impl<'p, E: HasMatcher<'p>> MatcherOf<'p, E> {
     ghost use Rattle.grok.specs.contracts.matches.matcher.MatcherOf.{the_row};
-    ghost use Rattle.grok.specs.Lent.{lent_keys, lent_captures};
+    ghost use Rattle.grok.specs.BorrowedMatches.{borrowed_keys, borrowed_captures};
 
     /// Makes the matcher of a pattern with this engine.
     pub(crate) fn new(
@@ -60,7 +60,7 @@ impl<'p, E: HasMatcher<'p>> MatcherOf<'p, E> {
             ≡ E.answer_to self.old.engine text.now) }
         ensures pattern { IfOk result
             (λ found. IfSome found (λ matches. matches.pattern ≡ self.old)) }
-        ensures places { IfOk result (λ found. IfSome found (λ matches. length matches.captures
+        ensures all_groups { IfOk result (λ found. IfSome found (λ matches. length matches.captures
             ≡ length (E.group_names self.old.engine))) }
         ensures slices { IfOk result
             (λ found. IfSome found (λ matches. AreSlicesOf text.now matches.captures)) }
@@ -77,15 +77,15 @@ impl<'p, E: HasMatcher<'p>> MatcherOf<'p, E> {
     pub fn find<'m>(&'m mut self, text: &'m str) -> Result<Option<MatchesRef<'m>>, AllocError>
     where
         'p: 'm,
-        ensures captures { IfOk result (λ found. option_map lent_captures found
+        ensures captures { IfOk result (λ found. option_map borrowed_captures found
             ≡ E.answer_to self.old.engine text.now) }
         ensures keys { IfOk result
-            (λ found. IfSome found (λ matches. lent_keys matches ≡ self.old.keys)) }
-        ensures places { IfOk result
-            (λ found. IfSome found (λ matches. length (lent_captures matches)
+            (λ found. IfSome found (λ matches. borrowed_keys matches ≡ self.old.keys)) }
+        ensures all_groups { IfOk result
+            (λ found. IfSome found (λ matches. length (borrowed_captures matches)
             ≡ length (E.group_names self.old.engine))) }
         ensures slices { IfOk result
-            (λ found. IfSome found (λ matches. AreSlicesOf text.now (lent_captures matches))) }
+            (λ found. IfSome found (λ matches. AreSlicesOf text.now (borrowed_captures matches))) }
 
         // Once the match is given back, the matcher is what it was.
         ensures* same { sem 𝓛 (Rests (the_row (record { mir = named 0; lft = [] }) E.row
@@ -95,6 +95,6 @@ impl<'p, E: HasMatcher<'p>> MatcherOf<'p, E> {
         if !self.search.read(text)? {
             return Ok(None);
         }
-        Ok(Some(self.search.lend(text)))
+        Ok(Some(self.search.last_match(text)))
     }
 }

@@ -1,4 +1,4 @@
-//! A pattern with a search that is kept, and room for what it finds.
+//! A pattern with a search that is kept from line to line.
 ghost use Rattle.std.specs.Prelude.{◌≡◌, Some, None, vec_len, option_map, length, if◌then◌else◌, IfOk, IfSome, IsTrue};
 ghost use Rattle.grok.specs.Locations.{AreLocationsIn, located_texts};
 ghost use Rattle.grok.specs.Captures.{capture_texts, AreSlicesOf};
@@ -6,12 +6,12 @@ ghost use Rattle.grok.specs.Captures.{capture_texts, AreSlicesOf};
 use crate::engine::Engine;
 use crate::engine::matcher::{EngineMatcher, HasMatcher};
 use crate::matches::PatternOf;
+use crate::matches::borrowed::MatchesRef;
 use crate::matches::groups::Located;
-use crate::matches::lent::MatchesRef;
 use std::alloc::{AllocError, Global};
 
-/// A pattern, its engine's search, and room for where the groups of a match stand. The search and the
-/// room are kept from line to line.
+/// A pattern, its engine's search, and a list for the byte ranges of the groups of a match. The
+/// search and the list are kept from line to line.
 #[derive(Drop)]
 pub(crate) struct KeptSearch<'p, E: HasMatcher<'p>> {
     pub(crate) pattern: &'p PatternOf<E>,
@@ -22,9 +22,9 @@ pub(crate) struct KeptSearch<'p, E: HasMatcher<'p>> {
 }
 
 impl<'p, E: HasMatcher<'p>> KeptSearch<'p, E> {
-    ghost use Rattle.grok.specs.Lent.{lent_keys, lent_captures};
+    ghost use Rattle.grok.specs.BorrowedMatches.{borrowed_keys, borrowed_captures};
 
-    /// The search of a pattern with this engine.
+    /// Makes the search of a pattern with this engine.
     pub(crate) fn new(
         alloc: Global,
         pattern: &'p PatternOf<E>,
@@ -42,12 +42,13 @@ impl<'p, E: HasMatcher<'p>> KeptSearch<'p, E> {
         })
     }
 
-    /// Whether there is a match in the line. Then the places are those of its groups.
+    /// Returns whether there is a match in the line. If so, the list has the byte ranges of its
+    /// groups.
     pub(crate) fn read(&mut self, line: &str) -> Result<bool, AllocError>
         ensures answer { IfOk result (λ is_match. (if is_match
             then Some (located_texts line.now self.new.locations.items) else None)
             ≡ E.answer_to self.old.pattern.now.engine line.now) }
-        ensures places { IfOk result (λ is_match. IsTrue is_match
+        ensures all_groups { IfOk result (λ is_match. IsTrue is_match
             → vec_len self.new.locations ≡ length (E.group_names self.old.pattern.now.engine)) }
         ensures inside { IfOk result (λ is_match. IsTrue is_match
             → AreLocationsIn line.now self.new.locations.items) }
@@ -56,7 +57,7 @@ impl<'p, E: HasMatcher<'p>> KeptSearch<'p, E> {
         self.matcher.captures_read(&mut self.locations, line)
     }
 
-    /// The texts of the groups of the first match in the line, in a list of their own.
+    /// Returns the texts of the groups of the first match in the line, in a list of their own.
     pub(crate) fn captures<'t>(
         &mut self,
         alloc: Global,
@@ -65,7 +66,7 @@ impl<'p, E: HasMatcher<'p>> KeptSearch<'p, E> {
         ensures answer { IfOk result
             (λ found. option_map (λ captures. capture_texts captures.items) found
             ≡ E.answer_to self.old.pattern.now.engine line.now) }
-        ensures places { IfOk result (λ found. IfSome found (λ captures. vec_len captures
+        ensures all_groups { IfOk result (λ found. IfSome found (λ captures. vec_len captures
             ≡ length (E.group_names self.old.pattern.now.engine))) }
         ensures slices { IfOk result (λ found. IfSome found (λ captures. AreSlicesOf line.now
             (capture_texts captures.items))) }
@@ -74,15 +75,15 @@ impl<'p, E: HasMatcher<'p>> KeptSearch<'p, E> {
         self.matcher.captures(alloc, line)
     }
 
-    /// The last match, which stands in this line.
-    #[tactic(auto, using(crate::proofs::LocationLemmas::slices_located))]
-    pub(crate) fn lend<'m>(&'m self, line: &'m str) -> MatchesRef<'m>
+    /// Returns the match that `read` found in this line, borrowed from the search.
+    #[tactic(auto, using(crate::proofs::Captures::GroupsLieInLine::slices_located))]
+    pub(crate) fn last_match<'m>(&'m self, line: &'m str) -> MatchesRef<'m>
     where
         'p: 'm,
         requires { AreLocationsIn line.now self.now.locations.items }
-        ensures keys { lent_keys result ≡ self.now.pattern.now.keys }
-        ensures captures { lent_captures result ≡ located_texts line.now self.now.locations.items }
-        ensures slices { AreSlicesOf line.now (lent_captures result) }
+        ensures keys { borrowed_keys result ≡ self.now.pattern.now.keys }
+        ensures captures { borrowed_captures result ≡ located_texts line.now self.now.locations.items }
+        ensures slices { AreSlicesOf line.now (borrowed_captures result) }
     {
         let pattern = self.pattern;
         MatchesRef::new(&pattern.keys, Located::new(line, &self.locations))

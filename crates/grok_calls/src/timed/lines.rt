@@ -215,12 +215,12 @@ pub(crate) enum Asked {
     Calls(usize),
 }
 
-/// Compiles the pattern over the definitions on standard input, and asks for the lines that stand there behind an empty
+/// Compiles the pattern over the definitions on standard input, and asks for the lines that stand there after an empty
 /// one. As by `match -a`, only placeholders with an alias are recorded.
 pub(crate) fn call(rt: &HostRuntime, pattern: &str, asked: Asked) -> Result<()> {
     let text = io::read_to_string(rt.alloc(), rt.stdin())?;
     let Some((definitions, log)) = text.split_once("\n\n") else {
-        bail!("no empty line behind the definitions");
+        bail!("no empty line after the definitions");
     };
     let pattern = library(rt.alloc(), definitions)?.compile(pattern, true)?;
     let lines = lines_of(rt.alloc(), log)?;

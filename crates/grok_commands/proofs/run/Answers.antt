@@ -9,7 +9,7 @@ use Rattle.grok_commands.specs.Library.{library_of}
 use Rattle.grok_commands.specs.Runs.{PieceLine, CheckLine, IsAnswer, HasJob, IsUntouched, IsDone, IsCutShort}
 use Rattle.grok_commands.specs.SizeTexts.{IsCheckLine}
 use Rattle.grok_commands.specs.Split.{IsPieceLine}
-use Rattle.grok_commands.specs.Traffic.{Traffic, traffic}
+use Rattle.grok_lines.specs.Traffic.{Traffic, traffic}
 use Rattle.grok_commands.proofs.Answering.{answered_mapped, begun_mapped}
 use Rattle.grok_commands.proofs.run.Goals as goal
 

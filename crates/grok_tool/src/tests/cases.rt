@@ -1,5 +1,5 @@
 //! One run of each command that succeeds, with its whole output.
-use super::THE_TEN;
+use super::DEFAULT_SIZES;
 use super::devices::{FakeReader, FakeWriter};
 use super::outcome::{Ending, Outcome, check_outcome, outcome_of};
 use std::process::Abort;
@@ -78,10 +78,10 @@ pub const CASES: [Case; 5] = [
         output: "{\"k\":\"p\"}\nnull\nfalse\n",
     },
     Case {
-        name: "the sizes of the ten",
+        name: "the sizes of the default definitions",
         words: &["check"],
         reads: false,
-        output: THE_TEN,
+        output: DEFAULT_SIZES,
     },
 ];
 

@@ -124,12 +124,12 @@ fn check_failed_read(
     row: &FailedRead,
     failing: Failing,
     bad: usize,
-    wanted: &str,
+    expected: &str,
 ) {
     let mut reader = FakeReader::new(row.input);
     reader.most = 1;
     reader.failing = failing;
-    let outcome = outcome_of(rt, row.words, reader, FakeWriter::new(rt.alloc()), wanted);
+    let outcome = outcome_of(rt, row.words, reader, FakeWriter::new(rt.alloc()), expected);
     check_outcome(
         rt,
         row.name,
@@ -137,7 +137,7 @@ fn check_failed_read(
         Outcome {
             ending: Ending::Read,
             reads: bad.saturating_add(1),
-            taken: wanted.len(),
+            taken: expected.len(),
             ..outcome
         },
     );
@@ -152,13 +152,13 @@ fn check_failed_reads(rt: &(impl Abort + AllocGlobal), row: &FailedRead) {
         "{}",
         row.name
     );
-    for (given, wanted) in row.before.iter().enumerate() {
-        check_failed_read(rt, row, Failing::since(given), given, wanted);
-        check_failed_read(rt, row, Failing::blocking_at(given), given, wanted);
+    for (given, expected) in row.before.iter().enumerate() {
+        check_failed_read(rt, row, Failing::since(given), given, expected);
+        check_failed_read(rt, row, Failing::blocking_at(given), given, expected);
         let bad = given.saturating_mul(2);
         let mut failing = Failing::since(bad);
         failing.interrupts = true;
-        check_failed_read(rt, row, failing, bad, wanted);
+        check_failed_read(rt, row, failing, bad, expected);
     }
 }
 
@@ -283,12 +283,12 @@ fn check_failed_byte(rt: &(impl Abort + AllocGlobal), row: &Run, bad: usize) {
     writer.failing = Failing::since(bad);
     let reader = FakeReader::new(row.input);
     let outcome = outcome_of(rt, row.words, reader, writer, row.output);
-    let wanted = Outcome {
+    let expected = Outcome {
         ending: Ending::Write,
         taken: bad,
         ..outcome
     };
-    check_outcome(rt, row.name, outcome, wanted);
+    check_outcome(rt, row.name, outcome, expected);
 }
 
 #[test]
@@ -319,7 +319,7 @@ fn a_failed_flush(rt: HostRuntime) -> Result<(), Fail> {
         writer.bad_flush = true;
         let reader = FakeReader::new(LINES);
         let outcome = outcome_of(&rt, case.words, reader, writer, case.output);
-        let wanted = Outcome {
+        let expected = Outcome {
             ending: Ending::Write,
             left: LINES,
             reads: 0,
@@ -327,7 +327,7 @@ fn a_failed_flush(rt: HostRuntime) -> Result<(), Fail> {
             writes: if case.reads { 0 } else { 1 },
             flushes: 1,
         };
-        check_outcome(&rt, case.name, outcome, wanted);
+        check_outcome(&rt, case.name, outcome, expected);
     }
     Ok(())
 }

@@ -56,13 +56,13 @@ const ROWS: &[Run] = &[
         output: "k=a\n\n",
     },
     Run {
-        name: "a line without a line feed behind another one",
+        name: "a line without a line feed after another one",
         words: &["match", "(?<k>.)"],
         input: b"p\nq",
         output: "k=p\n\nk=q\n\n",
     },
     Run {
-        name: "a line without a line feed behind another one, by a pattern that could take a line feed",
+        name: "a line without a line feed after another one, by a pattern that could take a line feed",
         words: &["match", KEYED],
         input: b"p\nq",
         output: "k=p\n\nk=q\n\n",

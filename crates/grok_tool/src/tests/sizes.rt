@@ -1,5 +1,5 @@
 //! Runs of `measure` and of `check`.
-use super::THE_TEN;
+use super::DEFAULT_SIZES;
 use super::cases::{Run, UNREAD};
 use super::devices::{FakeReader, FakeWriter};
 use super::outcome::{Ending, Outcome, check_outcome, check_pattern_fault, ending_of, outcome_at};
@@ -28,7 +28,7 @@ const SIZES: &[Run] = &[
         ..UNREAD
     },
     Run {
-        name: "one of the ten",
+        name: "a default definition",
         words: &["measure", "%{MAC}"],
         output: "length 163 groups 4 nesting 2\n",
         ..UNREAD
@@ -52,7 +52,7 @@ const SIZES: &[Run] = &[
         ..UNREAD
     },
     Run {
-        name: "the word of the mode is a pattern behind the mode",
+        name: "the word of the mode is a pattern after the mode",
         words: &["measure", "-a", "-a"],
         output: "length 2 groups 0 nesting 0\n",
         ..UNREAD
@@ -76,7 +76,7 @@ const SIZES: &[Run] = &[
         ..UNREAD
     },
     Run {
-        name: "a definition in place of one of the ten",
+        name: "a definition in place of a default one",
         words: &["measure", "%{DAY}", "DAY=x"],
         output: "length 10 groups 1 nesting 1\n",
         ..UNREAD
@@ -117,16 +117,16 @@ const FAULTS: &[Run] = &[
     },
 ];
 
-/// Checks of the ten, and the ten lines of each.
+/// Checks of the default definitions, and the lines of each.
 const LISTS: &[Run] = &[
     Run {
-        name: "the ten",
+        name: "the default definitions",
         words: &["check"],
-        output: THE_TEN,
+        output: DEFAULT_SIZES,
         ..UNREAD
     },
     Run {
-        name: "the ten without aliases",
+        name: "the default definitions without aliases",
         words: &["check", "-a"],
         output: "CISCOMAC: length 45 groups 0 nesting 1\n\
          COMMONMAC: length 44 groups 0 nesting 1\n\
@@ -175,7 +175,7 @@ fn doublings(alloc: Global, last: u8) -> Result<Vec<String>, AllocError> {
     Ok(words)
 }
 
-/// These words, and behind them the doublings.
+/// These words, and after them the doublings.
 fn with_doublings<'a>(
     alloc: Global,
     first: &[&'a str],
@@ -211,7 +211,7 @@ fn written(rt: &(impl Abort + AllocGlobal), name: &str, words: &[&str]) -> Vec<u
     writer.taken
 }
 
-/// Runs a row, with these words behind its own: it succeeds, reads nothing and writes its output, in one write.
+/// Runs a row, with these words after its own: it succeeds, reads nothing and writes its output, in one write.
 fn check_written(
     rt: &(impl Abort + AllocGlobal),
     row: &Run,

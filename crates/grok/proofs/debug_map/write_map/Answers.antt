@@ -1,6 +1,6 @@
 use Rattle.std.proofs.Common.{Ok, refl, rules}
 use Rattle.grok.specs.Debugs.{debug_item}
-use Rattle.grok.proofs.Debugging.{begins, goes_on, ends}
+use Rattle.grok.proofs.Texts.DebugOfEntries.{begins, goes_on, ends}
 use Rattle.grok.proofs.debug_map.write_map.Goals as goal
 
 pub entries-init : goal.entries-init

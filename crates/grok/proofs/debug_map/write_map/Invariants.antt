@@ -2,7 +2,7 @@ use denote.Text.{Utf8}
 use denote.Shadow.{shadow}
 use Rattle.std.specs.Fmt.{IsPlainFormatter}
 use Rattle.grok.specs.Debugs.{debug_item}
-use Rattle.grok.proofs.Debugging.{IsWriting}
+use Rattle.grok.proofs.Texts.DebugOfEntries.{IsWriting}
 use Rattle.grok.proofs.debug_map.write_map.Given as goal
 
 abbrev pub invariant-entries : goal.invariant-entries

@@ -7,7 +7,7 @@ use Rattle.std.specs.Ordering.{nat_cmp}
 use Rattle.std.proofs.lemmas.Map.Text.{btree_map_updates_str}
 use Rattle.grok.specs.KeyTable.{last_or, groups_from, group_of, meant_key}
 use Rattle.grok.specs.Captures.{name_texts}
-use Rattle.grok.proofs.MeantKeys.{no_name, one_name}
+use Rattle.grok.proofs.KeyTables.NamesMeanKeys.{no_name, one_name}
 use Rattle.grok.proofs.key_table.groups_by_key.Goals.{in-Some+in_ok-insert, in_default}
 use Rattle.grok.proofs.key_table.groups_by_key.Goals as goal
 

@@ -2,7 +2,7 @@ use Rattle.std.proofs.Common.{◌≡◌, ℕ, List, [], map, ◌+◌, ◌∙◌,
 use Rattle.std.specs.String.{string_bytes}
 use Rattle.grok.specs.GeneratedNames.{generated}
 use Rattle.grok.specs.KeyTable.{meant_from}
-use Rattle.grok.proofs.MeantKeys.{meant_given, meant_itself, generated_same, get_mapped}
+use Rattle.grok.proofs.KeyTables.NamesMeanKeys.{meant_given, meant_itself, generated_same, get_mapped}
 use Rattle.std.proofs.lemmas.List.{length-map}
 use Rattle.grok.proofs.key_table.meant.Goals as goal
 

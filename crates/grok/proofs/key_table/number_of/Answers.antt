@@ -1,4 +1,4 @@
-use Rattle.grok.proofs.MeantKeys.{stripped, read_back}
+use Rattle.grok.proofs.KeyTables.NamesMeanKeys.{stripped, read_back}
 use Rattle.grok.specs.GeneratedNames.{name_start}
 use Rattle.grok.proofs.key_table.number_of.Goals as goal
 

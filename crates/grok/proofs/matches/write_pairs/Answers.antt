@@ -1,7 +1,7 @@
 use Rattle.std.proofs.Common.{Ok, refl, rules}
 use Rattle.grok.specs.Debugs.{debug_pair}
 use Rattle.grok.specs.Maps.{pair_texts}
-use Rattle.grok.proofs.Debugging.{begins, goes_on, ends}
+use Rattle.grok.proofs.Texts.DebugOfEntries.{begins, goes_on, ends}
 use Rattle.grok.proofs.matches.write_pairs.Goals as goal
 
 pub pairs-init : goal.pairs-init

@@ -2,7 +2,7 @@ use denote.Text.{Utf8}
 use denote.Shadow.{shadow}
 use Rattle.std.specs.Fmt.{IsPlainFormatter}
 use Rattle.grok.specs.Debugs.{debug_pair}
-use Rattle.grok.proofs.Debugging.{IsWriting}
+use Rattle.grok.proofs.Texts.DebugOfEntries.{IsWriting}
 use Rattle.grok.proofs.matches.write_pairs.Given as goal
 
 abbrev pub invariant-pairs : goal.invariant-pairs

@@ -4,8 +4,8 @@ use Rattle.std.specs.Result.{result_ok}
 use Rattle.std.proofs.lemmas.Bool.{true≢false}
 use Rattle.std.proofs.lemmas.Fmt.{parse-decimal}
 use Rattle.grok.specs.Numeral.{numeral}
-use Rattle.grok.proofs.SameText.{same_text, text_same}
-use Rattle.grok.proofs.Numerals.{numeral_is_decimal}
+use Rattle.grok.proofs.Texts.EqualBytesAreSameText.{same_text, text_same}
+use Rattle.grok.proofs.Texts.NumeralsAreDecimal.{numeral_is_decimal}
 use Rattle.grok.proofs.numeral.number_of_numeral.Goals as goal
 
 pub returns-in_err-number : goal.returns-in_err-number

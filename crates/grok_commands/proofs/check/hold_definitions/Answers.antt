@@ -8,12 +8,12 @@ use Rattle.grok_commands.specs.SizeTexts.{placeholder_of, IsCheckLine}
 use Rattle.grok_commands.proofs.Answering.{answered_start, answered_step, answered_whole}
 use Rattle.grok_commands.proofs.Measures.{as_many, line_at}
 use Rattle.grok.specs.Measured.{tree_of, measured_tree}
-use Rattle.grok.specs.Met.{measure_view}
+use Rattle.grok.specs.MeasureCache.{measure_view}
 use Rattle.grok_commands.proofs.check.hold_definitions.Goals as goal
 
 pub names-init : goal.names-init
 names-init g c =
-    let names : texts c.deref-name-items.result.now ≡ finite.keys (library_of c.args.definitions.now) = ap texts c.deref-name-items.ensures.value ∙ c.in_ok-names.ensures in
+    let names : texts c.deref-name-items.result.now ≡ finite.keys (library_of c.args.definitions.now) = ap texts c.deref-name-items.ensures.value ∙ c.in_ok-names.ensures ∙ ap finite.keys c.in_ok-grok.ensures in
     rw names (answered_start (IsCheckLine (library_of c.args.definitions.now) c.args.alias_only) (finite.keys (library_of c.args.definitions.now)) (append_known (g.W.Write.contents c.args.output.now) c.args.held.now.items))
 
 pub index-requires : goal.index-requires

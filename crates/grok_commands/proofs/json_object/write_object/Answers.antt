@@ -1,6 +1,6 @@
 use Rattle.std.proofs.Common.{◌≡◌, rules}
 use Rattle.grok.specs.Answers.{walk}
-use Rattle.grok.specs.Lent.{lent_keys, lent_captures}
+use Rattle.grok.specs.BorrowedMatches.{borrowed_keys, borrowed_captures}
 use Rattle.grok_commands.specs.JsonObjects.{object_text, ReadsBack}
 use Rattle.grok_commands.proofs.Objects.{text_of_sent, reads_back}
 use Rattle.grok_commands.proofs.json_object.write_object.Goals as goal
@@ -8,12 +8,12 @@ use Rattle.grok_commands.proofs.json_object.write_object.Goals as goal
 pub returns-in-Ok-clause-object : goal.returns-in-Ok-clause-object
 returns-in-Ok-clause-object c =
     let sent = c.in-Ok.ensures.events in
-    let pairs = walk (lent_keys c.args.matches) (lent_captures c.args.matches) in
+    let pairs = walk (borrowed_keys c.args.matches) (borrowed_captures c.args.matches) in
     let written : c.in-Ok.object.items ≡ object_text pairs = text_of_sent pairs sent.0 c.in-Ok.object.items sent.1 sent.2 in
     search rules
 
 pub returns-in-Ok-clause-reads_back : goal.returns-in-Ok-clause-reads_back
 returns-in-Ok-clause-reads_back c =
-    let pairs = walk (lent_keys c.args.matches) (lent_captures c.args.matches) in
+    let pairs = walk (borrowed_keys c.args.matches) (borrowed_captures c.args.matches) in
     let back : ReadsBack pairs (object_text pairs) = reads_back pairs in
     search rules

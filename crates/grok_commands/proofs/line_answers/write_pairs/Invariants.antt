@@ -1,9 +1,9 @@
 use Rattle.std.proofs.Common.{◌≡◌, ◌++◌, flat_map}
 use Rattle.grok.specs.Answers.{walk}
-use Rattle.grok.specs.Lent.{lent_keys, lent_captures}
+use Rattle.grok.specs.BorrowedMatches.{borrowed_keys, borrowed_captures}
 use Rattle.grok_commands.specs.LineTexts.{pair_line}
 use Rattle.grok_commands.proofs.line_answers.write_pairs.Given as goal
 
 abbrev pub invariant-pairs : goal.invariant-pairs
 invariant-pairs l = l.text.items ++ flat_map pair_line l.key-iterator
-    ≡ l.fn.text.items ++ flat_map pair_line (walk (lent_keys l.fn.matches) (lent_captures l.fn.matches))
+    ≡ l.fn.text.items ++ flat_map pair_line (walk (borrowed_keys l.fn.matches) (borrowed_captures l.fn.matches))

@@ -7,14 +7,14 @@ use Rattle.grok.specs.Locations.{IsLocationIn, located_text, located_texts}
 use Rattle.grok_engines.specs.Wholes.{line_at}
 use Rattle.grok_engines.proofs.heads.write_locations.Goals as goal
 
-pub places-preserved : goal.places-preserved
-places-preserved c =
+pub all_groups-preserved : goal.all_groups-preserved
+all_groups-preserved c =
     let line = c.args.line.now in
-    let old = c.places.locations.items in
+    let old = c.all_groups.locations.items in
     let new : located_texts line c.push.new.self.items ≡ located_texts line old ++ option_map (located_text line) c.location_at.result ∷ [] =
     rw c.in_ok-push.ensures.items (map-append (option_map (located_text line)) old (c.location_at.result ∷ [])) in (
-      rw (new, c.places.invariant.0, c.location_at.ensures.text)
-          (sym (map-range_with_len_more (line_at line) 0 c.places.place c.places.place (zero-add _))),
-      rw c.in_ok-push.ensures.items (All-push (λ location. ForSome location (IsLocationIn line)) _ _ c.places.invariant.1 c.location_at.ensures.inside),
+      rw (new, c.all_groups.invariant.0, c.location_at.ensures.text)
+          (sym (map-range_with_len_more (line_at line) 0 c.all_groups.place c.all_groups.place (zero-add _))),
+      rw c.in_ok-push.ensures.items (All-push (λ location. ForSome location (IsLocationIn line)) _ _ c.all_groups.invariant.1 c.location_at.ensures.inside),
       search rules,
     )

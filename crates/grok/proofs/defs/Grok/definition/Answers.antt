@@ -1,6 +1,6 @@
 use Rattle.std.proofs.Common.{sym, ap, ◌∙◌}
 use Rattle.std.specs.FinMap as finite
-use Rattle.grok.proofs.NamedTexts.{text_found}
+use Rattle.grok.proofs.Texts.MapShowsTree.{text_found}
 use Rattle.grok.proofs.defs.Grok.definition.Goals as goal
 
 pub returns : goal.returns

@@ -1,15 +1,28 @@
-use Rattle.std.proofs.Common.{◌≡◌, [], Option, None, sym, subst}
+use Rattle.std.proofs.Common.{◌≡◌, Option, sym, ◌∙◌, subst}
 use Rattle.std.specs.Option.{option_map}
 use Rattle.std.specs.FinMap as finite
 use Rattle.grok.specs.Tree.{tree}
 use Rattle.grok.specs.Keys.{first_fault}
-use Rattle.grok.specs.Walks.{finding_view}
-use Rattle.grok.specs.declared.expand.walk.Finding.{Finding}
-use Rattle.grok.proofs.Compiling.{none_structural}
+use Rattle.grok.specs.Walks.{tree_fault_view}
+use Rattle.grok.specs.declared.errors.fault.TreeFault.{TreeFault}
+use Rattle.grok.proofs.Keys.KeysAreDistinct.{clash_needs_number}
+use Rattle.grok.proofs.Trees.CompileResults.{none_at_all}
 use Rattle.grok.proofs.defs.Grok.first_error.Goals as goal
 
-pub unreachable-requires : goal.unreachable-requires
-unreachable-requires c =
+pub returns-then-not-found : goal.returns-then-not-found
+returns-then-not-found c =
+    clash_needs_number c.args.with_alias_only (finite.get c.args.self.now) c.args.pattern.now (sym c.requires ∙ c.if-not-found.true)
+
+pub returns-in-None : goal.returns-in-None
+returns-in-None c =
     let events = tree (finite.get c.args.self.now) c.args.pattern.now in
-    let none : None ≡ first_fault c.args.with_alias_only events = subst (λ (found : Option Finding). option_map finding_view found ≡ first_fault c.args.with_alias_only events) c.in-None.is c.in_ok-first_finding.ensures in
-    c.requires (none_structural c.args.with_alias_only [] [] events (sym none))
+    none_at_all c.args.with_alias_only events (sym (subst (λ (found : Option TreeFault). option_map tree_fault_view found ≡ first_fault c.args.with_alias_only events) c.in-None.is c.in_ok-find_first_fault.ensures))
+
+pub returns : goal.returns
+returns c =
+    let events = tree (finite.get c.args.self.now) c.args.pattern.now in
+    record {
+      tree_fault = tree_fault_view c.in-Some.tree_fault;
+      first = sym (subst (λ (found : Option TreeFault). option_map tree_fault_view found ≡ first_fault c.args.with_alias_only events) c.in-Some.is c.in_ok-find_first_fault.ensures);
+      is = c.in_ok-to_error-in-Some.ensures;
+    }

@@ -1,9 +1,9 @@
 use Rattle.std.proofs.Common.{◌≡◌, ℕ, ◌+◌, ◌<◌, List, [], ◌∷◌, ◌++◌, length, get_or, take, map, Bor, sym, ◌∙◌, ap}
 use Rattle.std.proofs.lemmas.List.{map-append, take_more}
-use Rattle.grok.specs.Remembered.{nothing_met}
+use Rattle.grok.specs.MeasuredOnce.{nothing_measured}
 use Rattle.grok.specs.Measured.{tree_of, measured_tree}
-use Rattle.grok.specs.Met.{IsShownTrue, measure_view}
-use Rattle.grok.proofs.Keeping.{nothing_true}
+use Rattle.grok.specs.MeasureCache.{ShowsCorrectState, measure_view}
+use Rattle.grok.proofs.Sizes.MeasuringAgain.{nothing_true}
 use Rattle.grok.proofs.defs.Grok.measure_all.Goals as goal
 
 one_more : {A B C : Type 0} (f : A → C) (g : B → C) (done : List A) (last : A) (all : List B) (i : ℕ) (d : B) → i < length all → f last ≡ g (get_or all i d) → map f done ≡ map g (take i all) → map f (done ++ last ∷ []) ≡ map g (take (i + 1) all)
@@ -13,14 +13,14 @@ one_more f g done last all i d more same so_far =
 
 pub patterns-init : goal.patterns-init
 patterns-init c = record {
-  remembers = record { st = nothing_met; shows = c.new-met.ensures; is_true = nothing_true c.args.self.now c.args.with_alias_only };
+  remembers = record { st = nothing_measured; shows = c.new-cache.ensures; is_true = nothing_true c.args.self.now c.args.with_alias_only };
   none = c.new-frames.ensures.items;
   measured = ap (map measure_view) c.new-measures.ensures.items;
 }
 
 pub patterns-preserved : goal.patterns-preserved
 patterns-preserved c =
-    let known : IsShownTrue c.args.self.now c.args.with_alias_only c.patterns.met = c.patterns.invariant.remembers in
+    let known : ShowsCorrectState c.args.self.now c.args.with_alias_only c.patterns.cache = c.patterns.invariant.remembers in
     record {
       remembers = c.in_ok-measure.ensures.keeps known;
       none = c.in_ok-measure.ensures.none;

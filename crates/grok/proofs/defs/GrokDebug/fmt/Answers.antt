@@ -1,7 +1,7 @@
 use Rattle.std.proofs.Common.{codes, Ok, Some, refl, ap, ◌∙◌}
 use Rattle.grok.specs.Debugs.{debug_braces, debug_item, debug_texts}
 use Rattle.std.specs.Fmt.{debug_str}
-use Rattle.grok.proofs.Debugging.{displays_then, displays_same, told, texts_shown}
+use Rattle.grok.proofs.Texts.DebugOfEntries.{displays_then, displays_same, told, texts_shown}
 use Rattle.grok.proofs.defs.GrokDebug.fmt.Goals as goal
 
 pub returns : goal.returns

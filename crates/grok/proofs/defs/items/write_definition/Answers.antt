@@ -3,7 +3,7 @@ use Rattle.std.specs.Option.{option_map}
 use Rattle.std.specs.Str.{bytes_eq}
 use Rattle.std.proofs.lemmas.Map.Text.{btree_map_updates_str}
 use Rattle.grok.specs.Tree.{is_absent}
-use Rattle.grok.proofs.Writing.{absent_is, written_more}
+use Rattle.grok.proofs.Texts.OneMoreInlineDefinition.{absent_is, written_more}
 use Rattle.grok.proofs.defs.items.write_definition.Goals as goal
 
 pub returns-in_ok-insert : goal.returns-in_ok-insert

@@ -2,7 +2,7 @@ use Rattle.std.proofs.Common.{◌≡◌, sym, ◌∙◌, ap, subst, length, opti
 use Rattle.regex_meta.proofs.ProgramLemmas.{first_match_span}
 use Rattle.regex_vm.specs.Found.{span, group_cells}
 use Rattle.regex_meta.specs.Programs.{leftmost}
-use Rattle.grok.proofs.OwnLemmas.{no_cells}
+use Rattle.grok.proofs.Captures.AutomataFindMatches.{no_cells}
 use Rattle.grok.proofs.engine.own_search.groups_within.Goals as goal
 
 pub find_at-requires-clause-ordered : goal.find_at-requires-clause-ordered

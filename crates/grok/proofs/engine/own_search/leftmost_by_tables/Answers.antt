@@ -1,7 +1,7 @@
 use Rattle.std.proofs.Common.{◌≡◌, sym, ◌∙◌, ap, length, option_map}
 use Rattle.regex_meta.proofs.ProgramLemmas.{first_match-leftmost}
 use Rattle.regex_vm.specs.Found.{span}
-use Rattle.grok.proofs.OwnLemmas.{first_at_start, anchored_span, anchored_cells}
+use Rattle.grok.proofs.Captures.AutomataFindMatches.{first_at_start, anchored_span, anchored_cells}
 use Rattle.grok.proofs.engine.own_search.leftmost_by_tables.Goals as goal
 
 pub returns-then-is_anchored-clause-span : goal.returns-then-is_anchored-clause-span

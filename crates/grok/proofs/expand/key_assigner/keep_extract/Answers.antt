@@ -5,7 +5,7 @@ use Rattle.std.specs.String.{string_bytes}
 use Rattle.std.specs.BTreeMap.{get_by_text}
 use Rattle.grok.specs.Tree.{is_absent}
 use Rattle.std.proofs.lemmas.Map.Text.{btree_map_updates_text}
-use Rattle.grok.proofs.GivenSteps.{kept_value, mapped_cond, absent_is}
+use Rattle.grok.proofs.Keys.OneMoreAssignedKey.{kept_value, mapped_cond, absent_is}
 use Rattle.grok.proofs.expand.key_assigner.keep_extract.Goals as goal
 
 pub returns-in_ok-insert : goal.returns-in_ok-insert

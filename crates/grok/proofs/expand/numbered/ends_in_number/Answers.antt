@@ -1,8 +1,8 @@
 use Rattle.std.proofs.Common.{◌≡◌, ℕ, Bool, true, false, List, [], ◌∷◌, ◌++◌, None, refl, arith}
 use Rattle.std.proofs.lemmas.Str.Pattern.{strip_suffix_char}
 use Rattle.grok.specs.Keys.{ends_in_number}
-use Rattle.grok.proofs.NumberedKeys.{ends_in_number_where_numbered}
-use Rattle.grok.proofs.Unnumbering.{is_closed}
+use Rattle.grok.proofs.Keys.NumberedKeysEndInNumber.{ends_in_number_where_numbered}
+use Rattle.grok.proofs.Keys.NumberedKeysAreReadBack.{is_closed}
 use Rattle.grok.proofs.expand.numbered.ends_in_number.Goals as goal
 
 open_ended : (alias : List ℕ) → ((front : List ℕ) → alias ≡ front ++ 93 ∷ [] → ⊥) → (b : Bool) → ends_in_number alias ≡ b → false ≡ b

@@ -1,8 +1,8 @@
 use Rattle.std.proofs.Common.{◌≡◌, ℕ, suc, ◌∙◌, sym, subst, Option, MatchOption, None, Some, ◌<◌, ◌^◌, List, Bor, arith}
 use Rattle.std.proofs.lemmas.Str.Pattern.{strip_suffix_char}
 use Rattle.grok.specs.Keys.{numbered}
-use Rattle.grok.proofs.MeantKeys.{numeral_same}
-use Rattle.grok.proofs.Unnumbering.{is_closed, is_opened, no_bracket, is_split, has_number, is_numbered}
+use Rattle.grok.proofs.KeyTables.NamesMeanKeys.{numeral_same}
+use Rattle.grok.proofs.Keys.NumberedKeysAreReadBack.{is_closed, is_opened, no_bracket, is_split, has_number, is_numbered}
 use Rattle.grok.proofs.expand.numbered.parts_of_numbered.Goals as goal
 
 abbrev Answers : List ℕ → Option (Bor (List ℕ) × ℕ) → Type 0

@@ -3,7 +3,7 @@ use Rattle.std.specs.Prelude.{codes}
 use Rattle.std.specs.String.{string_bytes}
 use Rattle.grok.specs.GeneratedNames.{name_start}
 use Rattle.grok.specs.Numeral.{numeral}
-use Rattle.grok.proofs.Numerals.{numeral_is_decimal}
+use Rattle.grok.proofs.Texts.NumeralsAreDecimal.{numeral_is_decimal}
 use Rattle.grok.proofs.expand.write.put_numbered.Goals as goal
 
 pub put-requires-2 : goal.put-requires-2

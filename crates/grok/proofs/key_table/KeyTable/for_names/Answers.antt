@@ -6,8 +6,8 @@ use Rattle.std.specs.Cmp.Lexicographic.{slice_cmp}
 use Rattle.std.specs.Ordering.{nat_cmp}
 use Rattle.grok.specs.Captures.{name_texts}
 use Rattle.grok.specs.KeyTable.{Entries, group_in, IsKeyTable}
-use Rattle.grok.specs.KeyPlaces.{entry_of}
-use Rattle.grok.proofs.Extending.{same_group}
+use Rattle.grok.specs.KeyRanges.{entry_of}
+use Rattle.grok.proofs.KeyTables.OneMoreKey.{same_group}
 use Rattle.grok.proofs.key_table.KeyTable.for_names.Goals as goal
 
 both : {T E : Type 0} (P Q R : T → Type 0) (r : Result T E) → ((x : T) → P x → Q x → R x) → IfOk r P → IfOk r Q → IfOk r R

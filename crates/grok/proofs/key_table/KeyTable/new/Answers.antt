@@ -4,8 +4,8 @@ use Rattle.std.specs.Map.{keys_of}
 use Rattle.std.specs.Cmp.Lexicographic.{slice_cmp}
 use Rattle.std.specs.Ordering.{nat_cmp}
 use Rattle.grok.specs.KeyTable.{Entries}
-use Rattle.grok.specs.KeyPlaces.{entry_of}
-use Rattle.grok.proofs.Extending.{sorted_shown}
+use Rattle.grok.specs.KeyRanges.{entry_of}
+use Rattle.grok.proofs.KeyTables.OneMoreKey.{sorted_shown}
 use Rattle.grok.proofs.key_table.KeyTable.new.Goals as goal
 
 -- where no entry is left, those that were made rise as the map's do

@@ -1,4 +1,4 @@
-use Rattle.grok.proofs.WalkLaws.{answers_are_those_of_the_walk}
+use Rattle.grok.proofs.KeyTables.WalksHaveAnsweredKeys.{answers_are_those_of_the_walk}
 use Rattle.grok.proofs.laws.answers.answers_and_walks_agree.Goals as goal
 
 pub returns-clause-pairs : goal.returns-clause-pairs

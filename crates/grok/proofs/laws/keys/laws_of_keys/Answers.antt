@@ -1,5 +1,5 @@
-use Rattle.grok.proofs.NumberedKeys.{ends_in_number_where_numbered}
-use Rattle.grok.proofs.KeyLaws.{clash_needs_number, keys_are_distinct}
+use Rattle.grok.proofs.Keys.NumberedKeysEndInNumber.{ends_in_number_where_numbered}
+use Rattle.grok.proofs.Keys.KeysAreDistinct.{clash_needs_number, keys_are_distinct}
 use Rattle.grok.proofs.laws.keys.laws_of_keys.Goals as goal
 
 pub returns-clause-numbered : goal.returns-clause-numbered

@@ -1,4 +1,4 @@
-use Rattle.grok.proofs.Cuts.{first_fault_is_first, extract_is_last}
+use Rattle.grok.proofs.Keys.FirstFaultAndLastExtract.{first_fault_is_first, extract_is_last}
 use Rattle.grok.proofs.laws.keys.laws_of_order.Goals as goal
 
 pub returns-clause-fault : goal.returns-clause-fault

@@ -1,4 +1,4 @@
-use Rattle.grok.proofs.AnswerLemmas.{walk_rises}
+use Rattle.grok.proofs.KeyTables.WalksAreSorted.{walk_rises}
 use Rattle.grok.proofs.matches.MatchesIter.new.Goals as goal
 
 pub returns-clause-sorted : goal.returns-clause-sorted

@@ -1,4 +1,4 @@
-use Rattle.grok.proofs.AnswerLemmas.{put_more}
+use Rattle.grok.proofs.KeyTables.WalksAreSorted.{put_more}
 use Rattle.std.proofs.Common.{◌++◌, ◌∙◌, map, subst, ap}
 use Rattle.std.specs.List.Sorted.{IsStrictlySortedBy}
 use Rattle.std.specs.Map.{keys_of}

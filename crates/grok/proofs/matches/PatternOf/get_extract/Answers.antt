@@ -1,5 +1,5 @@
 use Rattle.std.proofs.Common.{arith}
-use Rattle.grok.proofs.AnswerLemmas.{extract_found}
+use Rattle.grok.proofs.KeyTables.WalksAreSorted.{extract_found}
 use Rattle.grok.proofs.matches.PatternOf.get_extract.Goals as goal
 
 -- by one tactic, so that a wrong body is refused at once

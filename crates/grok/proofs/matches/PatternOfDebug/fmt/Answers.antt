@@ -2,7 +2,7 @@ use Rattle.std.proofs.Common.{codes, string_bytes, ◌≡◌, Ok, Some, refl, ap
 use Rattle.std.specs.Fmt.{debug_str, ◌++?◌}
 use Rattle.std.proofs.Math.Seq.{take-length}
 use Rattle.grok.specs.Debugs.{debug_braces, debug_item, debug_texts}
-use Rattle.grok.proofs.Debugging.{then_assoc, displays_then, displays_same, told, texts_shown}
+use Rattle.grok.proofs.Texts.DebugOfEntries.{then_assoc, displays_then, displays_same, told, texts_shown}
 use Rattle.grok.proofs.matches.PatternOfDebug.fmt.Goals as goal
 
 pub returns : goal.returns

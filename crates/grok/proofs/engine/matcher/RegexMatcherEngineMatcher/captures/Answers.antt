@@ -2,7 +2,7 @@ use Rattle.std.proofs.Common.{◌≡◌, ℕ, List, Option, length, ap, ap₂, s
 use Rattle.regex.specs.Patterns.{Re}
 use Rattle.grok.specs.Captures.{AreSlicesOf, capture_texts}
 use Rattle.grok.specs.RegexFinds.{captures_in}
-use Rattle.grok.proofs.Captured.{captured, uncaptured}
+use Rattle.grok.proofs.Captures.CapturesAreOfMatch.{captured, uncaptured}
 use Rattle.grok.proofs.engine.matcher.RegexMatcherEngineMatcher.captures.Goals as goal
 
 same_finds : (p q : Re) (xs ys : List (Option (List ℕ))) → (p ≡ q) × (xs ≡ ys) → captures_in p (length xs) ≡ captures_in q (length ys)
@@ -19,8 +19,8 @@ returns-in_ok-group_texts-in-Some-clause-answer c =
     let found = c.in-Some.ensures.found in
     captured _ _ _ c.in-Some.found found.0 _ found.1 found.2 c.in-Some.ensures.names c.in_ok-group_texts-in-Some.ensures.texts
 
-pub returns-in_ok-group_texts-in-Some-clause-places : goal.returns-in_ok-group_texts-in-Some-clause-places
-returns-in_ok-group_texts-in-Some-clause-places c = c.in_ok-group_texts-in-Some.ensures.count ∙ ap length c.in-Some.ensures.names
+pub returns-in_ok-group_texts-in-Some-clause-all_groups : goal.returns-in_ok-group_texts-in-Some-clause-all_groups
+returns-in_ok-group_texts-in-Some-clause-all_groups c = c.in_ok-group_texts-in-Some.ensures.count ∙ ap length c.in-Some.ensures.names
 
 pub returns-in_ok-group_texts-in-Some-clause-slices : goal.returns-in_ok-group_texts-in-Some-clause-slices
 returns-in_ok-group_texts-in-Some-clause-slices c =

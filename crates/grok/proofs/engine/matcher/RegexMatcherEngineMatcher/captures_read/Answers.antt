@@ -1,6 +1,6 @@
 use Rattle.std.proofs.Common.{Some, IsTrue, length, true, sym, ap, subst, ◌∙◌}
 use Rattle.grok.specs.Locations.{AreLocationsIn, located_texts}
-use Rattle.grok.proofs.Captured.{captured}
+use Rattle.grok.proofs.Captures.CapturesAreOfMatch.{captured}
 use Rattle.grok.proofs.engine.matcher.RegexMatcherEngineMatcher.captures_read.Goals as goal
 
 pub returns-in_ok-write_locations-in-Some-clause-answer : goal.returns-in_ok-write_locations-in-Some-clause-answer
@@ -14,6 +14,6 @@ returns-in_ok-write_locations-in-Some-clause-inside c =
     subst (λ line. IsTrue true → AreLocationsIn line c.write_locations.new.locations.items) c.in-Some.ensures.found.2.0
     (λ _. c.in_ok-write_locations-in-Some.ensures.inside)
 
-pub returns-in_ok-write_locations-in-Some-clause-places : goal.returns-in_ok-write_locations-in-Some-clause-places
-returns-in_ok-write_locations-in-Some-clause-places c _ =
+pub returns-in_ok-write_locations-in-Some-clause-all_groups : goal.returns-in_ok-write_locations-in-Some-clause-all_groups
+returns-in_ok-write_locations-in-Some-clause-all_groups c _ =
     c.in_ok-write_locations-in-Some.ensures.count ∙ ap length c.in-Some.ensures.names

@@ -1,5 +1,5 @@
 use Rattle.std.proofs.Common.{vec_len, string_bytes, refl, ap, ◌∙◌, Some}
-use Rattle.grok.proofs.OwnLemmas.{answered}
+use Rattle.grok.proofs.Captures.AutomataFindMatches.{answered}
 use Rattle.grok.proofs.engine.own_search.OwnSearch.captures.Goals as goal
 
 pub returns-in_ok-texts_of-in-Some-clause-answer : goal.returns-in_ok-texts_of-in-Some-clause-answer

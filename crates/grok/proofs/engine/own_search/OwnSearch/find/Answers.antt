@@ -1,6 +1,6 @@
 use Rattle.std.proofs.Common.{vec_len}
 use Rattle.regex_meta.specs.Programs.{pattern_of}
-use Rattle.grok.proofs.OwnLemmas.{spans_found, cells_found}
+use Rattle.grok.proofs.Captures.AutomataFindMatches.{spans_found, cells_found}
 use Rattle.grok.proofs.engine.own_search.OwnSearch.find.Goals as goal
 
 pub returns-clause-span : goal.returns-clause-span

@@ -1,7 +1,7 @@
 use Rattle.std.proofs.Common.{ap, ◌∙◌, subst, sym, refl, arith, Some}
 use Rattle.grok.specs.Items.{label_view, fault_view, item_view}
 use Rattle.grok.specs.declared.expand.events.Events.TheInside.{Inside}
-use Rattle.grok.proofs.Stacking.{IsSettled, settled_already, settled_now, too_deep, settled_text, settled_fault, settled_opens, settled_close}
+use Rattle.grok.proofs.Trees.EventsOnStack.{IsSettled, settled_already, settled_now, too_deep, settled_text, settled_fault, settled_opens, settled_close}
 use Rattle.grok.proofs.expand.events.Events.next.Goals as goal
 use Rattle.grok.proofs.expand.events.Events.next.Goals.{in-Some+else-len-ge-LEVELS+in_ok-descend, in_default}
 

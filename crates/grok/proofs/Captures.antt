@@ -1,0 +1,4 @@
+-- Lemmas of the groups of a match.
+pub mod CapturesAreOfMatch
+pub mod AutomataFindMatches
+pub mod GroupsLieInLine

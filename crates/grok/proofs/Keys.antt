@@ -1,0 +1,11 @@
+-- Lemmas of keys, of their uses, and of clashes.
+pub mod NumberedKeysEndInNumber
+pub mod NumberedKeysAreReadBack
+pub mod KeysAreDistinct
+pub mod FirstFaultAndLastExtract
+pub mod ClashesByUses
+pub mod UsesAreCounted
+pub mod OneMoreAssignedKey
+pub mod KeysAreAssigned
+pub mod DefinitionsAreCounted
+pub mod FirstFaultIsFound

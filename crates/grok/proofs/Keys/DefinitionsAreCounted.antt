@@ -1,0 +1,234 @@
+-- The tally of a definition is right: it is counted item by item.
+use Rattle.std.proofs.Common.{◌≡◌, ℕ, zero, suc, ◌+◌, ◌<◌, ◌≤◌, Bool, true, false, cond, List, [], ◌∷◌, ◌++◌, Some, None, Result, Ok, Err, IfOk, refl, sym, ◌∙◌, ap, subst, arith, inl, inr, append_assoc, append-nil, length, length-append}
+use Rattle.std.specs.Str.{bytes_eq}
+use Rattle.std.specs.FinMap as finite
+use Rattle.grok.specs.Tree.{Label, Meaning, Inline, Stored, meaning_text, Item, TextItem, FaultItem, PlaceholderItem, Event, Text, Open, Close, FaultEvent, events, first_structural}
+use Rattle.grok.specs.Keys.{is_capturing, capturing, how_often, base_key}
+use Rattle.grok.specs.KeyUses.{CountsUses}
+use Rattle.grok.specs.Tallied.{resolve, opened_events, OpensNothing, IsSoundItem, IsTallyOf, HasTallied, IsCountedPartOf, with_item, counted_part_of, AreTallied}
+use Rattle.grok.specs.declared.expand.key_uses.KeyUses.{KeyUses}
+use Rattle.grok.specs.declared.expand.tallies.CompileMode.{CompileMode}
+use Rattle.grok.specs.declared.expand.tallies.KeyTally.{KeyTally}
+use Rattle.grok.specs.declared.expand.tallies.CountedPart.{CountedPart}
+use Rattle.grok.specs.declared.expand.tallies.DefinitionTallies.{DefinitionTallies}
+use Rattle.std.proofs.lemmas.Bool.{cases_Bool}
+use Rattle.grok.proofs.Texts.EqualBytesAreSameText.{same_text}
+use Rattle.grok.proofs.Keys.KeysAreDistinct.{how_often_more}
+use Rattle.grok.proofs.Keys.ClashesByUses.{how_often-append}
+use Rattle.grok.proofs.Keys.FirstFaultAndLastExtract.{capturing-append}
+use Rattle.grok.proofs.Sizes.SizeIsThatOfTree.{or_else, first_structural-append}
+use Rattle.grok.proofs.Sizes.TextsWithoutPlaceholders.{AreBytes, AreSound}
+
+-- ---- sound items
+
+clean_bytes : (inner : List ℕ → List Event) (items : List Item) → AreBytes items → first_structural (events inner items ++ Close ∷ []) ≡ None
+clean_bytes inner [] bytes = refl
+clean_bytes inner (TextItem text ∷ items) bytes = clean_bytes inner items bytes
+clean_bytes inner (FaultItem fault ∷ items) bytes = absurd bytes
+clean_bytes inner (PlaceholderItem label meaning ∷ items) bytes = absurd bytes
+
+none_in_bytes : (alias_only : Bool) (inner : List ℕ → List Event) (items : List Item) → AreBytes items → capturing alias_only (events inner items ++ Close ∷ []) ≡ []
+none_in_bytes alias_only inner [] bytes = refl
+none_in_bytes alias_only inner (TextItem text ∷ items) bytes = none_in_bytes alias_only inner items bytes
+none_in_bytes alias_only inner (FaultItem fault ∷ items) bytes = absurd bytes
+none_in_bytes alias_only inner (PlaceholderItem label meaning ∷ items) bytes = absurd bytes
+
+pub sound_first : (mode : CompileMode) (item : Item) (items : List Item) → AreSound (resolve mode) (finite.get mode.grok.now) (item ∷ items) → IsSoundItem mode item
+sound_first mode (TextItem text) items h = tt
+sound_first mode (FaultItem fault) items h = tt
+sound_first mode (PlaceholderItem label (Inline text)) items h = record {
+  clean = λ levels. clean_bytes (opened_events mode levels) (resolve mode text) h.0.bytes;
+  none = λ levels. none_in_bytes mode.with_alias_only (opened_events mode levels) (resolve mode text) h.0.bytes;
+}
+sound_first mode (PlaceholderItem label (Stored text)) items h = h.0
+
+-- ---- counts
+
+pub counts_same : (counts : KeyUses) (wants others : List ℕ → ℕ) → ((key : List ℕ) → wants key ≡ others key) → CountsUses counts wants → CountsUses counts others
+counts_same counts wants others same = subst (CountsUses counts) (λ i key. same key i)
+
+-- how often the open of this label wants the key
+abbrev pub own : CompileMode → Label → List ℕ → ℕ
+own mode label key = cond (is_capturing mode.with_alias_only label) (cond (bytes_eq (base_key label) key) 1 0) 0
+
+module _ (mode : CompileMode) where
+  often_open : (label : Label) (meaning : Meaning) (xs ys : List Event) (key : List ℕ)
+      → how_often (capturing mode.with_alias_only (Open label meaning ∷ xs ++ ys)) key
+      ≡ own mode label key + (how_often (capturing mode.with_alias_only xs) key + how_often (capturing mode.with_alias_only ys) key)
+  often_open label meaning xs ys key =
+      let alone = capturing mode.with_alias_only in
+      let both : how_often (alone (xs ++ ys)) key ≡ how_often (alone xs) key + how_often (alone ys) key =
+      ap (λ labels. how_often labels key) (capturing-append mode.with_alias_only xs ys) ∙ how_often-append (alone xs) (alone ys) key in
+      elim (is_capturing mode.with_alias_only label) as (λ b. how_often (cond b (label ∷ alone (xs ++ ys)) (alone (xs ++ ys))) key
+      ≡ cond b (cond (bytes_eq (base_key label) key) 1 0) 0 + (how_often (alone xs) key + how_often (alone ys) key)) [
+        | true ↦ how_often_more label (alone (xs ++ ys)) key ∙ ap (λ n. cond {A = ℕ} (bytes_eq (base_key label) key) 1 0 + n) both
+        | false ↦ omega (arith, both)
+      ]
+
+  -- ---- one item more
+
+  pub nothing_tallied : (tally : KeyTally) → CountsUses tally.uses (λ key. 0) → HasTallied mode [] tally
+  nothing_tallied tally counts = record {
+    uses = λ key. 0;
+    counts = counts;
+    clean = λ levels high. refl;
+    often = λ levels high key. refl;
+  }
+
+  events_both : (inner : List ℕ → List Event) (xs ys : List Item) → events inner (xs ++ ys) ≡ events inner xs ++ events inner ys
+  events_both inner [] ys = refl
+  events_both inner (TextItem text ∷ xs) ys = ap (λ es. Text text ∷ es) (events_both inner xs ys)
+  events_both inner (FaultItem fault ∷ xs) ys = ap (λ es. FaultEvent fault ∷ es) (events_both inner xs ys)
+  events_both inner (PlaceholderItem label meaning ∷ xs) ys =
+      ap (λ es. Open label meaning ∷ inner (meaning_text meaning) ++ es) (events_both inner xs ys)
+      ∙ ap (λ es. Open label meaning ∷ es) (sym (append_assoc (inner (meaning_text meaning)) (events inner xs) (events inner ys)))
+
+  often_both : (xs ys : List Event) (key : List ℕ) → how_often (capturing mode.with_alias_only (xs ++ ys)) key
+      ≡ how_often (capturing mode.with_alias_only xs) key + how_often (capturing mode.with_alias_only ys) key
+  often_both xs ys key =
+      ap (λ labels. how_often labels key) (capturing-append mode.with_alias_only xs ys) ∙ how_often-append (capturing mode.with_alias_only xs) (capturing mode.with_alias_only ys) key
+
+  module _ (items : List Item) (old new : KeyTally) (h : HasTallied mode items old) (above : old.height ≤ new.height) where
+    -- one more item, which has no fault and wants these keys
+    more_tallied : (item : Item) (more : List ℕ → ℕ)
+        → ((levels : ℕ) → new.height ≤ levels → first_structural (events (opened_events mode levels) (item ∷ [])) ≡ None)
+        → ((levels : ℕ) → new.height ≤ levels → (key : List ℕ) → how_often (capturing mode.with_alias_only (events (opened_events mode levels) (item ∷ []))) key ≡ more key)
+        → CountsUses new.uses (λ key. more key + h.uses key)
+        → HasTallied mode (items ++ item ∷ []) new
+    more_tallied item more clean often counts = record {
+      uses = λ key. more key + h.uses key;
+      counts = counts;
+      clean = λ levels high.
+          let enough : old.height ≤ levels = omega arith in
+          let inner = opened_events mode levels in
+          ap first_structural (events_both inner items (item ∷ []))
+          ∙ first_structural-append (events inner items) (events inner (item ∷ []))
+          ∙ ap (λ o. or_else o (first_structural (events inner (item ∷ [])))) (h.clean levels enough)
+          ∙ clean levels high;
+      often = λ levels high key.
+          let enough : old.height ≤ levels = omega arith in
+          let inner = opened_events mode levels in
+          let both : how_often (capturing mode.with_alias_only (events inner (items ++ item ∷ []))) key
+          ≡ how_often (capturing mode.with_alias_only (events inner items)) key + how_often (capturing mode.with_alias_only (events inner (item ∷ []))) key =
+          ap (λ es. how_often (capturing mode.with_alias_only es) key) (events_both inner items (item ∷ [])) ∙ often_both (events inner items) (events inner (item ∷ [])) key in
+          omega (arith, both, h.often levels enough key, often levels high key);
+    }
+
+    pub opened_tallied : (label : Label) (meaning : Meaning) (inner : KeyTally) → IsTallyOf mode (meaning_text meaning) inner → inner.height < new.height
+        → ((others wants : List ℕ → ℕ) → CountsUses inner.uses others → CountsUses old.uses wants → CountsUses new.uses (λ key. own mode label key + (others key + wants key)))
+        → HasTallied mode (items ++ PlaceholderItem label meaning ∷ []) new
+    opened_tallied label meaning inner t high counts =
+        more_tallied (PlaceholderItem label meaning) (λ key. own mode label key + t.uses key)
+        (λ levels le.
+        let deep : inner.height < levels = omega arith in
+        ap first_structural (append-nil (opened_events mode levels (meaning_text meaning))) ∙ t.clean levels deep)
+        (λ levels le key.
+        let deep : inner.height < levels = omega arith in
+        let one = often_open label meaning (opened_events mode levels (meaning_text meaning)) [] key in
+        omega (arith, one, t.often levels deep key))
+        (counts_same new.uses (λ key. own mode label key + (t.uses key + h.uses key)) (λ key. own mode label key + t.uses key + h.uses key) (λ key. omega arith)
+        (counts t.uses h.uses t.counts h.counts))
+
+  pub text_tallied : (items : List Item) (text : List ℕ) (tally : KeyTally) → HasTallied mode items tally → HasTallied mode (items ++ TextItem text ∷ []) tally
+  text_tallied items text tally h =
+      more_tallied items tally tally h (omega arith) (TextItem text) (λ key. 0) (λ levels high. refl) (λ levels high key. refl)
+      (counts_same tally.uses h.uses (λ key. 0 + h.uses key) (λ key. omega arith) h.counts)
+
+  -- a placeholder, by what counting it answered
+  pub placeholder_tallied : {E : Type 0} (item : Item) (label : Label) (meaning : Meaning) (old new inner : KeyTally) (r : Result Bool E) → item ≡ PlaceholderItem label meaning
+      → (IsSoundItem mode (PlaceholderItem label meaning) → IsTallyOf mode (meaning_text meaning) inner)
+      → IfOk r (λ added. (m : CompileMode) (meaning : Meaning) (items : List Item) → m.with_alias_only ≡ mode.with_alias_only → IsTallyOf m (meaning_text meaning) inner → HasTallied m items old
+      → HasTallied m (with_item added items (PlaceholderItem label meaning)) new)
+      → IfOk r (λ known. IsSoundItem mode item → (items : List Item) → HasTallied mode items old → HasTallied mode (with_item known items item) new)
+  placeholder_tallied item label meaning old new inner (Err e) is within h = tt
+  placeholder_tallied item label meaning old new inner (Ok added) is within h = λ sound items t.
+      subst (λ i. HasTallied mode (with_item added items i) new) (sym is) (h mode meaning items refl (within (subst (IsSoundItem mode) is sound)) t)
+
+  -- ---- whole texts
+
+  -- so many items of a text were counted, and these are left
+  pub record IsCounting (text : List ℕ) (left : List Item) (counted : ℕ) (tally : KeyTally) : Type 0 where
+    pub items : List Item
+    pub cut : resolve mode text ≡ items ++ left
+    pub many : length items ≡ counted
+    pub tallied : HasTallied mode items tally
+
+  pub counting_starts : (text : List ℕ) (left : List Item) (tally : KeyTally) → left ≡ resolve mode text → CountsUses tally.uses (λ key. 0) → IsCounting text left 0 tally
+  counting_starts text left tally is counts = record { items = []; cut = sym is; many = refl; tallied = nothing_tallied tally counts }
+
+  pub counted_in_part : (text : List ℕ) (left : List Item) (front : CountedPart) → front.is_whole ≡ false → IsCounting text left front.items front.tally → IsCountedPartOf mode text front
+  counted_in_part text left front part h = record {
+    items = h.items;
+    left = left;
+    cut = h.cut;
+    many = h.many;
+    whole = λ is. let bad : false ≡ true = sym part ∙ is in cc;
+    tallied = h.tallied;
+  }
+
+  pub counting_goes_on : (text : List ℕ) (left rest : List Item) (item : Item) (counted more : ℕ) (old new : KeyTally) → left ≡ item ∷ rest → more ≡ counted + 1
+      → IsCounting text left counted old → ((items : List Item) → HasTallied mode items old → HasTallied mode (items ++ item ∷ []) new) → IsCounting text rest more new
+  counting_goes_on text left rest item counted more old new cut one h tallies = record {
+    items = h.items ++ item ∷ [];
+    cut = h.cut ∙ ap (λ left. h.items ++ left) cut ∙ sym (append_assoc h.items (item ∷ []) rest);
+    many = omega (arith, length-append h.items (item ∷ []), h.many, one);
+    tallied = tallies h.items h.tallied;
+  }
+
+  pub whole_tallied : (text : List ℕ) (front : CountedPart) → IsCountedPartOf mode text front → front.is_whole ≡ true → IsTallyOf mode text front.tally
+  whole_tallied text front f whole = record {
+    uses = f.tallied.uses;
+    counts = f.tallied.counts;
+    clean = clean;
+    often = often;
+  }
+    where
+      all : resolve mode text ≡ f.items
+      all = f.cut ∙ ap (λ left. f.items ++ left) (f.whole whole) ∙ append-nil f.items
+
+      clean : (levels : ℕ) → front.tally.height < levels → first_structural (opened_events mode levels text) ≡ None
+      clean zero high = absurd (omega arith)
+      clean (suc levels) high =
+          first_structural-append (events (opened_events mode levels) (resolve mode text)) (Close ∷ [])
+          ∙ ap (λ o. or_else o None) (ap (λ items. first_structural (events (opened_events mode levels) items)) all ∙ f.tallied.clean levels (omega arith))
+
+      often : (levels : ℕ) → front.tally.height < levels → (key : List ℕ) → how_often (capturing mode.with_alias_only (opened_events mode levels text)) key ≡ f.tallied.uses key
+      often zero high key = absurd (omega arith)
+      often (suc levels) high key =
+          let es = events (opened_events mode levels) (resolve mode text) in
+          let same : how_often (capturing mode.with_alias_only es) key ≡ f.tallied.uses key =
+          ap (λ items. how_often (capturing mode.with_alias_only (events (opened_events mode levels) items)) key) all ∙ f.tallied.often levels (omega arith) key in
+          omega (arith, often_both es (Close ∷ []) key, same)
+
+  -- a definition that is written in a text
+  pub nothing_counted : (text : List ℕ) (tally : KeyTally) → OpensNothing mode text → CountsUses tally.uses (λ key. 0) → IsTallyOf mode text tally
+  nothing_counted text tally nothing counts = record {
+    uses = λ key. 0;
+    counts = counts;
+    clean = clean;
+    often = often;
+  }
+    where
+      clean : (levels : ℕ) → tally.height < levels → first_structural (opened_events mode levels text) ≡ None
+      clean zero high = absurd (omega arith)
+      clean (suc levels) high = nothing.clean levels
+
+      often : (levels : ℕ) → tally.height < levels → (key : List ℕ) → how_often (capturing mode.with_alias_only (opened_events mode levels text)) key ≡ 0
+      often zero high key = absurd (omega arith)
+      often (suc levels) high key = ap (λ labels. how_often labels key) (nothing.none levels)
+
+-- one name more
+pub name_tallied : (mode : CompileMode) (old new : DefinitionTallies) (name text : List ℕ) (front : CountedPart) → AreTallied mode old → finite.get mode.grok.now name ≡ Some text → IsCountedPartOf mode text front
+    → ((other : List ℕ) → counted_part_of new.by_name other ≡ cond (bytes_eq name other) (Some front) (counted_part_of old.by_name other)) → AreTallied mode new
+name_tallied mode old new name text front tallied defined is updates other its found at defines = elim (cases_Bool (bytes_eq name other)) [
+  | inl same ↦
+      let e : name ≡ other = same_text name other same in
+      let now : counted_part_of new.by_name other ≡ Some front = updates other ∙ ap (λ b. cond b (Some front) (counted_part_of old.by_name other)) same in
+      let this : Some front ≡ Some found = sym now ∙ at in
+      let text_is : Some text ≡ Some its = sym defined ∙ ap (λ n. finite.get mode.grok.now n) e ∙ defines in
+      let one : front ≡ found = cc in
+      let two : text ≡ its = cc in
+      subst (IsCountedPartOf mode its) one (subst (λ t. IsCountedPartOf mode t front) two is)
+  | inr apart ↦
+      tallied other its found (sym (updates other ∙ ap (λ b. cond b (Some front) (counted_part_of old.by_name other)) apart) ∙ at) defines
+]

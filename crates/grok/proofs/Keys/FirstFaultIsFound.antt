@@ -1,0 +1,325 @@
+-- The search for the first fault finds it, also if it skips definitions that are counted.
+use Rattle.std.proofs.Common.{◌≡◌, ℕ, zero, suc, ◌+◌, ◌-◌, ◌<◌, ◌≤◌, Bool, true, false, cond, List, [], ◌∷◌, ◌++◌, length, drop, Some, None, refl, sym, ◌∙◌, ap, subst, inl, inr, arith, append_assoc, append-nil, length-append}
+use Rattle.std.specs.Prelude.{Decides}
+use Rattle.std.specs.FinMap as finite
+use Rattle.std.specs.Str.{bytes_eq}
+use Rattle.std.specs.String.{string_bytes}
+use Rattle.std.specs.Global.{Global}
+use Rattle.std.specs.declared.string.String.{String}
+use Rattle.std.proofs.lemmas.Bool.{true≢false, cases_Bool}
+use Rattle.std.proofs.Math.Seq.{drop-append_seam}
+use Rattle.grok.specs.Tree.{Label, meaning_text, Item, TextItem, FaultItem, PlaceholderItem, Event, Open, Close, events, inside, deepest}
+use Rattle.grok.specs.Keys as keys
+use Rattle.grok.specs.Keys.{base_key, numbered, how_often, key_after, is_among, first_fault}
+use Rattle.grok.specs.CapturedSoFar.{taken_of, faults, after}
+use Rattle.grok.specs.Events.{events_left}
+use Rattle.grok.specs.KeyUses.{CountsUses, IsFree}
+use Rattle.grok.specs.Walks.{Clashes, tree_fault_view}
+use Rattle.grok.specs.Tallied.{resolve, opened_events, IsSoundItem, HasTallied, IsCountedPartOf}
+use Rattle.grok.specs.FirstFaultSteps.{IsCountOf, CountedUse, HaveCounted, events_inside, EntersText, EntersPlaceholder, StepsAtItem}
+use Rattle.grok.specs.declared.expand.key_uses.KeyUses.{KeyUses}
+use Rattle.grok.specs.declared.expand.tallies.CompileMode.{CompileMode}
+use Rattle.grok.specs.declared.expand.tallies.KeyTally.{KeyTally}
+use Rattle.grok.specs.declared.expand.tallies.CountedPart.{CountedPart}
+use Rattle.grok.specs.declared.errors.fault.TreeFault.{TreeFault}
+use Rattle.grok.specs.declared.expand.first_fault.ItemStep.{ItemStep}
+use Rattle.grok.proofs.Keys.KeysAreDistinct.{how_often_more}
+use Rattle.grok.proofs.Keys.FirstFaultAndLastExtract.{or_then, faults-append, after-append}
+use Rattle.grok.proofs.Keys.ClashesByUses.{how_often-after, stays_free, clash_is_not_free, free_events}
+use Rattle.grok.proofs.Trees.EventsOnStack.{left_step, left_open, left_close}
+use Rattle.grok.proofs.Sizes.TextsWithoutPlaceholders.{AreSound, sound_rest}
+use Rattle.grok.proofs.Sizes.ItemsAreSound.{sound_texts}
+use Rattle.grok.proofs.Keys.DefinitionsAreCounted.{counts_same, sound_first}
+
+-- ---- one open
+
+module _ (before : List Label) (label : Label) (want : List ℕ) (is : want ≡ base_key label) where
+  -- how often each key is wanted with this open
+  abbrev pub with_own : List ℕ → ℕ
+  with_own key = (cond {A = ℕ} (bytes_eq want key) 1 0 + 0) + how_often before key
+
+  own_is : (key : List ℕ) → with_own key ≡ how_often (label ∷ before) key
+  own_is key =
+      let one : cond {A = ℕ} (bytes_eq want key) 1 0 ≡ cond (bytes_eq (base_key label) key) 1 0 = ap (λ w. cond {A = ℕ} (bytes_eq w key) 1 0) is in
+      omega (arith, one, how_often_more label before key)
+
+  free_is : IsFree with_own ≡ IsFree (how_often (label ∷ before))
+  free_is = ap IsFree (λ i key. own_is key i)
+
+  pub open_counted : (total : KeyUses) (free : Bool) → free ≡ true → Decides free (IsFree with_own) → CountsUses total with_own → CountedUse before label total
+  open_counted total free is_so decides counts =
+      let is_free : IsFree (how_often (label ∷ before)) = subst (λ (P : Type 0). P) free_is (decides.0 is_so) in
+      record {
+        free = elim (cases_Bool (is_among (key_after before label) (taken_of before))) [
+          | inl taken ↦ absurd (clash_is_not_free before label taken is_free)
+          | inr untaken ↦ untaken
+        ];
+        keeps = record { counts = counts_same total with_own (how_often (label ∷ before)) own_is counts; free = is_free };
+      }
+
+  pub clash_counted : (key : String Global) (free : Bool) (count : ℕ) → IsFree (how_often before) → free ≡ false → Decides free (IsFree with_own) → count ≡ how_often before want → string_bytes key ≡ numbered want count → Clashes before label key
+  clash_counted key free count apart not_so decides often named = record {
+    taken = elim (cases_Bool (is_among (key_after before label) (taken_of before))) [
+      | inl taken ↦ taken
+      | inr untaken ↦ absurd (true≢false (sym (decides.1 (subst (λ (P : Type 0). P) (sym free_is) (stays_free before label apart untaken))) ∙ not_so))
+    ];
+    named = named ∙ ap (numbered want) often ∙ ap (λ w. numbered w (how_often before w)) is;
+  }
+
+-- ---- what an open holds
+
+module _ (mode : CompileMode) (items : List Item) (levels : ℕ) (before : List Label) (tally : KeyTally) (t : HasTallied mode items tally) (high : tally.height < levels) where
+  abbrev held : List Event
+  held = events_inside mode levels items
+
+  enough : tally.height ≤ levels - 1
+  enough = omega arith
+
+  -- how often each key is wanted with all that the items want
+  abbrev pub with_text : List ℕ → ℕ
+  with_text key = t.uses key + how_often before key
+
+  text_is : (key : List ℕ) → with_text key ≡ how_often (after mode.with_alias_only before held) key
+  text_is key = omega (arith, how_often-after mode.with_alias_only before held key, t.often (levels - 1) enough key)
+
+  pub text_passed : (total : KeyUses) (free : Bool) → free ≡ true → Decides free (IsFree with_text) → CountsUses total with_text → HaveCounted mode.with_alias_only before held total
+  text_passed total free is_so decides counts =
+      let later : IsFree (how_often (after mode.with_alias_only before held)) = subst (λ (P : Type 0). P) (ap IsFree (λ i key. text_is key i)) (decides.0 is_so) in
+      record {
+        none = free_events mode.with_alias_only before held (t.clean (levels - 1) enough) later;
+        keeps = record { counts = counts_same total with_text (how_often (after mode.with_alias_only before held)) text_is counts; free = later };
+      }
+
+-- ---- one list of events after the other
+
+module _ (alias_only : Bool) (before : List Label) (xs : List Event) (mid : KeyUses) (p : HaveCounted alias_only before xs mid) (ys : List Event) where
+  pub passed-append : (total : KeyUses) → HaveCounted alias_only (after alias_only before xs) ys total → HaveCounted alias_only before (xs ++ ys) total
+  passed-append total q = record {
+    none = faults-append alias_only before xs ys ∙ ap (λ o. or_then o (faults alias_only (after alias_only before xs) ys)) p.none ∙ q.none;
+    keeps = subst (IsCountOf total) (sym (after-append alias_only before xs ys)) q.keeps;
+  }
+
+  pub stopped-append : (tree_fault : keys.TreeFault) → faults alias_only (after alias_only before xs) ys ≡ Some tree_fault → faults alias_only before (xs ++ ys) ≡ Some tree_fault
+  stopped-append tree_fault stops = faults-append alias_only before xs ys ∙ ap (λ o. or_then o (faults alias_only (after alias_only before xs) ys)) p.none ∙ stops
+
+-- ---- behind a front
+
+module _ (mode : CompileMode) (text : List ℕ) (front : CountedPart) (f : IsCountedPartOf mode text front) (levels : ℕ) (room : 0 < levels) (before : List Label) where
+  -- nothing of the text was counted
+  pub opens_all : (items : List Item) (total : KeyUses) → items ≡ resolve mode text → IsCountOf total before → EntersText mode levels text items before total
+  opens_all items total is keeps = record { room = room; front = []; cut = sym is; passed = record { none = refl; keeps = keeps } }
+
+  module _ (total : KeyUses) (passed : HaveCounted mode.with_alias_only before (events_inside mode levels f.items) total) where
+    pub opens_behind : (items : List Item) → items ≡ drop front.items (resolve mode text) → EntersText mode levels text items before total
+    opens_behind items is =
+        let left : items ≡ f.left = is ∙ ap (λ n. drop n (resolve mode text)) (sym f.many) ∙ ap (drop (length f.items)) f.cut ∙ drop-append_seam f.items f.left in
+        record { room = room; front = f.items; cut = f.cut ∙ ap (λ left. f.items ++ left) (sym left); passed = passed }
+
+    pub passes_whole : front.is_whole ≡ true → HaveCounted mode.with_alias_only before (opened_events mode levels text) total
+    passes_whole whole =
+        let all : f.items ≡ resolve mode text = sym (f.cut ∙ ap (λ left. f.items ++ left) (f.whole whole) ∙ append-nil f.items) in
+        let same : events_inside mode levels f.items ++ Close ∷ [] ≡ opened_events mode levels text =
+        ap (λ items. events_inside mode levels items ++ Close ∷ []) all ∙ inside_is levels room in
+        subst (λ es. HaveCounted mode.with_alias_only before es total) same
+        (passed-append mode.with_alias_only before (events_inside mode levels f.items) total passed (Close ∷ []) total (record { none = refl; keeps = passed.keeps }))
+      where
+        inside_is : (levels : ℕ) → 0 < levels → events_inside mode levels (resolve mode text) ++ Close ∷ [] ≡ opened_events mode levels text
+        inside_is zero none = absurd (omega arith)
+        inside_is (suc n) some = let same : suc n - 1 ≡ n = omega arith in ap (λ k. events (opened_events mode k) (resolve mode text) ++ Close ∷ []) same
+
+-- ---- the whole walk
+
+-- no event that was read is a fault, and these are left
+pub record HasCountedUpTo (mode : CompileMode) (all left : List Event) (total : KeyUses) : Type 0 where
+  pub read : List Event
+  pub cut : all ≡ read ++ left
+  pub passed : HaveCounted mode.with_alias_only [] read total
+
+-- the events that are left of open texts
+abbrev pub left_of : CompileMode → List (List Item) → List Item → List Event
+left_of mode around items = events_left (resolve mode) deepest around None items
+
+abbrev pub AreAllSound : CompileMode → List (List Item) → Type 0
+AreAllSound mode [] = Unit {0}
+AreAllSound mode (items ∷ around) = AreSound (resolve mode) (finite.get mode.grok.now) items × AreAllSound mode around
+
+pub all_sound-push : (mode : CompileMode) (around : List (List Item)) (items : List Item) → AreAllSound mode around → AreSound (resolve mode) (finite.get mode.grok.now) items → AreAllSound mode (around ++ items ∷ [])
+all_sound-push mode [] items sound own = (own, tt)
+all_sound-push mode (outer ∷ around) items sound own = (sound.0, all_sound-push mode around items sound.1 own)
+
+pub all_sound-pop : (mode : CompileMode) (around : List (List Item)) (items : List Item) → AreAllSound mode (around ++ items ∷ []) → AreSound (resolve mode) (finite.get mode.grok.now) items × AreAllSound mode around
+all_sound-pop mode [] items sound = (sound.0, tt)
+all_sound-pop mode (outer ∷ around) items sound = let more = all_sound-pop mode around items sound.1 in (more.0, (sound.0, more.1))
+
+-- the events of one item and of those behind it
+first_item : (inner : List ℕ → List Event) (item : Item) (rest : List Item) → events inner (item ∷ rest) ≡ events inner (item ∷ []) ++ events inner rest
+first_item inner (TextItem text) rest = refl
+first_item inner (FaultItem fault) rest = refl
+first_item inner (PlaceholderItem label meaning) rest =
+    ap (λ es. Open label meaning ∷ es) (ap (λ es. es ++ events inner rest) (sym (append-nil (inner (meaning_text meaning)))))
+
+left_item : (items : List ℕ → List Item) (levels : ℕ) (around : List (List Item)) (item : Item) (rest : List Item)
+    → events_left items levels around None (item ∷ rest) ≡ events (inside items (levels - length around)) (item ∷ []) ++ events_left items levels around None rest
+left_item items levels [] item rest =
+    let same : levels ≡ levels - 0 = omega arith in
+    first_item (inside items levels) item rest ∙ ap (λ n. events (inside items n) (item ∷ []) ++ events (inside items levels) rest) same
+left_item items levels (outer ∷ around) item rest =
+    let same : (levels - 1) - length around ≡ levels - suc (length around) = omega arith in
+    let more = events_left items (levels - 1) around None rest in
+    let end = Close ∷ events (inside items levels) outer in
+    ap (λ es. es ++ end) (left_item items (levels - 1) around item rest)
+    ∙ append_assoc (events (inside items ((levels - 1) - length around)) (item ∷ [])) more end
+    ∙ ap (λ n. events (inside items n) (item ∷ []) ++ (more ++ end)) same
+
+left_items : (items : List ℕ → List Item) (levels : ℕ) (around : List (List Item)) (front rest : List Item)
+    → events_left items levels around None (front ++ rest) ≡ events (inside items (levels - length around)) front ++ events_left items levels around None rest
+left_items items levels around [] rest = refl
+left_items items levels around (item ∷ front) rest =
+    let inner = inside items (levels - length around) in
+    left_item items levels around item (front ++ rest)
+    ∙ ap (λ es. events inner (item ∷ []) ++ es) (left_items items levels around front rest)
+    ∙ sym (append_assoc (events inner (item ∷ [])) (events inner front) (events_left items levels around None rest))
+    ∙ ap (λ es. es ++ events_left items levels around None rest) (sym (first_item inner item front))
+
+sound_behind : (mode : CompileMode) (front rest : List Item) → AreSound (resolve mode) (finite.get mode.grok.now) (front ++ rest) → AreSound (resolve mode) (finite.get mode.grok.now) rest
+sound_behind mode [] rest sound = sound
+sound_behind mode (item ∷ front) rest sound = sound_behind mode front rest (sound_rest (resolve mode) (finite.get mode.grok.now) item (front ++ rest) sound)
+
+module _ (mode : CompileMode) (all : List Event) (total : KeyUses) where
+  pub start_passed : CountsUses total (λ key. 0) → HasCountedUpTo mode all all total
+  start_passed counts = record {
+    read = [];
+    cut = refl;
+    passed = record { none = refl; keeps = record { counts = counts; free = λ key count some. absurd (omega (arith, some)) } };
+  }
+
+  module _ (left : List Event) (h : HasCountedUpTo mode all left total) where
+    abbrev pub so_far : List Label
+    so_far = after mode.with_alias_only [] h.read
+
+    module _ (es rest : List Event) (cut : left ≡ es ++ rest) where
+      pub more_passed : (later : KeyUses) → HaveCounted mode.with_alias_only so_far es later → HasCountedUpTo mode all rest later
+      more_passed later passed = record {
+        read = h.read ++ es;
+        cut = h.cut ∙ ap (λ ls. h.read ++ ls) cut ∙ sym (append_assoc h.read es rest);
+        passed = passed-append mode.with_alias_only [] h.read total h.passed es later passed;
+      }
+
+      pub fault_found : (tree_fault : keys.TreeFault) → faults mode.with_alias_only so_far es ≡ Some tree_fault → first_fault mode.with_alias_only all ≡ Some tree_fault
+      fault_found tree_fault stops =
+          ap (faults mode.with_alias_only []) (h.cut ∙ ap (λ ls. h.read ++ ls) cut)
+          ∙ stopped-append mode.with_alias_only [] h.read total h.passed (es ++ rest) tree_fault
+          (faults-append mode.with_alias_only so_far es rest ∙ ap (λ o. or_then o (faults mode.with_alias_only (after mode.with_alias_only so_far es) rest)) stops)
+
+    pub all_passed : left ≡ [] → first_fault mode.with_alias_only all ≡ None
+    all_passed over = ap (faults mode.with_alias_only []) (h.cut ∙ ap (λ ls. h.read ++ ls) over ∙ append-nil h.read) ∙ h.passed.none
+
+-- what the walk keeps, where these texts are open around the items that are left of the innermost one
+pub record IsWalking (mode : CompileMode) (all : List Event) (around : List (List Item)) (items : List Item) (total : KeyUses) : Type 0 where
+  pub room : length around ≤ deepest
+  pub sound : AreSound (resolve mode) (finite.get mode.grok.now) items
+  pub all_sound : AreAllSound mode around
+  pub passed : HasCountedUpTo mode all (left_of mode around items) total
+
+some_event : (inner : List ℕ → List Event) (item : Item) → 0 < length (events inner (item ∷ []))
+some_event inner (TextItem text) = omega arith
+some_event inner (FaultItem fault) = omega arith
+some_event inner (PlaceholderItem label meaning) = omega arith
+
+module _ (mode : CompileMode) (all : List Event) where
+  pub walk_starts : (text : List ℕ) (around : List (List Item)) (items : List Item) (total : KeyUses) → around ≡ [] → items ≡ resolve mode text → all ≡ left_of mode [] (resolve mode text) → CountsUses total (λ key. 0) → IsWalking mode all around items total
+  walk_starts text around items total none is whole counts = record {
+    room = let e : length around ≡ 0 = ap length none in omega arith;
+    sound = subst (AreSound (resolve mode) (finite.get mode.grok.now)) (sym is) ((sound_texts (finite.get mode.grok.now)).sound text);
+    all_sound = subst (AreAllSound mode) (sym none) tt;
+    passed = subst (λ left. HasCountedUpTo mode all left total) (whole ∙ ap (λ items. left_of mode [] items) (sym is) ∙ ap (λ around. left_of mode around items) (sym none)) (start_passed mode all total counts);
+  }
+
+  module _ (around : List (List Item)) (items : List Item) (total : KeyUses) (w : IsWalking mode all around items total) where
+    abbrev pub walked : List Label
+    walked = so_far mode all total (left_of mode around items) w.passed
+
+    pub walked_keeps : IsCountOf total walked
+    walked_keeps = w.passed.passed.keeps
+
+    pub walk_ends : items ≡ [] → around ≡ [] → first_fault mode.with_alias_only all ≡ None
+    walk_ends over none = all_passed mode all total (left_of mode around items) w.passed (ap (λ items. left_of mode around items) over ∙ ap (λ around. left_of mode around []) none)
+
+    module _ (outer : List Item) (outside : List (List Item)) (over : items ≡ []) (is : around ≡ outside ++ outer ∷ []) where
+      closes : left_of mode around items ≡ Close ∷ left_of mode outside outer
+      closes = ap (λ items. left_of mode around items) over ∙ ap (λ around. left_of mode around []) is ∙ left_close (resolve mode) deepest outside outer
+
+      pub walk_closes : IsWalking mode all outside outer total
+      walk_closes =
+          let sound = all_sound-pop mode outside outer (subst (AreAllSound mode) is w.all_sound) in
+          let long : length around ≡ length outside + 1 = ap length is ∙ length-append outside (outer ∷ []) in
+          record {
+            room = omega (arith, w.room);
+            sound = sound.0;
+            all_sound = sound.1;
+            passed = more_passed mode all total (left_of mode around items) w.passed (Close ∷ []) (left_of mode outside outer) closes total (record { none = refl; keeps = walked_keeps });
+          }
+
+      pub close_smaller : length (left_of mode outside outer) < length (left_of mode around items)
+      close_smaller = omega (arith, ap length closes)
+
+    module _ (item : Item) (rest : List Item) (cut : items ≡ item ∷ rest) where
+      pub item_sound : IsSoundItem mode item
+      item_sound = sound_first mode item rest (subst (AreSound (resolve mode) (finite.get mode.grok.now)) cut w.sound)
+
+      rest_sound : AreSound (resolve mode) (finite.get mode.grok.now) rest
+      rest_sound = sound_rest (resolve mode) (finite.get mode.grok.now) item rest (subst (AreSound (resolve mode) (finite.get mode.grok.now)) cut w.sound)
+
+      -- what reading the item does to the walk
+      pub walk_steps : (levels : ℕ) → levels ≡ deepest - length around → (later : KeyUses) (step : ItemStep) → (IsSoundItem mode item → (before : List Label) → IsCountOf total before → StepsAtItem mode levels item before later step)
+          → StepsAtItem mode (deepest - length around) item walked later step
+      walk_steps levels same later step enters = subst (λ n. StepsAtItem mode n item walked later step) same (enters item_sound walked walked_keeps)
+
+      abbrev pub its_events : List Event
+      its_events = events (opened_events mode (deepest - length around)) (item ∷ [])
+
+      goes : left_of mode around items ≡ its_events ++ left_of mode around rest
+      goes = ap (λ items. left_of mode around items) cut ∙ left_item (resolve mode) deepest around item rest
+
+      pub walk_passes : (later : KeyUses) → HaveCounted mode.with_alias_only walked its_events later → IsWalking mode all around rest later
+      walk_passes later passed = record {
+        room = w.room;
+        sound = rest_sound;
+        all_sound = w.all_sound;
+        passed = more_passed mode all total (left_of mode around items) w.passed its_events (left_of mode around rest) goes later passed;
+      }
+
+      pub pass_smaller : length (left_of mode around rest) < length (left_of mode around items)
+      pass_smaller = omega (arith, ap length goes, length-append its_events (left_of mode around rest), some_event (opened_events mode (deepest - length around)) item)
+
+      pub walk_finds : (tree_fault : TreeFault) → faults mode.with_alias_only walked its_events ≡ Some (tree_fault_view tree_fault) → first_fault mode.with_alias_only all ≡ Some (tree_fault_view tree_fault)
+      walk_finds tree_fault stops = fault_found mode all total (left_of mode around items) w.passed its_events (left_of mode around rest) goes (tree_fault_view tree_fault) stops
+
+      module _ (inner : List Item) (later : KeyUses) (e : EntersPlaceholder mode (deepest - length around) item inner walked later) (deeper : List (List Item)) (is : deeper ≡ around ++ rest ∷ []) where
+        abbrev its_front : List Event
+        its_front = Open e.label e.meaning ∷ events_inside mode (deepest - length around) e.front
+
+        enters : left_of mode around items ≡ its_front ++ left_of mode deeper inner
+        enters =
+            let long : length (around ++ rest ∷ []) ≡ length around + 1 = length-append around (rest ∷ []) in
+            let same : deepest - length (around ++ rest ∷ []) ≡ deepest - length around - 1 = omega (arith, long) in
+            ap (λ items. left_of mode around items) (cut ∙ ap (λ i. i ∷ rest) e.is)
+            ∙ left_step (resolve mode) deepest around (PlaceholderItem e.label e.meaning ∷ rest) rest (Some e.meaning) (Open e.label e.meaning) (λ n. refl)
+            ∙ ap (λ es. Open e.label e.meaning ∷ es) (left_open (resolve mode) deepest around rest e.meaning (omega (arith, e.room))
+            ∙ ap (λ items. left_of mode (around ++ rest ∷ []) items) e.cut
+            ∙ left_items (resolve mode) deepest (around ++ rest ∷ []) e.front inner
+            ∙ ap (λ n. events (opened_events mode n) e.front ++ left_of mode (around ++ rest ∷ []) inner) same
+            ∙ ap (λ around'. events_inside mode (deepest - length around) e.front ++ left_of mode around' inner) (sym is))
+
+        pub walk_enters : IsWalking mode all deeper inner later
+        walk_enters =
+            let long : length deeper ≡ length around + 1 = ap length is ∙ length-append around (rest ∷ []) in
+            record {
+              room = omega (arith, e.room);
+              sound = sound_behind mode e.front inner (subst (AreSound (resolve mode) (finite.get mode.grok.now)) e.cut ((sound_texts (finite.get mode.grok.now)).sound (meaning_text e.meaning)));
+              all_sound = subst (AreAllSound mode) (sym is) (all_sound-push mode around rest w.all_sound rest_sound);
+              passed = more_passed mode all total (left_of mode around items) w.passed its_front (left_of mode deeper inner) enters later e.passed;
+            }
+
+        pub enter_smaller : length (left_of mode deeper inner) < length (left_of mode around items)
+        enter_smaller = omega (arith, ap length enters, length-append its_front (left_of mode deeper inner))

@@ -1,0 +1,67 @@
+-- A numbered key is read back as its base key and its number.
+use Rattle.std.proofs.Common.{◌≡◌, ℕ, zero, suc, ◌<◌, false, List, [], ◌∷◌, ◌++◌, length, get_or, take, drop, Some, None, refl, sym, ◌∙◌, ap, subst, arith, append_assoc}
+use Rattle.std.specs.Str.Pattern.{RFindsChar}
+use Rattle.std.proofs.lemmas.Bool.{true≢false, ne_eqb}
+use Rattle.std.proofs.lemmas.List.{append_cancel_right, take-append-drop}
+use Rattle.std.proofs.lemmas.Str.Pattern.{NoCharPasses-char, drop_at_char}
+use Rattle.grok.specs.Keys.{numbered}
+use Rattle.grok.specs.Numeral.{numeral}
+use Rattle.grok.proofs.Keys.KeysAreDistinct.{opens_bracket, in_middle, last_bracket, numeral_plain}
+
+-- ---- the last bracket of a text
+
+-- no byte of the text is an opening bracket
+abbrev pub HasNoBracket : List ℕ → Type 0
+HasNoBracket xs = (i : ℕ) → i < length xs → get_or xs i 0 ≡ 91 → ⊥
+
+pub no_bracket : (bs : List ℕ) → RFindsChar 91 bs None → HasNoBracket bs
+no_bracket bs none i low = NoCharPasses-char 91 bs i none (omega arith) low
+
+-- the text on both sides of its last opening bracket
+pub record IsSplit (bs front back : List ℕ) : Type 0 where
+  pub cut : bs ≡ front ++ 91 ∷ back
+  pub last : HasNoBracket back
+
+pub is_split : (bs front back : List ℕ) (i j : ℕ) → RFindsChar 91 bs (Some (i, j)) → front ≡ take i bs → back ≡ drop j bs → IsSplit bs front back
+is_split bs front back i j found before behind = record {
+  cut = sym (take-append-drop i bs) ∙ ap (λ xs. take i bs ++ xs) (drop_at_char 91 bs i j found.1 (omega arith)) ∙ sym (ap (λ xs. xs ++ 91 ∷ drop j bs) before) ∙ sym (ap (λ xs. front ++ 91 ∷ xs) behind);
+  last = subst HasNoBracket (sym behind) (no_bracket (drop j bs) found.0);
+}
+
+-- ---- a numbered key
+
+closed : (base : List ℕ) (count : ℕ) → numbered base (suc count) ≡ (base ++ 91 ∷ numeral (suc count)) ++ 93 ∷ []
+closed base count = simp append_assoc
+
+regroup : (base : List ℕ) (count : ℕ) → numbered base (suc count) ≡ base ++ 91 ∷ (numeral (suc count) ++ 93 ∷ [])
+regroup base count = simp append_assoc
+
+plain : (xs : List ℕ) → HasNoBracket xs → opens_bracket (xs ++ 93 ∷ []) ≡ false
+unfolding opens_bracket
+plain [] none = refl
+plain (x ∷ xs) none = rw (ne_eqb x 91 (none 0 (omega arith))) (plain xs (λ i low. none (suc i) (omega arith)))
+
+module _ (key base : List ℕ) (count : ℕ) (is : key ≡ numbered base (suc count)) where
+  -- it has its last bracket
+  pub is_closed : ((front : List ℕ) → key ≡ front ++ 93 ∷ [] → ⊥) → ⊥
+  is_closed unclosed = unclosed (base ++ 91 ∷ numeral (suc count)) (is ∙ closed base count)
+
+  module _ (inside : List ℕ) (ends : key ≡ inside ++ 93 ∷ []) where
+    whole : inside ++ 93 ∷ [] ≡ base ++ 91 ∷ (numeral (suc count) ++ 93 ∷ [])
+    whole = sym ends ∙ is ∙ regroup base count
+
+    -- and its first one
+    pub is_opened : HasNoBracket inside → ⊥
+    is_opened none = true≢false (sym (in_middle base (numeral (suc count) ++ 93 ∷ [])) ∙ ap opens_bracket (sym whole) ∙ plain inside none)
+
+    -- and its number between them
+    pub has_number : (front digits : List ℕ) → IsSplit inside front digits → digits ≡ numeral (suc count)
+    has_number front digits split =
+        let both = last_bracket front base (digits ++ 93 ∷ []) (numeral (suc count) ++ 93 ∷ []) (plain digits split.last) (numeral_plain count)
+        (sym (append_assoc front (91 ∷ digits) (93 ∷ [])) ∙ ap (λ xs. xs ++ 93 ∷ []) (sym split.cut) ∙ whole) in
+        append_cancel_right digits (numeral (suc count)) (93 ∷ []) both.1
+
+-- what it is read back to
+pub is_numbered : (key inside front digits : List ℕ) (number : ℕ) → key ≡ inside ++ 93 ∷ [] → inside ≡ front ++ 91 ∷ digits → digits ≡ numeral number → 0 < number → key ≡ numbered front number
+is_numbered key inside front digits zero ends cut said some = absurd (omega arith)
+is_numbered key inside front digits (suc count) ends cut said some = ends ∙ ap (λ xs. xs ++ 93 ∷ []) (cut ∙ ap (λ ds. front ++ 91 ∷ ds) said) ∙ sym (closed front count)

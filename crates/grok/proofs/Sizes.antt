@@ -1,0 +1,17 @@
+-- Lemmas of sizes, and of measuring.
+pub mod SizesAdd
+pub mod SizeIsThatOfTree
+pub mod TextsWithoutPlaceholders
+pub mod ReadingInduction
+pub mod SizesByLevels
+pub mod RememberingChangesNothing
+pub mod CountersAreExact
+pub mod ReachedPlaceholdersAreSeen
+pub mod ItemsAreSound
+pub mod ReadIsReached
+pub mod DigitsOfNumbers
+pub mod SumsFit
+pub mod MeasureLoop
+pub mod MeasureLoopEnds
+pub mod MeasureIsCounted
+pub mod MeasuringAgain

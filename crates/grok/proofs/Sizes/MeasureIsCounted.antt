@@ -1,0 +1,78 @@
+-- What the public calls of measuring count, and which aliases they see.
+use Rattle.std.proofs.Common.{◌≡◌, ℕ, ◌≤◌, Bool, false, List, [], length, Result, None, Bor, refl, sym, ◌∙◌, ap, arith}
+use Rattle.std.specs.Ordering.{nat_cmp}
+use Rattle.std.specs.Cmp.Lexicographic.{slice_cmp}
+use Rattle.std.specs.BTreeMap.{BTreeMap, is_at}
+use Rattle.std.specs.Map.{lookup}
+use Rattle.std.specs.Option.{option_map}
+use Rattle.std.specs.FinMap as finite
+use Rattle.grok.specs.declared.measure.Failure.{Failure}
+use Rattle.grok.specs.declared.measure.Frame.{Frame}
+use Rattle.grok.specs.declared.measure.PartialSize.{PartialSize}
+use Rattle.grok.specs.declared.measure.MeasureCache.{MeasureCache}
+use Rattle.grok.specs.declared.measure.Progress.{Progress}
+use Rattle.grok.specs.Maps.{Texts}
+use Rattle.grok.specs.Tree.{Item, items_of, Event, deepest, tree, first_structural, reached}
+use Rattle.grok.specs.Keys.{has_numbered_alias}
+use Rattle.grok.specs.MeasuredOnce.{Reading, items_within, nothing_measured, measure_within}
+use Rattle.grok.specs.Measured.{reached_pieces, reached_texts, counted}
+use Rattle.grok.specs.MeasureCache.{reading_of, progress_view, ShowsState, StopsReading}
+use Rattle.grok.proofs.Sizes.ItemsAreSound.{length-items_of, sound_texts}
+use Rattle.grok.proofs.Texts.EntriesAreTable.{table_of}
+use Rattle.grok.proofs.Sizes.MeasureLoop.{HasSameCounters, stopped_counters}
+use Rattle.grok.proofs.Sizes.ReadIsReached.{ReadsTree, reads_tree, table_weight}
+
+pub shows_nothing : (by_name : BTreeMap (Bor (List ℕ)) Progress) → by_name.entries ≡ [] → ShowsState (record { by_name = by_name; looks = record { pieces = 0; ends = 0 }; has_numbered_alias = false }) nothing_measured
+shows_nothing by_name empty = record {
+  by_name = λ name. ap (λ entries. option_map progress_view (lookup (is_at (λ (key : Bor (List ℕ)). slice_cmp nat_cmp name key.now)) entries)) empty;
+  pieces = refl;
+  ends = refl;
+  numbered_alias = refl;
+}
+
+module _ (texts : Texts) (alias_only : Bool) (pattern : List ℕ) where
+  abbrev resolve : List ℕ → List Item
+  resolve = items_of (finite.get texts)
+
+  abbrev answer : Reading
+  answer = measure_within deepest alias_only resolve pattern
+
+  abbrev whole : List Event
+  whole = tree (finite.get texts) pattern
+
+  theorem : ReadsTree resolve (finite.entries texts) pattern whole answer.1
+  unfolding tree
+  theorem = reads_tree alias_only resolve (finite.get texts) (finite.entries texts) (table_of texts) (sound_texts (finite.get texts)) deepest pattern
+
+  weight_same : table_weight (λ text. length (resolve text)) (finite.entries texts) pattern whole ≡ reached_pieces texts pattern
+  weight_same = ap (λ (weight : List ℕ → ℕ). table_weight weight (finite.entries texts) pattern whole) (λ i text. length-items_of (finite.get texts) text i)
+
+  module _ (r : Result PartialSize Failure) (frames : List Frame) (cache : MeasureCache) (stops : StopsReading deepest r frames cache (items_within alias_only resolve deepest (resolve pattern) nothing_measured)) where
+    given : StopsReading deepest r frames cache answer
+    unfolding measure_within
+    given = stops
+
+    -- what was counted is what was counted in the end
+    tallies : HasSameCounters answer.1 given.now
+    tallies = stopped_counters deepest r frames cache answer given
+
+    pub pieces_most : cache.looks.pieces ≤ counted (reached_pieces texts pattern)
+    pieces_most = omega (arith, given.shows.pieces, tallies.looks, theorem.looks, weight_same)
+
+    pub ends_most : cache.looks.ends ≤ counted (reached_texts texts pattern)
+    ends_most = omega (arith, given.shows.ends, tallies.ends, theorem.ends)
+
+    pub pieces_all : first_structural whole ≡ None → cache.looks.pieces ≡ counted (reached_pieces texts pattern)
+    pieces_all clean = given.shows.pieces ∙ ap counted (sym tallies.looks ∙ theorem.looks_exact clean ∙ weight_same)
+
+    pub ends_all : first_structural whole ≡ None → cache.looks.ends ≡ counted (reached_texts texts pattern)
+    ends_all clean = given.shows.ends ∙ ap counted (sym tallies.ends ∙ theorem.ends_exact clean)
+
+    pub pieces_read : cache.looks.pieces ≡ counted (reading_of texts alias_only pattern).looks
+    pieces_read = given.shows.pieces ∙ ap counted (sym tallies.looks)
+
+    pub ends_read : cache.looks.ends ≡ counted (reading_of texts alias_only pattern).ends
+    ends_read = given.shows.ends ∙ ap counted (sym tallies.ends)
+
+    pub bracket_is : cache.has_numbered_alias ≡ has_numbered_alias (reached whole)
+    bracket_is = given.shows.numbered_alias ∙ sym tallies.numbered_alias ∙ theorem.numbered_alias

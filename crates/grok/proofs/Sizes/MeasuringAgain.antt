@@ -1,0 +1,93 @@
+-- What was measured before changes no result, and stays true.
+use Rattle.std.proofs.Common.{◌≡◌, ℕ, Bool, List, length, Result, Some, Ok, Err, refl, sym, ◌∙◌, ap, subst, inl, inr}
+use Rattle.std.specs.Prelude.{MatchResult}
+use Rattle.std.specs.FinMap as finite
+use Rattle.grok.specs.declared.measure.Failure.{Failure}
+use Rattle.grok.specs.declared.measure.PartialSize.{PartialSize}
+use Rattle.grok.specs.declared.measure.MeasureCache.{MeasureCache}
+use Rattle.grok.specs.declared.measure.Frame.{Frame}
+use Rattle.grok.specs.Maps.{Texts}
+use Rattle.grok.specs.Tree.{Fault, Item, items_of, deepest, tree}
+use Rattle.grok.specs.Expanded.{expanded, groups, nesting}
+use Rattle.grok.specs.Items.{fault_view}
+use Rattle.grok.specs.Sizes.{Size, sizes, size_or_fault}
+use Rattle.grok.specs.MeasuredOnce.{State, nothing_measured, items_within}
+use Rattle.grok.specs.Measured.{Measured, size_within, fault_or, measured_tree}
+use Rattle.grok.specs.MeasureCache.{shown_result, result_view, measured_size, ShowsState, HasReach, unwound, StopsReading, IsCorrect, ShowsCorrectState}
+use Rattle.grok.proofs.Sizes.SizeIsThatOfTree.{tree_sizes}
+use Rattle.grok.proofs.Sizes.RememberingChangesNothing.{RightAnswer, look_right}
+use Rattle.grok.proofs.Sizes.ItemsAreSound.{sound_texts}
+
+module _ (texts : Texts) (alias_only : Bool) where
+  abbrev resolve : List ℕ → List Item
+  resolve = items_of (finite.get texts)
+
+  outcome : (levels : ℕ) (pattern : List ℕ) (st : State) → IsCorrect texts alias_only st → RightAnswer alias_only resolve (finite.get texts) levels pattern st
+  outcome levels pattern st t =
+      look_right alias_only resolve (finite.get texts) (sound_texts (finite.get texts)) levels pattern st (λ name progress text is stored. inr (t.says name progress text is stored)) t.none_begun
+
+  pub nothing_true : IsCorrect texts alias_only nothing_measured
+  nothing_true = record { none_begun = λ name is. cc; says = λ name progress text is stored. cc }
+
+  -- the plain sum is read off the tree
+  pub tree_from : (pattern : List ℕ) (s : Result Size Fault) → sizes alias_only (size_or_fault alias_only resolve deepest) (resolve pattern) ≡ s → measured_size s ≡ measured_tree alias_only (tree (finite.get texts) pattern)
+  unfolding tree
+  tree_from pattern (Err fault) is =
+      let t = tree_sizes alias_only resolve deepest pattern in
+      let whole = tree (finite.get texts) pattern in
+      sym (ap (λ o. fault_or o (size_within (length (expanded alias_only whole)) (groups alias_only whole) (nesting whole))) (t.on_err fault is))
+  tree_from pattern (Ok z) is =
+      let t = tree_sizes alias_only resolve deepest pattern in
+      rw (t.clean z is, t.length z is, t.groups z is, t.nesting z is) refl
+
+  module _ (pattern : List ℕ) (r : Result PartialSize Failure) (frames : List Frame) (before cache : MeasureCache)
+      (stops : (st : State) → ShowsState before st → StopsReading deepest r frames cache (items_within alias_only resolve deepest (resolve pattern) st)) where
+    pub answer_is : (st : State) → ShowsState before st → IsCorrect texts alias_only st → (m : Measured) → ((s : Result Size Fault) → result_view r ≡ shown_result s → m ≡ measured_size s)
+        → m ≡ measured_tree alias_only (tree (finite.get texts) pattern)
+    answer_is st shows t m h =
+        let answer = items_within alias_only resolve deepest (resolve pattern) st in
+        h answer.0 (stops st shows).same ∙ tree_from pattern answer.0 (sym (outcome deepest pattern st t).same)
+
+  module _ (levels : ℕ) (pattern : List ℕ) (r : Result PartialSize Failure) (frames : List Frame) (before cache : MeasureCache)
+      (stops : (st : State) → ShowsState before st → StopsReading levels r frames cache (items_within alias_only resolve levels (resolve pattern) st)) where
+    -- the answer is the plain sum
+    pub size_is : (st : State) → ShowsState before st → IsCorrect texts alias_only st → result_view r ≡ shown_result (sizes alias_only (size_or_fault alias_only resolve levels) (resolve pattern))
+    size_is st shows t = (stops st shows).same ∙ ap shown_result (outcome levels pattern st t).same
+
+    -- ---- what stays
+
+    stays : (after : MeasureCache) → ((st : State) → ShowsState before st → ShowsState after (items_within alias_only resolve levels (resolve pattern) st).1) → ShowsCorrectState texts alias_only before → ShowsCorrectState texts alias_only after
+    stays after shows true_before =
+        let st = true_before.st in
+        let t = true_before.is_true in
+        let o = outcome levels pattern st t in
+        let last = (items_within alias_only resolve levels (resolve pattern) st).1 in
+        record {
+          st = last;
+          shows = shows st true_before.shows;
+          is_true = record {
+            none_begun = λ name is. t.none_begun name (o.opens name is);
+            says = λ name progress text is stored. elim (o.honest name progress text is stored) [
+              | inl begun ↦ absurd (t.none_begun name (o.opens name (is ∙ ap Some begun)))
+              | inr says ↦ says
+            ];
+          };
+        }
+
+    pub done_true : (sum : PartialSize) → r ≡ Ok sum → ShowsCorrectState texts alias_only before → ShowsCorrectState texts alias_only cache
+    done_true sum is =
+        stays cache (λ st shows.
+        let s = stops st shows in
+        let answer = items_within alias_only resolve levels (resolve pattern) st in
+        let leaves : answer.1 ≡ s.now = subst (λ x. MatchResult x (λ sum. answer.1 ≡ s.now) (λ failure. answer.1 ≡ unwound levels frames (fault_view failure.fault) s.now)) is s.leaves in
+        subst (ShowsState cache) (sym leaves) s.shows)
+
+    pub failed_true : (failure : Failure) (after : MeasureCache) → r ≡ Err failure → ((st : State) → ShowsState cache st → st.reach ≡ failure.height → ShowsState after (unwound levels frames (fault_view failure.fault) st))
+        → ShowsCorrectState texts alias_only before → ShowsCorrectState texts alias_only after
+    failed_true failure after is remembers =
+        stays after (λ st shows.
+        let s = stops st shows in
+        let answer = items_within alias_only resolve levels (resolve pattern) st in
+        let reached : HasReach (Err failure) s.now = subst (λ x. HasReach x s.now) is s.reach in
+        let leaves : answer.1 ≡ unwound levels frames (fault_view failure.fault) s.now = subst (λ x. MatchResult x (λ sum. answer.1 ≡ s.now) (λ failure. answer.1 ≡ unwound levels frames (fault_view failure.fault) s.now)) is s.leaves in
+        subst (ShowsState after) (sym leaves) (remembers s.now s.shows reached))

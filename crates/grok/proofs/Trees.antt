@@ -1,0 +1,8 @@
+-- Lemmas of the tree of a pattern, and of compiling it.
+pub mod EventsOnStack
+pub mod TextIsWritten
+pub mod FaultsOfTrees
+pub mod WorkedPatterns
+pub mod FirstFaultIsLocated
+pub mod FaultInPlaceOfOpen
+pub mod CompileResults

@@ -1,0 +1,107 @@
+use Rattle.std.proofs.Common.{◌≡◌, ◌-◌, ◌<◌, length, [], ◌∷◌, ◌++◌, refl, sym, ◌∙◌, ap, subst}
+use Rattle.grok.specs.Tree.{tree, deepest}
+use Rattle.grok.specs.Items.{item_view}
+use Rattle.grok.specs.Tallied.{resolve}
+use Rattle.grok.specs.FirstFaultSteps.{EntersPlaceholder, StepsAtItem}
+use Rattle.grok.proofs.Keys.FirstFaultIsFound.{left_of, IsWalking, walked, walk_starts, walk_ends, walk_closes, close_smaller, walk_steps, walk_passes, pass_smaller, walk_finds, walk_enters, enter_smaller}
+use Rattle.grok.proofs.expand.first_fault.find_first_fault.Goals as goal
+
+pub items-init : goal.items-init
+items-init c =
+    walk_starts c.args.mode (left_of c.args.mode [] (resolve c.args.mode c.args.pattern.now)) c.args.pattern.now c.new-around.result.items c.of_text-items.result c.new-total.result
+    c.new-around.ensures.items c.of_text-items.ensures refl c.new-total.ensures
+
+pub items-preserved-in-Skip : goal.items-preserved-in-Skip
+items-preserved-in-Skip c =
+    let mode = c.args.mode in
+    let all = left_of mode [] (resolve mode c.args.pattern.now) in
+    let around = c.items.around.items in
+    let item = item_view c.in-Some.item in
+    let cut : c.items.items ≡ item ∷ c.next.new.self = rw c.in-Some.is at c.in_ok-item.ensures in
+    let w : IsWalking mode all around c.items.items c.items.total = c.items.invariant in
+    let room : 1023 - c.len.result ≡ deepest - length around = ap (λ n. deepest - n) (c.len.ensures ∙ c.items.around.ok.0) in
+    let stepped : StepsAtItem mode (deepest - length around) item (walked mode all around c.items.items c.items.total w) c.read_item.new.total c.in_ok-read_item-in-Some.field-0 =
+    walk_steps mode all around c.items.items c.items.total w item c.next.new.self cut (1023 - c.len.result) room c.read_item.new.total c.in_ok-read_item-in-Some.field-0 c.in_ok-read_item-in-Some.ensures in
+    walk_passes mode all around c.items.items c.items.total w item c.next.new.self cut c.read_item.new.total
+    (subst (StepsAtItem mode (deepest - length around) item (walked mode all around c.items.items c.items.total w) c.read_item.new.total) c.in-Skip.is stepped)
+
+pub items-smaller-in-Skip : goal.items-smaller-in-Skip
+items-smaller-in-Skip c =
+    let mode = c.args.mode in
+    let all = left_of mode [] (resolve mode c.args.pattern.now) in
+    let item = item_view c.in-Some.item in
+    let cut : c.items.items ≡ item ∷ c.next.new.self = rw c.in-Some.is at c.in_ok-item.ensures in
+    pass_smaller mode all c.items.around.items c.items.items c.items.total c.items.invariant item c.next.new.self cut
+
+pub items-preserved-in-Continue-branch-5 : goal.items-preserved-in-Continue-branch-5
+items-preserved-in-Continue-branch-5 c =
+    let mode = c.args.mode in
+    let all = left_of mode [] (resolve mode c.args.pattern.now) in
+    let around = c.items.around.items in
+    let item = item_view c.in-Some.item in
+    let rest = c.next.new.self in
+    let cut : c.items.items ≡ item ∷ rest = rw c.in-Some.is at c.in_ok-item.ensures in
+    let w : IsWalking mode all around c.items.items c.items.total = c.items.invariant in
+    let room : 1023 - c.len.result ≡ deepest - length around = ap (λ n. deepest - n) (c.len.ensures ∙ c.items.around.ok.0) in
+    let stepped : StepsAtItem mode (deepest - length around) item (walked mode all around c.items.items c.items.total w) c.read_item.new.total c.in_ok-read_item-in-Some.field-0 =
+    walk_steps mode all around c.items.items c.items.total w item rest cut (1023 - c.len.result) room c.read_item.new.total c.in_ok-read_item-in-Some.field-0 c.in_ok-read_item-in-Some.ensures in
+    let entered : EntersPlaceholder mode (deepest - length around) item c.in-Enter.inner (walked mode all around c.items.items c.items.total w) c.read_item.new.total =
+    subst (StepsAtItem mode (deepest - length around) item (walked mode all around c.items.items c.items.total w) c.read_item.new.total) c.in-Enter.is stepped in
+    let deeper : c.descend.new.around.items ≡ around ++ rest ∷ [] = c.in_ok-descend-in-Enter.ensures.around in
+    subst (λ items. IsWalking mode all c.descend.new.around.items items c.read_item.new.total) (sym c.in_ok-descend-in-Enter.ensures.items)
+    (walk_enters mode all around c.items.items c.items.total w item rest cut c.in-Enter.inner c.read_item.new.total entered c.descend.new.around.items deeper)
+
+pub items-smaller-in-Continue-branch-5 : goal.items-smaller-in-Continue-branch-5
+items-smaller-in-Continue-branch-5 c =
+    let mode = c.args.mode in
+    let all = left_of mode [] (resolve mode c.args.pattern.now) in
+    let around = c.items.around.items in
+    let item = item_view c.in-Some.item in
+    let rest = c.next.new.self in
+    let cut : c.items.items ≡ item ∷ rest = rw c.in-Some.is at c.in_ok-item.ensures in
+    let w : IsWalking mode all around c.items.items c.items.total = c.items.invariant in
+    let room : 1023 - c.len.result ≡ deepest - length around = ap (λ n. deepest - n) (c.len.ensures ∙ c.items.around.ok.0) in
+    let stepped : StepsAtItem mode (deepest - length around) item (walked mode all around c.items.items c.items.total w) c.read_item.new.total c.in_ok-read_item-in-Some.field-0 =
+    walk_steps mode all around c.items.items c.items.total w item rest cut (1023 - c.len.result) room c.read_item.new.total c.in_ok-read_item-in-Some.field-0 c.in_ok-read_item-in-Some.ensures in
+    let entered : EntersPlaceholder mode (deepest - length around) item c.in-Enter.inner (walked mode all around c.items.items c.items.total w) c.read_item.new.total =
+    subst (StepsAtItem mode (deepest - length around) item (walked mode all around c.items.items c.items.total w) c.read_item.new.total) c.in-Enter.is stepped in
+    let deeper : c.descend.new.around.items ≡ around ++ rest ∷ [] = c.in_ok-descend-in-Enter.ensures.around in
+    subst (λ items. length (left_of mode c.descend.new.around.items items) < length (left_of mode around c.items.items)) (sym c.in_ok-descend-in-Enter.ensures.items)
+    (enter_smaller mode all around c.items.items c.items.total w item rest cut c.in-Enter.inner c.read_item.new.total entered c.descend.new.around.items deeper)
+
+pub returns-in-Report : goal.returns-in-Report
+unfolding tree
+returns-in-Report c =
+    let mode = c.args.mode in
+    let all = left_of mode [] (resolve mode c.args.pattern.now) in
+    let around = c.items.around.items in
+    let item = item_view c.in-Some.item in
+    let cut : c.items.items ≡ item ∷ c.next.new.self = rw c.in-Some.is at c.in_ok-item.ensures in
+    let w : IsWalking mode all around c.items.items c.items.total = c.items.invariant in
+    let room : 1023 - c.len.result ≡ deepest - length around = ap (λ n. deepest - n) (c.len.ensures ∙ c.items.around.ok.0) in
+    let stepped : StepsAtItem mode (deepest - length around) item (walked mode all around c.items.items c.items.total w) c.read_item.new.total c.in_ok-read_item-in-Some.field-0 =
+    walk_steps mode all around c.items.items c.items.total w item c.next.new.self cut (1023 - c.len.result) room c.read_item.new.total c.in_ok-read_item-in-Some.field-0 c.in_ok-read_item-in-Some.ensures in
+    sym (walk_finds mode all around c.items.items c.items.total w item c.next.new.self cut c.in-Report.tree_fault
+    (subst (StepsAtItem mode (deepest - length around) item (walked mode all around c.items.items c.items.total w) c.read_item.new.total) c.in-Report.is stepped))
+
+pub items-preserved : goal.items-preserved
+items-preserved c =
+    let mode = c.args.mode in
+    let all = left_of mode [] (resolve mode c.args.pattern.now) in
+    let over = rw c.in-None.is at c.in_ok-item.ensures in
+    walk_closes mode all c.items.around.items c.items.items c.items.total c.items.invariant c.ascend.new.items c.ascend.new.around.items over.0 (c.if-not-ascend.ensures.inside refl)
+
+pub items-smaller : goal.items-smaller
+items-smaller c =
+    let mode = c.args.mode in
+    let all = left_of mode [] (resolve mode c.args.pattern.now) in
+    let over = rw c.in-None.is at c.in_ok-item.ensures in
+    close_smaller mode all c.items.around.items c.items.items c.items.total c.items.invariant c.ascend.new.items c.ascend.new.around.items over.0 (c.if-not-ascend.ensures.inside refl)
+
+pub returns-then-not-ascend : goal.returns-then-not-ascend
+unfolding tree
+returns-then-not-ascend c =
+    let mode = c.args.mode in
+    let all = left_of mode [] (resolve mode c.args.pattern.now) in
+    let over = rw c.in-None.is at c.in_ok-item.ensures in
+    sym (walk_ends mode all c.items.around.items c.items.items c.items.total c.items.invariant over.0 (c.if-not-ascend.ensures.outside refl).0)

@@ -1,0 +1,49 @@
+use Rattle.std.proofs.Common.{◌≡◌, ◌+◌, ◌∷◌, refl, sym, subst, arith}
+use Rattle.std.specs.FinMap as finite
+use Rattle.grok.specs.Items.{item_view}
+use Rattle.grok.specs.Tallied.{resolve, HasTallied, with_item}
+use Rattle.grok.proofs.Sizes.TextsWithoutPlaceholders.{AreSound, sound_rest}
+use Rattle.grok.proofs.Sizes.ItemsAreSound.{sound_texts}
+use Rattle.grok.proofs.Keys.DefinitionsAreCounted.{sound_first, counting_starts, counting_goes_on, counted_in_part}
+use Rattle.grok.proofs.expand.tallies.DefinitionTallies.count_text.Goals as goal
+
+pub items-init : goal.items-init
+items-init c =
+    let mode = c.args.mode in
+    record {
+      sound = subst (AreSound (resolve mode) (finite.get mode.grok.now)) (sym c.of_stored-items.ensures) ((sound_texts (finite.get mode.grok.now)).sound c.args.stored.now);
+      part = refl;
+      counting = counting_starts mode c.args.stored.now c.of_stored-items.result c.new.result c.of_stored-items.ensures c.new.ensures.counts;
+    }
+
+pub items-preserved : goal.items-preserved
+items-preserved c =
+    let mode = c.args.mode in
+    let item = item_view c.in-Some.item in
+    let rest = c.next.new.self in
+    let new = c.count_item.new.tally in
+    let cut : c.items.items ≡ item ∷ rest = rw c.in-Some.is at c.in_ok-item.ensures in
+    let sound : AreSound (resolve mode) (finite.get mode.grok.now) (item ∷ rest) = subst (AreSound (resolve mode) (finite.get mode.grok.now)) cut c.items.invariant.sound in
+    let one : c.in-Some-checked_add.more ≡ c.items.front.items + 1 = omega (arith, c.in-Some-checked_add.ensures) in
+    record {
+      sound = sound_rest (resolve mode) (finite.get mode.grok.now) item rest sound;
+      part = c.items.invariant.part;
+      counting = counting_goes_on mode c.args.stored.now c.items.items rest item c.items.front.items c.in-Some-checked_add.more c.items.front.tally new cut one c.items.invariant.counting
+          (λ items h. subst (λ b. HasTallied mode (with_item b items item) new) c.if-not-branch.false (c.in_ok-count_item.ensures (sound_first mode item rest sound) items h));
+    }
+
+pub returns-then-not-branch : goal.returns-then-not-branch
+returns-then-not-branch c =
+    let mode = c.args.mode in
+    let item = item_view c.in-Some.item in
+    let rest = c.next.new.self in
+    let new = c.count_item.new.tally in
+    let cut : c.items.items ≡ item ∷ rest = rw c.in-Some.is at c.in_ok-item.ensures in
+    let sound : AreSound (resolve mode) (finite.get mode.grok.now) (item ∷ rest) = subst (AreSound (resolve mode) (finite.get mode.grok.now)) cut c.items.invariant.sound in
+    let so_far = c.items.invariant.counting in
+    counted_in_part mode c.args.stored.now c.items.items (record c.items.front { tally = new }) c.items.invariant.part
+    (record { items = so_far.items; cut = so_far.cut; many = so_far.many; tallied = subst (λ b. HasTallied mode (with_item b so_far.items item) new) c.if-not-branch.true (c.in_ok-count_item.ensures (sound_first mode item rest sound) so_far.items so_far.tallied) })
+
+pub returns-in_default-checked_add : goal.returns-in_default-checked_add
+returns-in_default-checked_add c =
+    counted_in_part c.args.mode c.args.stored.now c.items.items c.items.front c.items.invariant.part c.items.invariant.counting

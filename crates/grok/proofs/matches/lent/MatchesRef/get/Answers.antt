@@ -1,6 +1,0 @@
-use Rattle.std.proofs.Common.{rules}
-use Rattle.grok.proofs.matches.lent.MatchesRef.get.Goals as goal
-
--- by one tactic, so that a wrong body is refused at once
-pub returns : goal.returns
-returns c = search rules

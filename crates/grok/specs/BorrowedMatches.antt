@@ -1,0 +1,13 @@
+-- What contracts see of a match that is borrowed from its matcher.
+use Rattle.std.specs.Prelude.{ℕ, List, Option}
+use Rattle.grok.specs.KeyTable.{Entries}
+use Rattle.grok.specs.Groups.{texts_in_line}
+use Rattle.grok.specs.declared.matches.borrowed.MatchesRef.{MatchesRef}
+
+-- the key table of its pattern
+abbrev pub borrowed_keys : MatchesRef → Entries
+borrowed_keys matches = matches.keys.now
+
+-- the text of each group that took part, from group 0 on
+abbrev pub borrowed_captures : MatchesRef → List (Option (List ℕ))
+borrowed_captures matches = texts_in_line matches.located

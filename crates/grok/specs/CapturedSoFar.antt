@@ -1,0 +1,34 @@
+-- The capturing placeholders so far, the latest first, with their keys and extracts.
+use Rattle.std.specs.Prelude.{ℕ, not, ◌&&◌, List, [], ◌∷◌, ◌++◌, if◌then◌else◌, Bool, Option, Some, None}
+use Rattle.std.specs.Str.{bytes_eq}
+use Rattle.grok.specs.Tree.{is_absent, Label, Event}
+use Rattle.grok.specs.Keys.{key_after, capturing, TreeFault, first_fault_after}
+
+-- capturing placeholders in reading order, put onto earlier ones
+abbrev pub onto : List Label → List Label → List Label
+onto before [] = before
+onto before (label ∷ labels) = onto (label ∷ before) labels
+
+-- their keys, the latest first
+abbrev pub taken_of : List Label → List (List ℕ)
+taken_of [] = []
+taken_of (label ∷ before) = key_after before label ∷ taken_of before
+
+-- their keys in reading order
+abbrev pub in_order : List Label → List (List ℕ)
+in_order [] = []
+in_order (label ∷ before) = in_order before ++ key_after before label ∷ []
+
+-- the extract of a key among them
+abbrev pub extract_before : List Label → List ℕ → Option (List ℕ)
+extract_before [] key = None
+extract_before (label ∷ before) key = if bytes_eq (key_after before label) key
+    && not (is_absent label.extract) then Some label.extract else extract_before before key
+
+-- the first fault of events that come after these capturing placeholders
+abbrev pub faults : Bool → List Label → List Event → Option TreeFault
+faults alias_only before events = first_fault_after alias_only before (taken_of before) events
+
+-- the capturing placeholders after more events
+abbrev pub after : Bool → List Label → List Event → List Label
+after alias_only before events = onto before (capturing alias_only events)

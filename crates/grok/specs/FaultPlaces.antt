@@ -1,0 +1,66 @@
+-- Where the first structural fault of a pattern stands: the names of the definitions that lead to it, and the
+-- byte range of the piece that has it.
+use Rattle.std.specs.Prelude.{◌≡◌, ℕ, zero, suc, List, [], ◌∷◌, ◌++◌, length, map, Option, Some, None}
+use Rattle.std.specs.Borrow.{Bor}
+use Rattle.grok.specs.Pieces.{Piece, Regular, Placeholder, Malformed, pieces}
+use Rattle.grok.specs.Tree.{Definitions, Fault, TooDeep, Label, Meaning, Stored, Item, FaultItem, PlaceholderItem, items_of, events, inside, first_structural}
+
+-- ---- byte ranges
+
+-- where a piece of the text ends; a malformed piece is the last one, and takes the rest of the text
+abbrev pub end_of : List ℕ → Piece → ℕ
+end_of text (Regular s e part) = e
+end_of text (Placeholder s e part parts) = e
+end_of text (Malformed fault) = length text
+
+-- where the last of these pieces ends, which begin at this byte and lie side by side
+abbrev pub end_of_all : List ℕ → ℕ → List Piece → ℕ
+end_of_all text from [] = from
+end_of_all text from (piece ∷ pieces) = end_of_all text (end_of text piece) pieces
+
+-- A piece of the text stands at this byte range and stands for this item. These are the items of the pieces
+-- before it.
+pub record StandsAt (stored : Definitions) (text : List ℕ) (before : List Item) (from to : ℕ)
+    (item : Item) : Type 0 where
+  pub pieces_before : List Piece
+  pub piece : Piece
+  pub pieces_after : List Piece
+  pub after : List Item
+  pub pieces : pieces text ≡ pieces_before ++ piece ∷ pieces_after
+  pub items : items_of stored text ≡ before ++ item ∷ after
+  pub same : length before ≡ length pieces_before
+  pub begins : from ≡ end_of_all text 0 pieces_before
+  pub ends : to ≡ end_of text piece
+
+-- ---- faults
+
+-- the first fault of items and of their definitions, if this many levels are left
+abbrev pub fault_within : Definitions → ℕ → List Item → Option Fault
+fault_within stored levels items = first_structural (events (inside (items_of stored) levels) items)
+
+-- The fault of a piece itself, if this many levels are left: it is malformed, its name has no definition, or it
+-- is a placeholder for which no level is left.
+pub data IsOwnFault : ℕ → Item → Fault → Type 0 where
+  Broken : (levels : ℕ) (fault : Fault) → IsOwnFault levels (FaultItem fault) fault
+  Deep : (label : Label) (meaning : Meaning) → IsOwnFault zero (PlaceholderItem label meaning) TooDeep
+
+-- THE PLACE of a text's first fault, if this many levels are left in the text: a path, the text that it leads to,
+-- and a byte range of that text. No piece before it has a fault. Either it is a piece of the text itself, or the
+-- path begins with the name of a placeholder of the text, and the rest of the path leads to the place of the
+-- first fault of that name's stored definition.
+pub data IsFaultAt (stored : Definitions) : (levels : ℕ) (text : List ℕ) (path : List (List ℕ))
+    (faulty : List ℕ) (from to : ℕ) (fault : Fault) → Type 0 where
+  Here : (levels : ℕ) (text : List ℕ) (before : List Item) (from to : ℕ) (item : Item) (fault : Fault)
+      → StandsAt stored text before from to item → fault_within stored levels before ≡ None
+      → IsOwnFault levels item fault → IsFaultAt stored levels text [] text from to fault
+  Inside : (levels : ℕ) (text : List ℕ) (before : List Item) (begin end : ℕ) (label : Label)
+      (definition : List ℕ) (path : List (List ℕ)) (faulty : List ℕ) (from to : ℕ) (fault : Fault)
+      → StandsAt stored text before begin end (PlaceholderItem label (Stored definition))
+      → stored label.name ≡ Some definition
+      → fault_within stored (suc levels) before ≡ None
+      → IsFaultAt stored levels definition path faulty from to fault
+      → IsFaultAt stored (suc levels) text (label.name ∷ path) faulty from to fault
+
+-- the names of a path, outermost first
+abbrev pub path_view : List (Bor (List ℕ)) → List (List ℕ)
+path_view path = map (λ (name : Bor (List ℕ)). name.now) path

@@ -1,0 +1,197 @@
+-- What the code remembers while it measures, compared with the definitions of MeasuredOnce.
+use Rattle.std.specs.Prelude.{◌≡◌, ℕ, suc, ◌-◌, ◌^◌, ◌<◌, ◌≤◌, max, Bool, true, false, List, [], ◌∷◌, if◌then◌else◌, nat_lt, Option, Some, None, Result, Ok, Err, MatchResult}
+use Rattle.std.specs.Option.{option_map}
+use Rattle.std.specs.Str.{bytes_eq}
+use Rattle.std.specs.Ordering.{nat_cmp}
+use Rattle.std.specs.Cmp.Lexicographic.{slice_cmp}
+use Rattle.std.specs.BTreeMap.{BTreeMap, get_by}
+use Rattle.std.specs.Borrow.{Bor}
+use Rattle.std.specs.FinMap as finite
+use Rattle.grok.specs.Maps.{Texts}
+use Rattle.grok.specs.declared.measure.PartialSize.{PartialSize}
+use Rattle.grok.specs.declared.measure.MeasureCache.{MeasureCache}
+use Rattle.grok.specs.declared.measure.Failure.{Failure}
+use Rattle.grok.specs.declared.measure.Progress.{Progress}
+use Rattle.grok.specs.declared.measure.Progress.TheVariants as progress
+use Rattle.grok.specs.declared.measure.Frame.{Frame}
+use Rattle.grok.specs.declared.measure.PlaceholderSize.{PlaceholderSize}
+use Rattle.grok.specs.declared.measure.PlaceholderSize.TheVariants as entry
+use Rattle.grok.specs.declared.defs.items.Label.{Label}
+use Rattle.grok.specs.declared.measure.Measure.{Measure}
+use Rattle.grok.specs.declared.measure.Measure.TheVariants as measure
+use Rattle.grok.specs.Tree as tree
+use Rattle.grok.specs.Items.{fault_view, label_view}
+use Rattle.grok.specs.Sizes.{Size, length_of, size_or_fault}
+use Rattle.grok.specs.MeasuredOnce as kept
+use Rattle.grok.specs.MeasuredOnce.{State, Reading, InProgress, HasSize, HasFault, NeedsMoreThan, known_result, failed_progress, by_progress, labelled, with_progress, with_reach, measure_within}
+use Rattle.grok.specs.Measured.{Measured, Faulty, Sized, TooLong, size_within, counted}
+
+-- the items of a text over these definitions
+abbrev pub items_in : Texts → List ℕ → List tree.Item
+items_in texts text = tree.items_of (finite.get texts) text
+
+-- What is read for a pattern, up to the first fault: its items in order and, when a definition is used for the
+-- first time, the items of that definition.
+abbrev pub reading_of : Texts → Bool → List ℕ → State
+reading_of texts alias_only pattern = (measure_within tree.deepest alias_only (items_in texts) pattern).1
+
+-- a number, if it fits a `usize`
+abbrev pub fit : ℕ → Option ℕ
+fit n = if nat_lt n (2 ^ 64) then Some n else None
+
+abbrev pub shown : Size → PartialSize
+shown size = record { bytes = fit size.bytes; groups = fit size.groups; height = size.height }
+
+abbrev pub shown_result : Result Size tree.Fault → Result PartialSize tree.Fault
+shown_result (Ok size) = Ok (shown size)
+shown_result (Err fault) = Err fault
+
+abbrev pub result_view : Result PartialSize Failure → Result PartialSize tree.Fault
+result_view (Ok sum) = Ok sum
+result_view (Err failure) = Err (fault_view failure.fault)
+
+-- the progress of a name, with its size as the code keeps it
+abbrev pub shown_progress : kept.Progress Size → kept.Progress PartialSize
+shown_progress InProgress = InProgress
+shown_progress (HasSize size) = HasSize (shown size)
+shown_progress (HasFault fault height) = HasFault fault height
+shown_progress (NeedsMoreThan levels) = NeedsMoreThan levels
+
+abbrev pub progress_view : Progress → kept.Progress PartialSize
+progress_view progress.InProgress = InProgress
+progress_view (progress.HasSize sum) = HasSize sum
+progress_view (progress.HasFault failure) = HasFault (fault_view failure.fault) failure.height
+progress_view (progress.NeedsMoreThan levels) = NeedsMoreThan levels
+
+-- the progress of a name, if it has one
+abbrev pub progress_of : BTreeMap (Bor (List ℕ)) Progress → List ℕ → Option Progress
+progress_of by_name name = get_by (λ (key : Bor (List ℕ)). slice_cmp nat_cmp name key.now) by_name
+
+-- The definition was measured, or is being measured, and is not measured again, however many levels are left.
+abbrev pub is_kept : Option Progress → Bool
+is_kept None = false
+is_kept (Some progress.InProgress) = true
+is_kept (Some (progress.HasSize sum)) = true
+is_kept (Some (progress.HasFault failure)) = true
+is_kept (Some (progress.NeedsMoreThan levels)) = false
+
+-- the code's cache holds what this state says
+pub record ShowsState (cache : MeasureCache) (st : State) : Type 0 where
+  pub by_name : (name : List ℕ) → option_map progress_view (progress_of cache.by_name name)
+      ≡ option_map shown_progress (st.by_name name)
+  pub pieces : cache.looks.pieces ≡ counted st.looks
+  pub ends : cache.looks.ends ≡ counted st.ends
+  pub numbered_alias : cache.has_numbered_alias ≡ st.numbered_alias
+
+-- after a fault, the height is that of the text up to the fault
+abbrev pub HasReach : Result PartialSize Failure → State → Type 0
+HasReach (Ok sum) st = Unit {0}
+HasReach (Err failure) st = st.reach ≡ failure.height
+
+-- the code returns this size or fault, with this height
+pub record ReturnsSize (r : Result PartialSize Failure) (given : Result Size tree.Fault) (st : State) : Type 0 where
+  pub same : result_view r ≡ shown_result given
+  pub reach : HasReach r st
+
+-- the code returns the result of this reading, and its cache holds the state after it
+pub record ReturnsReading (r : Result PartialSize Failure) (cache : MeasureCache) (answer : Reading) : Type 0 where
+  pub same : result_view r ≡ shown_result answer.0
+  pub reach : HasReach r answer.1
+  pub leaves : ShowsState cache answer.1
+
+-- the code returns the result of this reading, which changes nothing but the height
+pub record RemembersReading (r : Result PartialSize Failure) (st : State) (answer : Reading) : Type 0 where
+  pub same : result_view r ≡ shown_result answer.0
+  pub reach : HasReach r answer.1
+  pub stays : answer.1 ≡ with_reach st answer.1.reach
+
+-- with `levels` levels left, the definition has to be measured first
+abbrev pub IsUnknown : List ℕ → ℕ → MeasureCache → Type 0
+IsUnknown name levels cache = (st : State) → ShowsState cache st → (fresh : Reading)
+    → by_progress (st.by_name name) levels st fresh ≡ fresh
+
+-- the name has this progress, and every other name has what it had
+abbrev pub HasProgress : List ℕ → Progress → MeasureCache → MeasureCache → Type 0
+HasProgress name progress before after = (other : List ℕ) → progress_of after.by_name other
+    ≡ (if bytes_eq name other then Some progress else progress_of before.by_name other)
+
+-- measuring a definition has begun: it was not measured before, and is in progress now
+pub record HasBegun (name : List ℕ) (levels : ℕ) (before after : MeasureCache) : Type 0 where
+  pub unkept : is_kept (progress_of before.by_name name) ≡ false
+  pub unknown : IsUnknown name levels before
+  pub updated : HasProgress name progress.InProgress before after
+  pub shows : (st : State) → ShowsState before st → ShowsState after (with_progress st name InProgress)
+
+-- The placeholder with this label stands for this stored definition, which has to be measured first and is in
+-- progress now.
+pub record MustBeMeasured (levels : ℕ) (label : Label) (meaning : tree.Meaning) (text : List ℕ)
+    (before after : MeasureCache) : Type 0 where
+  pub is : meaning ≡ tree.Stored text
+  pub room : 0 < levels
+  pub unkept : is_kept (progress_of before.by_name label.name.now) ≡ false
+  pub unknown : (st : State) → ShowsState before st → (fresh : Reading)
+      → by_progress (st.by_name label.name.now) levels (labelled (label_view label) st) fresh ≡ fresh
+  pub updated : HasProgress label.name.now progress.InProgress before after
+  pub shows : (st : State) → ShowsState before st → ShowsState after (with_progress
+      (labelled (label_view label) st) label.name.now InProgress)
+
+abbrev pub MatchPlaceholderSize : PlaceholderSize → (Result PartialSize Failure → Type 0) → (List ℕ → Type 0) → Type 0
+MatchPlaceholderSize (entry.Measured r) Is Opens = Is r
+MatchPlaceholderSize (entry.Unread stored) Is Opens = Opens stored.now
+
+abbrev pub IfMeasured : PlaceholderSize → (Result PartialSize Failure → Type 0) → Type 0
+IfMeasured (entry.Measured r) Is = Is r
+IfMeasured (entry.Unread stored) Is = Unit {0}
+
+-- ---- from one pattern to the next
+
+-- A fault also ends the texts that wait in frames; the innermost frame is the last. Each name is remembered with
+-- this fault, and the height grows by one level, or to that of the text before it.
+abbrev pub unwound : ℕ → List Frame → tree.Fault → State → State
+unwound levels [] fault st = st
+unwound levels (frame ∷ frames) fault st =
+    let inner = unwound (levels - 1) frames fault st in
+    with_reach (with_progress inner frame.name.now (failed_progress fault levels inner.reach))
+    (max frame.sum.height (suc inner.reach))
+
+-- no frame has a text that is nested deeper than this
+abbrev pub AreLow : ℕ → List Frame → Type 0
+AreLow most [] = Unit {0}
+AreLow most (frame ∷ frames) = (frame.sum.height ≤ most) × AreLow most frames
+
+-- how reading a text ends: with its size, or with a fault while frames still wait
+pub record StopsReading (levels : ℕ) (r : Result PartialSize Failure) (frames : List Frame) (cache : MeasureCache)
+    (answer : Reading) : Type 0 where
+  pub now : State
+  pub same : result_view r ≡ shown_result answer.0
+  pub shows : ShowsState cache now
+  pub reach : HasReach r now
+  pub leaves : MatchResult r (λ sum. answer.1 ≡ now) (λ failure. answer.1
+      ≡ unwound levels frames (fault_view failure.fault) now)
+
+-- what is remembered of this definition is its size or fault
+abbrev pub HoldsOfText : Bool → (List ℕ → List tree.Item) → kept.Progress Size → List ℕ → Type 0
+HoldsOfText alias_only resolve progress text = (levels : ℕ) (r : Result Size tree.Fault) → known_result progress levels ≡ Some r
+    → size_or_fault alias_only resolve levels text ≡ r
+
+-- all that is remembered is right, and nothing is in progress
+pub record IsCorrect (texts : Texts) (alias_only : Bool) (st : State) : Type 0 where
+  pub none_begun : (name : List ℕ) → st.by_name name ≡ Some InProgress → ⊥
+  pub says : (name : List ℕ) (progress : kept.Progress Size) (text : List ℕ) → st.by_name name ≡ Some progress
+      → finite.get texts name ≡ Some text → HoldsOfText alias_only (items_in texts) progress text
+
+pub record ShowsCorrectState (texts : Texts) (alias_only : Bool) (cache : MeasureCache) : Type 0 where
+  pub st : State
+  pub shows : ShowsState cache st
+  pub is_true : IsCorrect texts alias_only st
+
+-- the public result for this size or fault
+abbrev pub measured_size : Result Size tree.Fault → Measured
+measured_size (Ok size) = size_within (length_of size) size.groups size.height
+measured_size (Err fault) = Faulty fault
+
+-- what contracts see of the public result
+abbrev pub measure_view : Measure → Measured
+measure_view (measure.Fault fault) = Faulty (fault_view fault)
+measure_view (measure.Size length groups nesting) = Sized length groups nesting
+measure_view measure.TooLong = TooLong

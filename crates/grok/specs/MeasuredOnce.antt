@@ -1,0 +1,159 @@
+-- Measuring a pattern, where each definition is measured once and its size or fault is remembered.
+use Rattle.std.specs.Prelude.{ℕ, zero, suc, ◌+◌, max, Bool, false, ◌||◌, List, [], ◌∷◌, if◌then◌else◌, nat_lt, Option, Some, None, Result, Ok, Err}
+use Rattle.std.specs.Str.{bytes_eq}
+use Rattle.grok.specs.Tree.{Fault, MalformedPiece, Missing, TooDeep, Label, Inline, Stored, Item, TextItem, FaultItem, PlaceholderItem}
+use Rattle.grok.specs.Keys.{ends_in_number}
+use Rattle.grok.specs.Sizes.{Size, no_size, size_of_bytes, both, wrapped}
+
+-- How far measuring a definition has come: it is in progress; it has this size; it has this first fault if more
+-- levels than the height are left, and is nested too deeply otherwise; or it needs more than this many levels.
+pub data Progress (S : Type 0) : Type 0 where
+  InProgress : Progress S
+  HasSize : (size : S) → Progress S
+  HasFault : (fault : Fault) (height : ℕ) → Progress S
+  NeedsMoreThan : (levels : ℕ) → Progress S
+
+-- the size or fault with `levels` levels left, or none if the definition has to be measured again
+abbrev pub known_result : Progress Size → ℕ → Option (Result Size Fault)
+known_result InProgress levels = Some (Err TooDeep)
+known_result (HasSize size) levels = Some (if nat_lt size.height levels then Ok size else Err TooDeep)
+known_result (HasFault fault height) levels = Some (if nat_lt height levels then Err fault else Err TooDeep)
+known_result (NeedsMoreThan most) levels = if nat_lt most levels then None else Some (Err TooDeep)
+
+-- how many levels are nested before the fault, with `levels` levels left; 0 if it is nested too deeply
+abbrev pub reach_within : Progress Size → ℕ → ℕ
+reach_within InProgress levels = 0
+reach_within (HasSize size) levels = 0
+reach_within (HasFault fault height) levels = if nat_lt height levels then height else 0
+reach_within (NeedsMoreThan most) levels = 0
+
+-- what is remembered of a definition that was measured with `levels` levels left, where `reach` levels are nested
+-- before this fault
+abbrev pub failed_progress : {S : Type 0} → Fault → ℕ → ℕ → Progress S
+failed_progress (MalformedPiece fault) levels reach = HasFault (MalformedPiece fault) reach
+failed_progress (Missing name) levels reach = HasFault (Missing name) reach
+failed_progress TooDeep levels reach = NeedsMoreThan levels
+
+-- What measuring remembers: the progress of each name, how many pieces and ends of texts were read, whether an
+-- alias was read that ends in a number in brackets, and, after a fault, how many levels were nested before it.
+pub record State : Type 0 where
+  pub by_name : List ℕ → Option (Progress Size)
+  pub looks : ℕ
+  pub ends : ℕ
+  pub numbered_alias : Bool
+  pub reach : ℕ
+
+abbrev pub updated : (List ℕ → Option (Progress Size)) → List ℕ → Progress Size → List ℕ → Option (Progress Size)
+updated by_name name progress other = if bytes_eq name other then Some progress else by_name other
+
+abbrev pub with_progress : State → List ℕ → Progress Size → State
+with_progress st name progress = record { by_name = updated st.by_name name progress; looks = st.looks; ends = st.ends; numbered_alias = st.numbered_alias; reach = st.reach }
+
+-- `reach` levels are nested before the fault
+abbrev pub with_reach : State → ℕ → State
+with_reach st reach = record { by_name = st.by_name; looks = st.looks; ends = st.ends; numbered_alias = st.numbered_alias; reach = reach }
+
+-- one more piece was read
+abbrev pub piece_read : State → State
+piece_read st = record { by_name = st.by_name; looks = st.looks + 1; ends = st.ends; numbered_alias = st.numbered_alias; reach = st.reach }
+
+-- a placeholder with this label was read
+abbrev pub labelled : Label → State → State
+labelled label st = record { by_name = st.by_name; looks = st.looks; ends = st.ends; numbered_alias = ends_in_number label.alias || st.numbered_alias; reach = st.reach }
+
+abbrev pub placeholder_read : Label → State → State
+placeholder_read label st = labelled label (piece_read st)
+
+-- the end of a text was read
+abbrev pub ended : State → State
+ended st = record { by_name = st.by_name; looks = st.looks; ends = st.ends + 1; numbered_alias = st.numbered_alias; reach = st.reach }
+
+-- one level more, that of the placeholder around the text
+abbrev pub deeper : State → State
+deeper st = with_reach st (suc st.reach)
+
+-- the size of an inline definition: its bytes, if a level is left
+abbrev pub inlined : ℕ → List ℕ → Result Size Fault
+inlined zero text = Err TooDeep
+inlined (suc levels) text = Ok (size_of_bytes text)
+
+abbrev pub Reading : Type 0
+Reading = Result Size Fault × State
+
+-- the result of one item, followed by that of the rest; the nesting before a fault counts that of the item
+abbrev pub then_rest : Result Size Fault → State → (State → Reading) → Reading
+then_rest (Err fault) st rest = (Err fault, st)
+then_rest (Ok size) st rest = let more = rest st in (
+  both (Ok size) more.0,
+  with_reach more.1
+      (max size.height more.1.reach),
+)
+
+-- the result of a placeholder from that of its text
+abbrev pub enclosed : Bool → Label → Reading → Reading
+enclosed alias_only label inner = (wrapped alias_only label inner.0, deeper inner.1)
+
+-- the result of one item, where `visit` measures a stored definition and `inline` an inline one
+abbrev pub item_reading : Bool → (List ℕ → List ℕ → State → Reading) → (List ℕ → Result Size Fault) → Item
+    → State → Reading
+item_reading alias_only visit inline (TextItem text) st = (Ok (size_of_bytes text), st)
+item_reading alias_only visit inline (FaultItem fault) st = (Err fault, with_reach st 0)
+item_reading alias_only visit inline (PlaceholderItem label (Inline text)) st =
+    enclosed alias_only label (inline text, with_reach (labelled label st) 0)
+item_reading alias_only visit inline (PlaceholderItem label (Stored text)) st =
+    enclosed alias_only label (visit label.name text (labelled label st))
+
+-- the result of the items of a text, one after another
+abbrev pub items_reading : Bool → (List ℕ → List ℕ → State → Reading) → (List ℕ → Result Size Fault) → List Item
+    → State → Reading
+items_reading alias_only visit inline [] st = (Ok no_size, ended st)
+items_reading alias_only visit inline (item ∷ items) st =
+    let first = item_reading alias_only visit inline item (piece_read st) in
+    then_rest first.0 first.1 (items_reading alias_only visit inline items)
+
+-- a definition was measured with `levels` levels left, its own among them, and is remembered
+abbrev pub finish : List ℕ → ℕ → Reading → Reading
+finish name levels (Ok size, st) = (Ok size, with_progress st name (HasSize size))
+finish name levels (Err fault, st) = (Err fault, with_progress st name (failed_progress fault levels st.reach))
+
+-- the result that is remembered, or else that of measuring
+abbrev pub by_result : Option (Result Size Fault) → State → Reading → Reading
+by_result None st fresh = fresh
+by_result (Some r) st fresh = (r, st)
+
+-- the same, from the progress of the name
+abbrev pub by_progress : Option (Progress Size) → ℕ → State → Reading → Reading
+by_progress None levels st fresh = fresh
+by_progress (Some progress) levels st fresh = by_result (known_result progress levels)
+    (with_reach st (reach_within progress levels)) fresh
+
+-- the result of a stored definition with `levels` levels left, its own among them
+abbrev pub visit : Bool → (List ℕ → List Item) → ℕ → List ℕ → List ℕ → State → Reading
+visit alias_only resolve zero name text st = (Err TooDeep, with_reach st 0)
+visit alias_only resolve (suc levels) name text st =
+    by_progress (st.by_name name) (suc levels) st
+    (finish name (suc levels) (items_reading alias_only (visit alias_only resolve levels) (inlined levels)
+    (resolve text) (with_progress st name InProgress)))
+
+-- the result of items, if `levels` more levels are allowed
+abbrev pub items_within : Bool → (List ℕ → List Item) → ℕ → List Item → State → Reading
+items_within alias_only resolve levels items st = items_reading alias_only (visit alias_only resolve levels)
+    (inlined levels) items st
+
+-- the result of one item, if `levels` more levels are allowed
+abbrev pub item_within : Bool → (List ℕ → List Item) → ℕ → Item → State → Reading
+item_within alias_only resolve levels item st = item_reading alias_only (visit alias_only resolve levels)
+    (inlined levels) item st
+
+-- the result of a placeholder with a stored definition, if `levels` more levels are allowed
+abbrev pub stored_within : Bool → (List ℕ → List Item) → ℕ → Label → List ℕ → State → Reading
+stored_within alias_only resolve levels label text st =
+    enclosed alias_only label (visit alias_only resolve levels label.name text st)
+
+abbrev pub nothing_measured : State
+nothing_measured = record { by_name = λ name. None; looks = 0; ends = 0; numbered_alias = false; reach = 0 }
+
+-- the result for a pattern
+unfoldable pub measure_within : ℕ → Bool → (List ℕ → List Item) → List ℕ → Reading
+measure_within levels alias_only resolve pattern = items_within alias_only resolve levels
+    (resolve pattern) nothing_measured

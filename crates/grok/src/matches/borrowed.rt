@@ -1,0 +1,85 @@
+//! Matches that are borrowed from a matcher until its next line.
+ghost use Rattle.std.specs.Prelude.{◌≡◌, option_map};
+ghost use Rattle.std.specs.List.Sorted.{IsStrictlySortedBy};
+ghost use Rattle.std.specs.Map.{keys_of};
+ghost use Rattle.std.specs.Cmp.Lexicographic.{slice_cmp};
+ghost use Rattle.std.specs.Ordering.{nat_cmp};
+ghost use Rattle.grok.specs.Captures.{text_of};
+ghost use Rattle.grok.specs.Debugs.{debug_pairs};
+ghost use Rattle.grok.specs.Answers.{answer_of, walk};
+
+use crate::key_table::KeyTable;
+use crate::matches::groups::{GroupTexts, Located};
+use crate::matches::{MatchesIter, write_pairs};
+use std::fmt;
+
+/// A match of a pattern in a line, borrowed from the matcher that found it. It returns the same as
+/// a [`MatchesOf`](crate::MatchesOf), and owns nothing.
+#[derive(Clone, Copy)]
+pub struct MatchesRef<'m> {
+    keys: &'m KeyTable,
+    located: Located<'m>,
+}
+
+impl<'m> MatchesRef<'m> {
+    ghost use Rattle.grok.specs.Groups.{texts_in_line};
+    ghost use Rattle.grok.specs.BorrowedMatches.{borrowed_keys, borrowed_captures};
+
+    /// Makes a match with these keys and the byte ranges of these groups.
+    pub(crate) fn new(keys: &'m KeyTable, located: Located<'m>) -> MatchesRef<'m>
+        ensures keys { borrowed_keys result ≡ keys.now }
+        ensures captures { borrowed_captures result ≡ texts_in_line located.entry }
+    {
+        MatchesRef { keys, located }
+    }
+
+    /// Returns the text of the key's group. There is none if no such key exists or that group took
+    /// no part.
+    pub fn get(&self, name: &str) -> Option<&'m str>
+        ensures { option_map text_of result ≡ answer_of (borrowed_keys self.now)
+            (borrowed_captures self.now) name.now }
+    {
+        let keys = self.keys;
+        let group = keys.get(name)?;
+        self.located.get(group)
+    }
+
+    /// Returns the keys whose group took part, each with its text, in the byte order of the keys.
+    pub fn iter(&self) -> MatchesIter<'m>
+        ensures pairs { result ≡ walk (borrowed_keys self.now) (borrowed_captures self.now) }
+        ensures sorted { IsStrictlySortedBy (slice_cmp nat_cmp) (keys_of result) }
+    {
+        MatchesIter::new(self.keys, GroupTexts::Located(self.located))
+    }
+}
+
+impl<'r, 'm> IntoIterator for &'r MatchesRef<'m> {
+    ghost use Rattle.grok.specs.BorrowedMatches.{borrowed_keys, borrowed_captures};
+
+    type Item = (&'m str, &'m str);
+
+    type IntoIter = MatchesIter<'m>;
+
+    ghost into_iter_gives = { λ matches pairs. (pairs ≡ walk (borrowed_keys matches.now)
+        (borrowed_captures matches.now))
+        × IsStrictlySortedBy (slice_cmp nat_cmp) (keys_of pairs) };
+
+    fn into_iter(self) -> MatchesIter<'m> {
+        self.iter()
+    }
+}
+
+/// Shows the pairs, in the order of `iter`.
+impl fmt::Debug for MatchesRef<'_> {
+    ghost use Rattle.grok.specs.BorrowedMatches.{borrowed_keys, borrowed_captures};
+
+    ghost debug_output = { λ matches. debug_pairs (walk (borrowed_keys matches)
+        (borrowed_captures matches)) };
+
+    fn fmt<W: fmt::Write>(&self, f: &mut fmt::Formatter<W>) -> fmt::Result {
+        if f.alternate() {
+            return f.debug_map().entries(self.iter()).finish();
+        }
+        write_pairs(f, self.iter())
+    }
+}

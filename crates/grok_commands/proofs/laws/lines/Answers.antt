@@ -1,5 +1,0 @@
-use Rattle.grok_commands.proofs.LineLaws.{no_line_holds_a_line_feed}
-use Rattle.grok_commands.proofs.laws.lines.Goals as goal
-
-pub returns-clause-free : goal.returns-clause-free
-returns-clause-free c = no_line_holds_a_line_feed

@@ -1,0 +1,7 @@
+pub mod Appending
+pub mod Cuts
+pub mod LineFeeds
+pub mod LineLemmas
+pub mod LineLaws
+pub mod Held
+pub mod Steps

@@ -1,0 +1,96 @@
+use Rattle.std.proofs.Common.{◌≡◌, ◌≤◌, ◌+◌, take, drop, length, IfSome, MatchResult, List, ℕ, [], ◌-◌, Bor, Result, Ok, Err, refl, sym, ◌∙◌, arith}
+use Rattle.std.specs.Io.KnownBytes.{Appends, append_known}
+use Rattle.std.specs.Result.{result_ok}
+use Rattle.simdutf8.specs.declared.basic.Utf8Error.{Utf8Error}
+use Rattle.std.specs.Str.{IsUtf8, IsCharBoundary}
+use Rattle.std.proofs.lemmas.Str.{IsCharBoundary-start, IsCharBoundary-before_ascii, IsCharBoundary-after_ascii}
+use Rattle.grok_lines.proofs.LineFeeds.{next_line, no_line}
+use Rattle.grok_lines.proofs.Appending.{appends_still}
+use Rattle.grok_lines.proofs.Held.{held_more}
+use Rattle.grok_lines.proofs.Steps.{fed_start, fed_step, fed_end}
+use Rattle.grok_lines.proofs.stream.answer_ended.Goals.{in-Some-utf8+in_ok-answer_str-in-Some-utf8, in-None-utf8+in_ok-answer_line-in-None-utf8}
+use Rattle.grok_lines.proofs.stream.answer_ended.Goals as goal
+
+text_of_lines : (lines : List ℕ) (read : Result (Bor (List ℕ)) Utf8Error) → MatchResult read (λ text. (text.now ≡ lines) × IsUtf8 lines) (λ _. ¬ (IsUtf8 lines))
+    → IfSome (result_ok read) (λ text. (text.now ≡ lines) × IsUtf8 lines × IsCharBoundary lines 0)
+text_of_lines lines (Ok text) h = (h.0, h.1, IsCharBoundary-start lines h.1)
+text_of_lines lines (Err error) h = tt
+
+pub lines-init : goal.lines-init
+lines-init g c = record {
+  fed = fed_start (g.A.LineAnswers.answer c.args.answers.now) (append_known (g.W.Write.contents c.args.output.now) c.args.held.now.items) c.args.lines.now;
+  same = refl;
+  feeds = c.into_iter-end-iterator.ensures.into_iter_gives ∙ c.memchr_iter-end-items.ensures.value;
+  start = omega arith;
+  utf8 = rw c.ok-utf8.ensures.value (text_of_lines c.args.lines.now c.from_utf8.result c.from_utf8.ensures);
+}
+
+pub range-requires-clause-start_le_end : goal.range-requires-clause-start_le_end
+range-requires-clause-start_le_end g c =
+    (next_line c.args.lines.now c.lines.start c.in-Some.end c.next.new.self c.lines.invariant.start (sym c.lines.invariant.feeds ∙ c.in-Some.ensures.steps)).low
+
+pub range-requires-clause-end_boundary : goal.range-requires-clause-end_boundary
+range-requires-clause-end_boundary g c =
+    let ends = next_line c.args.lines.now c.lines.start c.in-Some.end c.next.new.self c.lines.invariant.start (sym c.lines.invariant.feeds ∙ c.in-Some.ensures.steps) in
+    let text = rw c.in-Some-utf8.is at c.lines.invariant.utf8 in
+    rw text.0 (IsCharBoundary-before_ascii c.args.lines.now c.in-Some.end ends.high (omega (arith, ends.feed)))
+
+pub slice_bounds-answer_line-count : goal.slice_bounds-answer_line-count
+slice_bounds-answer_line-count g c =
+    (next_line c.args.lines.now c.lines.start c.in-Some.end c.next.new.self c.lines.invariant.start (sym c.lines.invariant.feeds ∙ c.in-Some.ensures.steps)).low
+
+pub slice_bounds-answer_line-start : goal.slice_bounds-answer_line-start
+slice_bounds-answer_line-start g c =
+    let ends = next_line c.args.lines.now c.lines.start c.in-Some.end c.next.new.self c.lines.invariant.start (sym c.lines.invariant.feeds ∙ c.in-Some.ensures.steps) in
+    let low = ends.low in
+    let high = ends.high in
+    omega arith
+
+pub slice_bounds-answer_line-end : goal.slice_bounds-answer_line-end
+slice_bounds-answer_line-end g c =
+    let ends = next_line c.args.lines.now c.lines.start c.in-Some.end c.next.new.self c.lines.invariant.start (sym c.lines.invariant.feeds ∙ c.in-Some.ensures.steps) in
+    let low = ends.low in
+    let high = ends.high in
+    omega arith
+
+pub lines-preserved : goal.lines-preserved
+lines-preserved g c =
+    let f = g.A.LineAnswers.answer c.args.answers.now in
+    let old = append_known (g.W.Write.contents c.args.output.now) c.args.held.now.items in
+    let now = append_known (g.W.Write.contents c.lines.output) c.lines.held.items in
+    let new = append_known (g.W.Write.contents c.send_long.new.output) c.send_long.new.held.items in
+    let lines = c.args.lines.now in
+    let ends = next_line lines c.lines.start c.in-Some.end c.next.new.self c.lines.invariant.start (sym c.lines.invariant.feeds ∙ c.in-Some.ensures.steps) in
+    let line = take (c.in-Some.end - c.lines.start) (drop c.lines.start lines) in
+    let step = λ (sent : Appends now new (f line)). fed_step f old now new lines [] (drop c.lines.start lines) line (drop (c.in-Some.end + 1) lines) c.lines.invariant.fed tt ends.line ends.cut sent in
+    let after : c.in-Some.end + 1 ≤ length lines = omega (arith, ends.high) in
+    elim c.match-utf8.branch [
+      | in-Some-utf8+in_ok-answer_str-in-Some-utf8 w ↦
+          let text = rw w.in-Some-utf8.is at c.lines.invariant.utf8 in
+          let more = rw (c.lines.invariant.same, w.range.ensures.value, text.0) at w.in_ok-answer_str-in-Some-utf8.ensures.ok in
+          let held = rw (← w.held-is) at (held_more (g.W.Write.contents c.lines.output) c.lines.held.items w.answer_str.new.text.items (f line) more) in
+          let sent : Appends now new (f line) = appends_still now _ new (f line) held c.in_ok-send_long.ensures.ok in
+          record {
+            fed = step sent;
+            same = rw w.answers-is (w.in_ok-answer_str-in-Some-utf8.ensures.same ∙ c.lines.invariant.same);
+            feeds = ends.later;
+            start = after;
+            utf8 = rw w.in-Some-utf8.is (text.0, text.1, IsCharBoundary-after_ascii lines c.in-Some.end text.1 ends.high (omega (arith, ends.feed)));
+          }
+      | in-None-utf8+in_ok-answer_line-in-None-utf8 w ↦
+          let more = rw c.lines.invariant.same at w.in_ok-answer_line-in-None-utf8.ensures.ok in
+          let held = rw (← w.held-is) at (held_more (g.W.Write.contents c.lines.output) c.lines.held.items w.answer_line.new.text.items (f line) more) in
+          let sent : Appends now new (f line) = appends_still now _ new (f line) held c.in_ok-send_long.ensures.ok in
+          record {
+            fed = step sent;
+            same = rw w.answers-is (w.in_ok-answer_line-in-None-utf8.ensures.same ∙ c.lines.invariant.same);
+            feeds = ends.later;
+            start = after;
+            utf8 = rw w.in-None-utf8.is tt;
+          }
+    ]
+
+pub returns-clause-ok : goal.returns-clause-ok
+returns-clause-ok g c =
+    let none = no_line c.args.lines.now c.lines.start c.lines.invariant.start (sym c.lines.invariant.feeds ∙ c.in-None.ensures.steps.0) in
+    (fed_end (g.A.LineAnswers.answer c.args.answers.now) _ _ _ (drop c.lines.start c.args.lines.now) c.lines.invariant.fed none).0

@@ -1,0 +1,64 @@
+//! What goes out. Answers are held until they are many, until the input is read and until the run ends.
+ghost use Rattle.std.specs.Prelude.{◌≡◌, ◌⊎◌, [], OnOk, IfErr, IsErrOf};
+ghost use Rattle.std.specs.Io.KnownBytes.{Appends, Keeps, append_known};
+ghost use Rattle.grok_lines.specs.Errors.{IsWriteError, UnlessWriteFailed};
+
+use crate::error::LinesError;
+use std::io::Write;
+
+/// Held answers are sent once they have this many bytes.
+const HELD_SIZE: usize = 64 * 1024;
+
+/// Sends all that is held, and flushes.
+pub fn send<W: Write>(held: &mut Vec<u8>, output: &mut W) -> Result<(), LinesError>
+    ensures bytes { OnOk result (Appends (W.contents output.old) (W.contents output.new)
+        held.old.items) }
+    ensures none_held { OnOk result (held.new.items ≡ []) }
+    ensures kind { IfErr result IsWriteError }
+{
+    output.write_all(held).map_err(LinesError::Write)?;
+    held.clear();
+    output.flush().map_err(LinesError::Write)
+}
+
+/// Sends all that is held, once it is long.
+#[inline(always)]
+pub fn send_long<W: Write>(held: &mut Vec<u8>, output: &mut W) -> Result<(), LinesError>
+    ensures ok { OnOk result (Keeps (append_known (W.contents output.old) held.old.items)
+        (append_known (W.contents output.new) held.new.items)) }
+    ensures kind { IfErr result IsWriteError }
+{
+    if held.len() < HELD_SIZE {
+        return Ok(());
+    }
+    send(held, output)
+}
+
+/// Holds one answer, and sends all that is held once it is long.
+pub fn hold<W: Write>(held: &mut Vec<u8>, output: &mut W, answer: &[u8]) -> Result<(), LinesError>
+    ensures ok { OnOk result (Appends (append_known (W.contents output.old) held.old.items)
+        (append_known (W.contents output.new) held.new.items) answer.now) }
+    ensures memory { IsErrOf result LinesError.Memory
+        → Keeps (append_known (W.contents output.old) held.old.items)
+        (append_known (W.contents output.new) held.new.items) }
+    ensures kind { IfErr result (λ error. (error ≡ LinesError.Memory) ⊎ IsWriteError error) }
+{
+    held.extend_from_slice(answer)?;
+    send_long(held, output)
+}
+
+/// Ends a run that came to this: what it held goes out, after a fault too, unless that is the output's.
+pub fn finish<W: Write>(
+    ran: Result<(), LinesError>,
+    held: &mut Vec<u8>,
+    output: &mut W,
+) -> Result<(), LinesError>
+    ensures bytes { UnlessWriteFailed result (Appends (W.contents output.old)
+        (W.contents output.new) held.old.items) }
+    ensures same { UnlessWriteFailed result (result ≡ ran) }
+{
+    if !matches!(ran, Err(LinesError::Write(_))) {
+        send(held, output)?;
+    }
+    ran
+}

@@ -1,0 +1,245 @@
+//! Reads lines and answers each.
+ghost use Rattle.std.specs.Prelude.{◌≡◌, ◌≤◌, ◌<◌, ◌++◌, ◌∷◌, [], ◌⊎◌, length, take, MatchOption, OnOk, OnErr, IfOk, IfErr, IfSome, IfNone, IsErrOf, vec_len, flat_map};
+ghost use Rattle.std.specs.Io.KnownBytes.{Appends, Consumes, IsAtEnd, Keeps, append_known};
+ghost use Rattle.grok_lines.specs.Lines.{IsLine, ended_lines_of, unended_of, last_line};
+ghost use Rattle.grok_lines.specs.Traffic.{traffic};
+ghost use Rattle.grok_lines.specs.Errors.{IsWriteError, UnlessWriteFailed};
+ghost use Rattle.grok_lines.specs.Streams.{HasBegunLines, HasAnsweredInput, HasAnsweredEnded, HasAnsweredSome};
+
+use crate::error::LinesError;
+use crate::output::{finish, send, send_long};
+use memchr::{memchr, memchr_iter, memrchr};
+use simdutf8::basic::from_utf8;
+use std::alloc::{AllocError, Global};
+use std::io::{ErrorKind, Read, Write};
+
+/// How many bytes are read at once.
+const READ_SIZE: usize = 64 * 1024;
+
+/// What answers lines.
+pub trait LineAnswers {
+    ghost use Rattle.std.specs.Prelude.{ℕ, List};
+
+    // The answer to a line.
+    ghost answer: { Self → List ℕ → List ℕ };
+
+    /// Appends the answer to a line, or nothing where there is no memory.
+    fn answer_line(&mut self, text: &mut Vec<u8>, line: &[u8]) -> Result<(), AllocError>
+        ensures ok { OnOk result (text.new.items ≡ text.old.items ++ answer self.old line.now) }
+        ensures memory { OnErr result (text.new.items ≡ text.old.items) }
+        ensures same { answer self.new ≡ answer self.old };
+
+    /// The same for a line that is UTF-8.
+    fn answer_str(&mut self, text: &mut Vec<u8>, line: &str) -> Result<(), AllocError>
+        ensures ok { OnOk result (text.new.items ≡ text.old.items ++ answer self.old line.now) }
+        ensures memory { OnErr result (text.new.items ≡ text.old.items) }
+        ensures same { answer self.new ≡ answer self.old };
+}
+
+/// The first line that a line feed ends, and what stands after that line feed.
+#[tactic(auto, using(crate::proofs::Cuts::line_none, crate::proofs::Cuts::line_cut))]
+fn first_line(bytes: &[u8]) -> Option<(&[u8], &[u8])>
+    ensures { MatchOption result (IsLine bytes.now)
+        (λ parts. IsLine parts.0.now × (bytes.now ≡ parts.0.now ++ 10 ∷ parts.1.now)) }
+{
+    match memchr(b'\n', bytes) {
+        None => None,
+        Some(at) => Some((&bytes[..at], &bytes[at + 1..])),
+    }
+}
+
+/// Answers each of these lines, which line feeds end.
+fn answer_ended<A: LineAnswers, W: Write>(
+    answers: &mut A,
+    held: &mut Vec<u8>,
+    output: &mut W,
+    lines: &[u8],
+) -> Result<(), LinesError>
+    ensures ok { OnOk result (Appends (append_known (W.contents output.old) held.old.items)
+        (append_known (W.contents output.new) held.new.items)
+        (flat_map (A.answer answers.old) (ended_lines_of lines.now))) }
+    ensures memory { IsErrOf result LinesError.Memory → HasBegunLines (A.answer answers.old)
+        (ended_lines_of lines.now) (append_known (W.contents output.old) held.old.items)
+        (append_known (W.contents output.new) held.new.items) }
+    ensures same { A.answer answers.new ≡ A.answer answers.old }
+    ensures kind { IfErr result (λ error. (error ≡ LinesError.Memory) ⊎ IsWriteError error) }
+{
+    // Where all the lines together are UTF-8, so is each of them.
+    let utf8 = from_utf8(lines).ok();
+    let mut start = 0;
+    'lines: for end in memchr_iter(b'\n', lines) {
+        match utf8 {
+            Some(utf8) => answers.answer_str(held, &utf8[start..end])?,
+            None => answers.answer_line(held, &lines[start..end])?,
+        }
+        send_long(held, output)?;
+        start = end + 1;
+    }
+    Ok(())
+}
+
+/// The lines that line feeds end, and what stands after them.
+fn split_ended(bytes: &[u8]) -> (&[u8], &[u8])
+    ensures ended { ended_lines_of result.0.now ≡ ended_lines_of bytes.now }
+    ensures rest { result.1.now ≡ unended_of bytes.now }
+{
+    match memrchr(b'\n', bytes) {
+        None => bytes.split_at(0),
+        Some(at) => bytes.split_at(at + 1),
+    }
+}
+
+/// Answers the lines that end in this block, of which the first begins with `partial_line`, and keeps what stands after
+/// them.
+fn feed<A: LineAnswers, W: Write>(
+    answers: &mut A,
+    held: &mut Vec<u8>,
+    output: &mut W,
+    partial_line: &mut Vec<u8>,
+    block: &[u8],
+) -> Result<(), LinesError>
+    requires { IsLine partial_line.old.items }
+    ensures ok { OnOk result (Appends (append_known (W.contents output.old) held.old.items)
+        (append_known (W.contents output.new) held.new.items)
+        (flat_map (A.answer answers.old) (ended_lines_of (partial_line.old.items ++ block.now)))) }
+    ensures partial_line { OnOk result (partial_line.new.items
+        ≡ unended_of (partial_line.old.items ++ block.now)) }
+    ensures is_line { OnOk result (IsLine partial_line.new.items) }
+    ensures memory { IsErrOf result LinesError.Memory → HasBegunLines (A.answer answers.old)
+        (ended_lines_of (partial_line.old.items ++ block.now))
+        (append_known (W.contents output.old) held.old.items)
+        (append_known (W.contents output.new) held.new.items) }
+    ensures same { A.answer answers.new ≡ A.answer answers.old }
+    ensures kind { IfErr result (λ error. (error ≡ LinesError.Memory) ⊎ IsWriteError error) }
+{
+    let Some((line, after)) = first_line(block) else {
+        partial_line.extend_from_slice(block)?;
+        return Ok(());
+    };
+    partial_line.extend_from_slice(line)?;
+    answers.answer_line(held, partial_line)?;
+    partial_line.clear();
+    let (ended, rest) = split_ended(after);
+    answer_ended(answers, held, output, ended)?;
+    partial_line.extend_from_slice(rest)?;
+    Ok(())
+}
+
+/// Answers the line that no line feed ended, if there is one.
+fn answer_last<A: LineAnswers>(
+    answers: &mut A,
+    held: &mut Vec<u8>,
+    partial_line: &[u8],
+) -> Result<(), AllocError>
+    ensures ok { OnOk result (held.new.items ≡ held.old.items
+        ++ flat_map (A.answer answers.old) (last_line partial_line.now)) }
+    ensures memory { OnErr result (held.new.items ≡ held.old.items) }
+{
+    if partial_line.is_empty() {
+        return Ok(());
+    }
+    answers.answer_line(held, partial_line)
+}
+
+/// Sends all that is held, and then reads once. Where the output fails nothing is read, and where the read was interrupted
+/// there is no answer.
+fn send_and_read<R: Read, W: Write>(
+    held: &mut Vec<u8>,
+    output: &mut W,
+    input: &mut R,
+    block: &mut [u8],
+) -> Result<Option<usize>, LinesError>
+    ensures sent { UnlessWriteFailed result (Appends (W.contents output.old)
+        (W.contents output.new) held.old.items) }
+    ensures none_held { UnlessWriteFailed result (held.new.items ≡ []) }
+    ensures unread { IfErr result
+        (λ error. IsWriteError error → R.remaining input.new ≡ R.remaining input.old) }
+    ensures bound { IfOk result (λ read. IfSome read (λ n. n ≤ length block.new)) }
+    ensures bytes { IfOk result (λ read. IfSome read (λ n.
+        Consumes (R.remaining input.old) (R.remaining input.new) (take n block.new))) }
+    ensures end { IfOk result (λ read. IfSome read (λ n.
+        n ≡ 0 → 0 < length block.new → IsAtEnd (R.remaining input.new))) }
+    ensures interrupted { IfOk result (λ read. IfNone read
+        (Keeps (R.remaining input.old) (R.remaining input.new))) }
+    ensures read { IsErrOf result LinesError.Read
+        → Keeps (R.remaining input.old) (R.remaining input.new) }
+    ensures length { length block.new ≡ length block.old }
+    ensures kind { IfErr result (λ error. (error ≡ LinesError.Read) ⊎ IsWriteError error) }
+{
+    send(held, output)?;
+    match input.read(block) {
+        Ok(n) => Ok(Some(n)),
+        Err(error) if error.kind() == ErrorKind::Interrupted => Ok(None),
+        Err(_) => Err(LinesError::Read),
+    }
+}
+
+/// So many zeros. It is a function of its own so that no proof meets a list of 65,536 items.
+fn zeros(alloc: Global, count: usize) -> Result<Vec<u8>, AllocError>
+    ensures { IfOk result (λ zeros. vec_len zeros ≡ count) }
+{
+    vec![in alloc; 0u8; count]
+}
+
+/// Answers each line of the input, to its end. What has not gone out is held.
+fn answer_blocks<A: LineAnswers, R: Read, W: Write>(
+    alloc: Global,
+    answers: &mut A,
+    input: &mut R,
+    held: &mut Vec<u8>,
+    output: &mut W,
+) -> Result<(), LinesError>
+    ensures ok { OnOk result (HasAnsweredInput (A.answer answers.old)
+        (traffic (R.remaining input.old) (R.remaining input.new)
+        (append_known (W.contents output.old) held.old.items)
+        (append_known (W.contents output.new) held.new.items))) }
+    ensures read { IsErrOf result LinesError.Read → HasAnsweredEnded (A.answer answers.old)
+        (traffic (R.remaining input.old) (R.remaining input.new)
+        (append_known (W.contents output.old) held.old.items)
+        (append_known (W.contents output.new) held.new.items)) }
+    ensures memory { IsErrOf result LinesError.Memory → HasAnsweredSome (A.answer answers.old)
+        (traffic (R.remaining input.old) (R.remaining input.new)
+        (append_known (W.contents output.old) held.old.items)
+        (append_known (W.contents output.new) held.new.items)) }
+    ensures kind { IfErr result
+        (λ error. (error ≡ LinesError.Memory) ⊎ ((error ≡ LinesError.Read)
+        ⊎ IsWriteError error)) }
+{
+    let mut room = zeros(alloc, READ_SIZE)?;
+    let block = room.as_mut_slice();
+    let mut partial_line = Vec::new(alloc);
+    // No run makes this many reads. The bound is there for the proof that the loop ends.
+    'reads: for _ in 0..u64::MAX {
+        match send_and_read(held, output, input, block)? {
+            None => {}
+            Some(0) => return Ok(answer_last(answers, held, &partial_line)?),
+            Some(n) => feed(answers, held, output, &mut partial_line, &block[..n])?,
+        }
+    }
+    Err(LinesError::Read)
+}
+
+/// Answers each line of the input, to its end. The answers to what was read go out before more is read.
+pub fn answer_lines<A: LineAnswers, R: Read, W: Write>(
+    alloc: Global,
+    answers: &mut A,
+    input: &mut R,
+    output: &mut W,
+) -> Result<(), LinesError>
+    ensures ok { OnOk result (HasAnsweredInput (A.answer answers.old)
+        (traffic (R.remaining input.old) (R.remaining input.new)
+        (W.contents output.old) (W.contents output.new))) }
+    ensures read { IsErrOf result LinesError.Read → HasAnsweredEnded (A.answer answers.old)
+        (traffic (R.remaining input.old) (R.remaining input.new)
+        (W.contents output.old) (W.contents output.new)) }
+    ensures memory { IsErrOf result LinesError.Memory → HasAnsweredSome (A.answer answers.old)
+        (traffic (R.remaining input.old) (R.remaining input.new)
+        (W.contents output.old) (W.contents output.new)) }
+    ensures kind { IfErr result
+        (λ error. (error ≡ LinesError.Memory) ⊎ ((error ≡ LinesError.Read)
+        ⊎ IsWriteError error)) }
+{
+    let mut held = Vec::new(alloc);
+    let ran = answer_blocks(alloc, answers, input, &mut held, output);
+    finish(ran, &mut held, output)
+}
