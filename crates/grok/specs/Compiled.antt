@@ -88,8 +88,8 @@ pub data IsCompileError (may_refuse : List ℕ → Type 0) (e : Expansion) : Err
       → IsCompileError may_refuse e error
   NoMemory : e.pattern ≢ [] → IsCompileError may_refuse e Memory
 
--- THE PATTERN: built from the text of a tree without a fault, with the keys of its recorded opens and their
--- extracts
+-- THE PATTERN: built from the text of a tree without a fault, with the keys of its capturing placeholders and
+-- their extracts
 pub record IsPatternOf {E : Type 0} (source_of : E → List ℕ) (group_names : E → List (Option (List ℕ)))
     (e : Expansion) (pattern : PatternValue E) : Type 0 where
   pub some : e.pattern ≢ []

@@ -13,16 +13,16 @@ event_view event.Close = tree.Close
 event_view (event.Fault fault) = tree.FaultEvent (fault_view fault)
 
 -- the events inside a placeholder that was read last and is not entered yet, or none if there is no such one
-abbrev pub behind : (List ℕ → List Item) → ℕ → Option Meaning → List tree.Event
-behind items levels_left None = []
-behind items levels_left (Some meaning) = inside items levels_left (meaning_text meaning)
+abbrev pub entered_events : (List ℕ → List Item) → ℕ → Option Meaning → List tree.Event
+entered_events items levels_left None = []
+entered_events items levels_left (Some meaning) = inside items levels_left (meaning_text meaning)
 
 -- The events that are left, with `levels_left` levels left in the outermost text: those of a placeholder that is
 -- about to be entered, then those of the innermost text, and then those of the texts around it from the inside
 -- out.
 abbrev pub events_left : (List ℕ → List Item) → ℕ → List (List Item) → Option Meaning → List Item
     → List tree.Event
-events_left items levels_left [] opening left = behind items levels_left opening
+events_left items levels_left [] opening left = entered_events items levels_left opening
     ++ events (inside items levels_left) left
 events_left items levels_left (outer ∷ around) opening left = events_left items
     (levels_left - 1) around opening left ++ Close ∷ events (inside items levels_left) outer

@@ -6,18 +6,18 @@ use Rattle.grok.specs.Keys.{is_capturing, capturing, key_after, keys, TreeFault,
 
 -- This event, which comes after these others, is a fault: it is a structural fault, or a capturing
 -- placeholder whose key is that of an earlier one.
-pub data IsFaultBehind (alias_only : Bool) (before : List Event) : Event → TreeFault → Type 0 where
-  Breaks : (fault : Fault) → IsFaultBehind alias_only before (FaultEvent fault) (Structural fault)
+pub data IsFaultAfter (alias_only : Bool) (before : List Event) : Event → TreeFault → Type 0 where
+  Breaks : (fault : Fault) → IsFaultAfter alias_only before (FaultEvent fault) (Structural fault)
   Meets : (label : Label) (meaning : Meaning) → is_capturing alias_only label ≡ true
       → is_among (key_after (capturing alias_only before) label) (keys (capturing alias_only before)) ≡ true
-      → IsFaultBehind alias_only before (Open label meaning)
+      → IsFaultAfter alias_only before (Open label meaning)
       (Clash (key_after (capturing alias_only before) label))
 
 -- wherever the events are cut, the next event is no fault
 abbrev pub HasNoFault : Bool → List Event → Type 0
 HasNoFault alias_only events =
     (before : List Event) (event : Event) (after : List Event) (tree_fault : TreeFault)
-    → events ≡ before ++ event ∷ after → IsFaultBehind alias_only before event tree_fault → ⊥
+    → events ≡ before ++ event ∷ after → IsFaultAfter alias_only before event tree_fault → ⊥
 
 -- the events can be cut before this fault, and none of those before the cut is a fault
 pub record HasFirstFault (alias_only : Bool) (events : List Event) (tree_fault : TreeFault) : Type 0 where
@@ -26,7 +26,7 @@ pub record HasFirstFault (alias_only : Bool) (events : List Event) (tree_fault :
   pub after : List Event
   pub cut : events ≡ before ++ event ∷ after
   pub none : HasNoFault alias_only before
-  pub is : IsFaultBehind alias_only before event tree_fault
+  pub is : IsFaultAfter alias_only before event tree_fault
 
 -- what `first_fault` is
 pub record FindsFirstFault (alias_only : Bool) (tree : List Event) : Type 0 where

@@ -39,11 +39,14 @@ pub mod Walks
 pub mod FirstFaultSteps
 pub mod Writes
 pub mod Compiled
+pub mod Expansions
+pub mod Refusals
 pub mod Named
 pub mod Sizes
 pub mod MeasuredOnce
 pub mod Measured
 pub mod MeasureCache
+pub mod CountedMeasures
 pub mod FaultPlaces
 pub mod FirstWrong
 pub mod TreeLaws
@@ -62,12 +65,16 @@ pub use Rattle.grok.specs.Expanded.{expanded}
 -- sizes
 pub use Rattle.grok.specs.Measured.{measured_tree, reached_pieces, reached_texts, counted}
 pub use Rattle.grok.specs.MeasureCache.{measure_view}
+pub use Rattle.grok.specs.CountedMeasures.{IsCountedMeasure}
 -- where the first structural fault stands
 pub use Rattle.grok.specs.FaultPlaces.{IsFaultAt, path_view}
 -- errors, and what compiling answers
 pub use Rattle.grok.specs.Items.{fault_view}
 pub use Rattle.grok.specs.Errors.{ErrorValue, error_value, error_text}
 pub use Rattle.grok.specs.Compiled.{Expansion, expansion_of, Compiles, IsPatternOf, IsCompileError, IsFaultError}
+-- why `regex` refuses the expanded text
+pub use Rattle.grok.specs.Expansions.{IsExpansionError}
+pub use Rattle.grok.specs.Refusals.{IsRegexText, IsReasonFor, IsRefusalOf, IsExamined, Examines}
 -- engines
 pub use Rattle.grok.specs.Captures.{name_texts, text_of, capture_texts, IsSliceOf, AreSlicesOf}
 pub use Rattle.grok.specs.Engines.{engine_regex}

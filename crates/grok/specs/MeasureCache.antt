@@ -8,14 +8,15 @@ use Rattle.std.specs.BTreeMap.{BTreeMap, get_by}
 use Rattle.std.specs.Borrow.{Bor}
 use Rattle.std.specs.FinMap as finite
 use Rattle.grok.specs.Maps.{Texts}
-use Rattle.grok.specs.declared.measure.PartialSize.{PartialSize}
-use Rattle.grok.specs.declared.measure.MeasureCache.{MeasureCache}
-use Rattle.grok.specs.declared.measure.Failure.{Failure}
-use Rattle.grok.specs.declared.measure.Progress.{Progress}
-use Rattle.grok.specs.declared.measure.Progress.TheVariants as progress
-use Rattle.grok.specs.declared.measure.Frame.{Frame}
-use Rattle.grok.specs.declared.measure.PlaceholderSize.{PlaceholderSize}
-use Rattle.grok.specs.declared.measure.PlaceholderSize.TheVariants as entry
+use Rattle.grok.specs.declared.measure.partial_size.PartialSize.{PartialSize}
+use Rattle.grok.specs.declared.measure.cache.MeasureCache.{MeasureCache}
+use Rattle.grok.specs.declared.measure.partial_size.Failure.{Failure}
+use Rattle.grok.specs.declared.measure.cache.Progress.{Progress}
+use Rattle.grok.specs.declared.measure.cache.Progress.TheVariants as progress
+use Rattle.grok.specs.declared.measure.measurer.Frame.{Frame}
+use Rattle.grok.specs.declared.measure.measurer.Measurer.{Measurer}
+use Rattle.grok.specs.declared.measure.placeholders.PlaceholderSize.{PlaceholderSize}
+use Rattle.grok.specs.declared.measure.placeholders.PlaceholderSize.TheVariants as entry
 use Rattle.grok.specs.declared.defs.items.Label.{Label}
 use Rattle.grok.specs.declared.measure.Measure.{Measure}
 use Rattle.grok.specs.declared.measure.Measure.TheVariants as measure
@@ -184,6 +185,14 @@ pub record ShowsCorrectState (texts : Texts) (alias_only : Bool) (cache : Measur
   pub st : State
   pub shows : ShowsState cache st
   pub is_true : IsCorrect texts alias_only st
+
+-- no text waits until a definition that it uses is measured
+abbrev pub IsIdle : Measurer → Type 0
+IsIdle measurer = measurer.frames.items ≡ []
+
+-- all that the measurer remembers is right
+abbrev pub HasCorrectCache : Measurer → Type 0
+HasCorrectCache measurer = ShowsCorrectState measurer.mode.grok.now measurer.mode.with_alias_only measurer.cache
 
 -- the public result for this size or fault
 abbrev pub measured_size : Result Size tree.Fault → Measured

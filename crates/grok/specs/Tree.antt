@@ -109,7 +109,7 @@ tree_within levels_left items pattern = events (inside items levels_left) (items
 abbrev pub deepest : ℕ
 deepest = 1023
 
--- THE TREE of a pattern, as the list of its events. A nesting of 1,023 levels is allowed.
+-- THE TREE of a pattern, as the list of its events. A nesting of `deepest` levels is allowed.
 unfoldable pub tree : Definitions → List ℕ → List Event
 tree stored pattern = tree_within deepest (items_of stored) pattern
 

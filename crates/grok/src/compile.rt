@@ -11,6 +11,7 @@ ghost use Rattle.grok.specs.Expanded.{expanded};
 ghost use Rattle.grok.specs.Walks.{tree_fault_view};
 ghost use Rattle.grok.specs.Errors.{error_value, Memory as memory};
 ghost use Rattle.grok.specs.Compiled.{IsErrorOf, IsFirstError, error_of_refusal, IsBuilt, IsRefusal, Compiles, expansion_of};
+ghost use Rattle.grok.specs.Expansions.{Expands};
 ghost use Rattle.grok.specs.RegexFinds.{IsReadByDefault, MayRefuse};
 ghost use Rattle.grok.specs.Engines.{engine_regex};
 ghost use Rattle.regex.specs.Strings.{regex_source, regex_names};
@@ -27,7 +28,8 @@ use crate::expand::tallies::{CompileMode, DefinitionTallies};
 use crate::expand::write::{ExpandedPattern, write};
 use crate::key_table::KeyTable;
 use crate::matches::PatternOf;
-use crate::measure::{FullMeasure, Measure};
+use crate::measure::Measure;
+use crate::measure::full_measure::FullMeasure;
 use std::alloc::{AllocError, Global};
 
 impl TreeFault<'_> {
@@ -117,25 +119,55 @@ impl Grok {
         }
     }
 
-    /// Compiles a pattern that has no fault, and whose expanded text has `length` bytes.
-    fn compile_clean<E: Engine>(
+    /// Expands a pattern that has no fault, and whose expanded text has `length` bytes.
+    fn expand_clean(
         &self,
         pattern: &str,
         with_alias_only: bool,
         length: usize,
-    ) -> Result<PatternOf<E>, Error>
+    ) -> Result<ExpandedPattern, Error>
         requires some { pattern.now ≢ [] }
         requires clean { first_fault with_alias_only
             (tree_of (finite.get self.now) pattern.now) ≡ None }
         requires long { length ≡ len (expanded with_alias_only
             (tree_of (finite.get self.now) pattern.now)) }
-        ensures { Compiles E.source_of E.group_names E.may_refuse
-            (expansion_of self.now with_alias_only pattern.now) result }
+        ensures { Expands (expansion_of self.now with_alias_only pattern.now) result }
     {
-        let alloc = self.alloc();
-        let text = String::with_capacity(alloc, length)?;
-        let ExpandedPattern { text, keys } = write(self, pattern, with_alias_only, text)?;
-        build(alloc, text.as_str(), keys)
+        let text = String::with_capacity(self.alloc(), length)?;
+        Ok(write(self, pattern, with_alias_only, text)?)
+    }
+
+    /// Expands a pattern: returns its expanded text and its keys.
+    ///
+    /// # Errors
+    ///
+    /// Those of [`Grok::compile_with`], but for the refusal of the engine.
+    pub(crate) fn expand(
+        &self,
+        pattern: &str,
+        with_alias_only: bool,
+    ) -> Result<ExpandedPattern, Error>
+        ensures { Expands (expansion_of self.now with_alias_only pattern.now) result }
+    {
+        if pattern.is_empty() {
+            return Err(Error::CompiledPatternIsEmpty(String::new(self.alloc())));
+        }
+        let found = self.measure_fully(pattern, with_alias_only)?;
+        match found.measure {
+            Measure::TooLong => Err(Error::Memory),
+            Measure::Fault(fault) => match self.first_error(pattern, with_alias_only, &found)? {
+                Some(error) => Err(error),
+                None => Err(fault.to_error(self.alloc())?),
+            },
+            Measure::Size { length, .. } => {
+                if let Some(error) = self.first_error(pattern, with_alias_only, &found)? {
+                    return Err(error);
+                }
+                // What measuring remembers isn't kept beside the text.
+                drop(found);
+                self.expand_clean(pattern, with_alias_only, length)
+            }
+        }
     }
 
     /// Compiles a pattern for an engine. Each placeholder is replaced by its definition, in a group
@@ -164,25 +196,9 @@ impl Grok {
         ensures { Compiles E.source_of E.group_names E.may_refuse
             (expansion_of self.now with_alias_only pattern.now) result }
     {
-        if pattern.is_empty() {
-            return Err(Error::CompiledPatternIsEmpty(String::new(self.alloc())));
-        }
-        let found = self.measure_fully(pattern, with_alias_only)?;
-        match found.measure {
-            Measure::TooLong => Err(Error::Memory),
-            Measure::Fault(fault) => match self.first_error(pattern, with_alias_only, &found)? {
-                Some(error) => Err(error),
-                None => Err(fault.to_error(self.alloc())?),
-            },
-            Measure::Size { length, .. } => {
-                if let Some(error) = self.first_error(pattern, with_alias_only, &found)? {
-                    return Err(error);
-                }
-                // What measuring remembers isn't kept beside the text.
-                drop(found);
-                self.compile_clean(pattern, with_alias_only, length)
-            }
-        }
+        let alloc = self.alloc();
+        let ExpandedPattern { text, keys } = self.expand(pattern, with_alias_only)?;
+        build(alloc, text.as_str(), keys)
     }
 
     /// Compiles a pattern for `regex`, with its defaults.

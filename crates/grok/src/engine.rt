@@ -2,9 +2,11 @@
 ghost use Rattle.std.specs.Prelude.{◌≡◌, ℕ, List, Option, length, vec_len, option_map, IfOk, IfSome};
 ghost use Rattle.grok.specs.Captures.{name_texts, capture_texts, AreSlicesOf};
 
+mod marks;
 pub(crate) mod matcher;
 mod own_search;
 pub(crate) mod regex_engine;
+pub(crate) mod regex_matcher;
 mod shared_search;
 
 use std::alloc::{AllocError, Global};

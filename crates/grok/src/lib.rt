@@ -47,11 +47,13 @@ mod matches;
 mod measure;
 mod numeral;
 pub mod parser;
+mod why_refused;
 
 pub use defs::names::Names;
 pub use defs::{Grok, patterns};
-pub use engine::matcher::{EngineMatcher, HasMatcher, RegexMatcher};
+pub use engine::matcher::{EngineMatcher, HasMatcher};
 pub use engine::regex_engine::RegexEngine;
+pub use engine::regex_matcher::RegexMatcher;
 pub use engine::{Engine, Refusal};
 pub use errors::{Error, Fault};
 pub use locate::FaultLocation;
@@ -59,6 +61,7 @@ pub use matches::borrowed::MatchesRef;
 pub use matches::matcher::MatcherOf;
 pub use matches::{CaptureNames, MatchesIter, MatchesOf, PatternOf};
 pub use measure::{Looks, Measure};
+pub use why_refused::{RefusalReason, RegexRefusal};
 
 /// A pattern over `regex`.
 pub type Pattern = PatternOf<RegexEngine>;

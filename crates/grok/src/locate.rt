@@ -3,7 +3,7 @@ ghost use Rattle.std.specs.Prelude.{◌≡◌, ◌<◌, ◌^◌, [], ◌∷◌, 
 ghost use Rattle.std.specs.FinMap as finite;
 ghost use Rattle.grok.specs.Tree.{tree, deepest, first_structural};
 ghost use Rattle.grok.specs.Items.{fault_view, item_view};
-ghost use Rattle.grok.specs.MeasureCache.{ShowsCorrectState};
+ghost use Rattle.grok.specs.MeasureCache.{IsIdle, HasCorrectCache};
 ghost use Rattle.grok.specs.FaultPlaces.{IsFaultAt, fault_within, path_view, end_of};
 ghost use Rattle.grok.specs.FirstWrong.{IsResolvedItem, IsWrong, IsFirstWrong};
 ghost use Rattle.grok.specs.Tree.{items_of};
@@ -12,10 +12,11 @@ ghost use Rattle.grok.specs.Views.{piece_view};
 
 use crate::defs::Grok;
 use crate::defs::definition::Definition;
-use crate::defs::items::{Item, Items, Meaning};
+use crate::defs::items::{Item, Meaning};
 use crate::defs::pieces::pieces_of;
 use crate::errors::fault::{Fault, LEVELS};
-use crate::measure::{Frame, MeasureCache, MeasureMode, fault_of_definition};
+use crate::measure::measurer::Measurer;
+use crate::measure::mode::MeasureMode;
 use crate::parser::GrokComponent;
 use std::alloc::AllocError;
 use std::ops::Range;
@@ -53,23 +54,22 @@ struct FirstWrong<'a> {
 
 /// Returns what is wrong with an item if `levels` levels are left in its text.
 fn wrong_item<'a>(
-    mode: MeasureMode<'a>,
-    cache: &mut MeasureCache<'a>,
-    frames: &mut Vec<Frame<'a>>,
+    measurer: &mut Measurer<'a>,
     item: Item<'a>,
     levels: usize,
 ) -> Result<Option<Wrong<'a>>, AllocError>
     requires few { levels < 2 ^ 31 }
-    requires none { frames.old.items ≡ [] }
+    requires idle { IsIdle measurer.old }
     ensures wrong { IfOk result (λ found.
-        ShowsCorrectState mode.entry.grok.now mode.entry.with_alias_only cache.old →
-        IsResolvedItem (finite.get mode.entry.grok.now) (item_view item.entry) → MatchOption found
-        (fault_within (finite.get mode.entry.grok.now) levels (item_view item.entry ∷ []) ≡ None)
-        (λ wrong. IsWrong (finite.get mode.entry.grok.now) levels (item_view item.entry) wrong)) }
+        HasCorrectCache measurer.old →
+        IsResolvedItem (finite.get measurer.old.mode.grok.now) (item_view item.entry) → MatchOption found
+        (fault_within (finite.get measurer.old.mode.grok.now) levels (item_view item.entry ∷ []) ≡ None)
+        (λ wrong. IsWrong (finite.get measurer.old.mode.grok.now) levels (item_view item.entry) wrong)) }
     ensures keeps { IfOk result
-        (λ found. ShowsCorrectState mode.entry.grok.now mode.entry.with_alias_only cache.old →
-        ShowsCorrectState mode.entry.grok.now mode.entry.with_alias_only cache.new) }
-    ensures none { IfOk result (λ found. frames.new.items ≡ []) }
+        (λ found. HasCorrectCache measurer.old →
+        HasCorrectCache measurer.new) }
+    ensures idle { IfOk result (λ found. IsIdle measurer.new) }
+    ensures mode { IfOk result (λ found. measurer.new.mode ≡ measurer.old.mode) }
 {
     match item {
         Item::Text(_) => Ok(None),
@@ -82,7 +82,7 @@ fn wrong_item<'a>(
                 // An inline definition has no placeholders.
                 Meaning::Inline(_) => Ok(None),
                 Meaning::Stored(stored) => {
-                    match fault_of_definition(mode, cache, frames, label.name, stored, levels)? {
+                    match measurer.fault_of_definition(label.name, stored, levels)? {
                         None => Ok(None),
                         Some(_) => Ok(Some(Wrong::Inside(label.name, stored))),
                     }
@@ -106,30 +106,29 @@ fn end_of(piece: Option<GrokComponent<'_>>, text: &str) -> usize
 
 /// Reads a text up to its first piece with a fault if `levels` levels are left in it.
 fn first_wrong<'a>(
-    mode: MeasureMode<'a>,
-    cache: &mut MeasureCache<'a>,
-    frames: &mut Vec<Frame<'a>>,
+    measurer: &mut Measurer<'a>,
     text: &'a str,
     levels: usize,
 ) -> Result<Option<FirstWrong<'a>>, AllocError>
     requires few { levels < 2 ^ 31 }
-    requires none { frames.old.items ≡ [] }
+    requires idle { IsIdle measurer.old }
     ensures wrong { IfOk result (λ found.
-        ShowsCorrectState mode.entry.grok.now mode.entry.with_alias_only cache.old → MatchOption found
-        (fault_within (finite.get mode.entry.grok.now) levels
-        (items_of (finite.get mode.entry.grok.now) text.now) ≡ None)
-        (λ first. IsFirstWrong (finite.get mode.entry.grok.now) levels text.now first)) }
+        HasCorrectCache measurer.old → MatchOption found
+        (fault_within (finite.get measurer.old.mode.grok.now) levels
+        (items_of (finite.get measurer.old.mode.grok.now) text.now) ≡ None)
+        (λ first. IsFirstWrong (finite.get measurer.old.mode.grok.now) levels text.now first)) }
     ensures keeps { IfOk result
-        (λ found. ShowsCorrectState mode.entry.grok.now mode.entry.with_alias_only cache.old →
-        ShowsCorrectState mode.entry.grok.now mode.entry.with_alias_only cache.new) }
-    ensures none { IfOk result (λ found. frames.new.items ≡ []) }
+        (λ found. HasCorrectCache measurer.old →
+        HasCorrectCache measurer.new) }
+    ensures idle { IfOk result (λ found. IsIdle measurer.new) }
+    ensures mode { IfOk result (λ found. measurer.new.mode ≡ measurer.old.mode) }
 {
-    let mut items = Items::of_text(mode.alloc, mode.grok, text);
+    let mut items = measurer.items_of(text);
     let mut pieces = pieces_of(text);
     let mut begin = 0;
     'items: while let Some(item) = items.next()? {
         let end = end_of(pieces.next(), text);
-        if let Some(wrong) = wrong_item(mode, cache, frames, item, levels)? {
+        if let Some(wrong) = wrong_item(measurer, item, levels)? {
             return Ok(Some(FirstWrong {
                 wrong,
                 range: begin..end,
@@ -158,17 +157,15 @@ impl Grok {
             location.text.now location.range.start location.range.end (fault_view location.fault))) }
     {
         let alloc = self.alloc();
-        let mode = MeasureMode {
+        let mut measurer = Measurer::new(MeasureMode {
             grok: self,
             alloc,
             with_alias_only: false,
-        };
-        let mut cache = MeasureCache::new(alloc);
-        let mut frames = Vec::new(alloc);
+        });
         let mut path = Vec::new(alloc);
         let mut text = pattern;
         let mut levels = LEVELS;
-        'texts: while let Some(first) = first_wrong(mode, &mut cache, &mut frames, text, levels)? {
+        'texts: while let Some(first) = first_wrong(&mut measurer, text, levels)? {
             match first.wrong {
                 Wrong::Here(fault) => {
                     return Ok(Some(FaultLocation {

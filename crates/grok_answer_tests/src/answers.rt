@@ -57,7 +57,7 @@ fn by_map<'a>(alloc: Global, found: &'a Matches<'a>) -> Result<String, AllocErro
     Ok(all)
 }
 
-/// The pairs of a match that is lent.
+/// The pairs of a match that is borrowed.
 fn by_lent(alloc: Global, found: MatchesRef<'_>) -> Result<String, AllocError> {
     let mut all = String::new(alloc);
     for (key, value) in &found {

@@ -49,7 +49,7 @@ pub struct Expansion<'a> {
     nesting: usize,
     /// How many capturing placeholders have each base key.
     uses: BTreeMap<&'a str, usize>,
-    /// The keys of the recorded placeholders, in order.
+    /// The keys of the capturing placeholders, in order.
     keys: Vec<String>,
     given: BTreeSet<String>,
     /// The first key that was to be given twice.
@@ -132,7 +132,7 @@ impl<'a> Expansion<'a> {
         self.text.as_str()
     }
 
-    /// The keys of the recorded placeholders, in order.
+    /// The keys of the capturing placeholders, in order.
     pub(crate) fn keys(&self) -> &[String] {
         self.keys.as_slice()
     }
@@ -184,7 +184,7 @@ impl<'a> Expansion<'a> {
         Ok(())
     }
 
-    /// Gives a recorded placeholder its number and its key.
+    /// Gives a capturing placeholder its number and its key.
     fn record(&mut self, base: &'a str, extract: &'a str) -> Result<(), AllocError> {
         let number = self.keys.len();
         let key = self.next_key(base)?;
@@ -263,7 +263,7 @@ impl<'a> Expansion<'a> {
         Ok(())
     }
 
-    /// Expands a text, where so many more levels may be opened.
+    /// Expands a text, where so many more levels are allowed.
     fn expand(
         &mut self,
         texts: &'a Texts,

@@ -288,7 +288,7 @@ fn expected_error(
     }
 }
 
-/// The recorded keys, each under the generated name of its group.
+/// The keys, each under the generated name of its group.
 fn generated_names<'e>(
     alloc: Global,
     expansion: &'e Expansion<'_>,

@@ -40,7 +40,7 @@ pub struct Row {
     pub modes: &'static [bool],
     /// The pieces, as they are displayed.
     pub pieces: &'static [&'static str],
-    /// How many pieces and how many ends `measure_counted` looks at.
+    /// How many pieces and how many ends `measure_counted` reads.
     pub looks: (u64, u64),
     pub measured: Measured,
     pub compiled: Compiled,
@@ -52,10 +52,10 @@ pub struct Row {
     pub lines: &'static [(&'static str, &'static str)],
 }
 
-/// Each placeholder is recorded.
+/// Each placeholder captures.
 const EVERY: &[bool] = &[false];
 
-/// Placeholders with an alias are recorded, and no others.
+/// Placeholders with an alias capture, and no others.
 const ALIASED: &[bool] = &[true];
 
 /// In both modes the same.
@@ -854,7 +854,7 @@ const KEYS: &[Row] = &[
     },
 ];
 
-/// Missing definitions, and circles, each found where its name is met again.
+/// Missing definitions, and circles, each found where its name comes again.
 const FAULTS: &[Row] = &[
     Row {
         name: "a missing definition",

@@ -1,4 +1,4 @@
-//! Makes one call of the library, the one that the words name.
+//! Makes one call of the library or of the program's commands, the one that the words name.
 //!
 //! `timed` calls are what `bench/` times. Each other call is made twice, for `tests/refusals/run`, which refuses the first
 //! one each request for memory in turn. It stands between the lines `[call` and `[done` on standard error, so that no
@@ -18,6 +18,7 @@ macro_rules! twice {
     };
 }
 
+mod chains;
 mod compiles;
 mod definitions;
 mod engines;
@@ -25,6 +26,7 @@ mod errors;
 mod matches;
 mod measures;
 mod pieces;
+mod runs;
 mod timed;
 
 use anyhow::{Result, bail};
@@ -54,8 +56,10 @@ fn make_call(rt: &HostRuntime, group: &str, name: &str) -> Result<()> {
         "measures" => measures::call(rt, name),
         "errors" => errors::call(rt, name),
         "engines" => engines::call(rt, name),
+        "chains" => chains::call(rt, name),
         "compiles" => compiles::call(rt, name),
         "matches" => matches::call(rt, name),
+        "runs" => runs::call(rt, name),
         _ => bail!("no calls have this name"),
     }
 }

@@ -1,4 +1,4 @@
-//! The measure of a pattern, and where its first fault stands.
+//! The measure of a pattern or of several, and where the first fault of one stands.
 use anyhow::{Result, bail};
 use grok::Grok;
 
@@ -6,6 +6,7 @@ pub(crate) fn call(rt: &HostRuntime, name: &str) -> Result<()> {
     match name {
         "measure" => measure(rt),
         "counted" => counted(rt),
+        "all" => all(rt),
         "fault" => fault(rt),
         "locate" => locate(rt),
         _ => bail!("no call has this name"),
@@ -27,6 +28,14 @@ fn measure(rt: &HostRuntime) -> Result<()> {
 fn counted(rt: &HostRuntime) -> Result<()> {
     let grok = two_levels(rt)?;
     twice!(rt, grok.measure_counted("%{B}", false));
+    Ok(())
+}
+
+/// The second pattern uses a definition that the first one has measured.
+fn all(rt: &HostRuntime) -> Result<()> {
+    let grok = two_levels(rt)?;
+    let patterns = ["%{B}", "%{B}%{A:key}", "%{MISSING}"];
+    twice!(rt, grok.measure_all(&patterns, false));
     Ok(())
 }
 

@@ -53,7 +53,7 @@ no_floats : (pairs : List (List ℕ × List ℕ)) → members_have_float (member
 no_floats [] = refl
 no_floats (pair ∷ pairs) = no_floats pairs
 
--- The text of these events is that of the value: `Takes` gives the same tokens whether the number of members is said or not.
+-- The text of these events is that of the value: `Takes` gives the same tokens whether the number of members is stated or not.
 pub text_of_sent : (pairs : List (List ℕ × List ℕ)) (log : Log) (text : List ℕ) → SendsObject pairs (Some []) log → IsTextOf log text → text ≡ object_text pairs
 text_of_sent pairs log text sent is =
     let counted = event.map_begins (Some (members_len (members_of pairs))) in

@@ -113,7 +113,7 @@ fn hold_definitions<W: Write>(
 /// # Errors
 ///
 /// - `Memory`, after the lines of some first names, each whole.
-/// - `Write` where the output failed, of which nothing more is said.
+/// - `Write` where the output failed, about which nothing more is stated.
 pub fn check_definitions<W: Write>(
     alloc: Global,
     alias_only: bool,

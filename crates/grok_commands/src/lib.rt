@@ -38,7 +38,7 @@ use std::io::{Read, Write};
 ///   written.
 /// - `Memory`, after some first answers.
 /// - `Read`, after the answers to the lines that a line feed ended in what was read.
-/// - `Write`, of which nothing more is said.
+/// - `Write`, about which nothing more is stated.
 pub fn run<R: Read, W: Write>(
     alloc: Global,
     words: &[&str],

@@ -49,7 +49,7 @@ pub fn write_measure<'a>(
 ///
 /// - `Pattern` with the pattern's first structural fault. Nothing was written.
 /// - `Memory`, also before anything was written.
-/// - `Write` where the output failed, of which nothing more is said; the pattern had no fault.
+/// - `Write` where the output failed, about which nothing more is stated; the pattern had no fault.
 pub fn measure_pattern<W: Write>(
     alloc: Global,
     request: &Request<'_>,

@@ -19,4 +19,6 @@ mod measure;
 #[cfg(test)]
 mod pieces;
 #[cfg(test)]
+mod refusals;
+#[cfg(test)]
 mod rows;

@@ -6,94 +6,11 @@ use crate::rows::{Row, clashes, rows};
 use grok::Fault::{Malformed, Missing, TooDeep};
 use grok::Measure::TooLong;
 use grok::parser::GrokPatternError::{InvalidCharacter, InvalidPattern, InvalidPatternDefinition};
-use grok::{Fault, Grok, Looks, Measure};
+use grok::{Fault, Grok, Looks, Measure, PatternOf};
+use grok_engines::Heads;
 use std::alloc::{AllocError, Global};
 use std::process::Abort;
 use std::test::Fail;
-
-/// A default definition, and its size where its placeholders are recorded or not.
-#[derive(Clone, Copy)]
-struct DefaultSize {
-    name: &'static str,
-    length: usize,
-    groups: usize,
-    nesting: usize,
-    aliased_length: usize,
-}
-
-/// The sizes of the default definitions, by name.
-const DEFAULT_SIZES: &[DefaultSize] = &[
-    DefaultSize {
-        name: "CISCOMAC",
-        length: 50,
-        groups: 1,
-        nesting: 1,
-        aliased_length: 45,
-    },
-    DefaultSize {
-        name: "COMMONMAC",
-        length: 49,
-        groups: 1,
-        nesting: 1,
-        aliased_length: 44,
-    },
-    DefaultSize {
-        name: "DAY",
-        length: 104,
-        groups: 1,
-        nesting: 1,
-        aliased_length: 99,
-    },
-    DefaultSize {
-        name: "MAC",
-        length: 163,
-        groups: 4,
-        nesting: 2,
-        aliased_length: 143,
-    },
-    DefaultSize {
-        name: "MONTH",
-        length: 157,
-        groups: 1,
-        nesting: 1,
-        aliased_length: 152,
-    },
-    DefaultSize {
-        name: "SPACE",
-        length: 12,
-        groups: 1,
-        nesting: 1,
-        aliased_length: 7,
-    },
-    DefaultSize {
-        name: "USER",
-        length: 33,
-        groups: 2,
-        nesting: 2,
-        aliased_length: 23,
-    },
-    DefaultSize {
-        name: "USERNAME",
-        length: 24,
-        groups: 1,
-        nesting: 1,
-        aliased_length: 19,
-    },
-    DefaultSize {
-        name: "WINDOWSMAC",
-        length: 49,
-        groups: 1,
-        nesting: 1,
-        aliased_length: 44,
-    },
-    DefaultSize {
-        name: "YEAR",
-        length: 20,
-        groups: 1,
-        nesting: 1,
-        aliased_length: 15,
-    },
-];
 
 /// A measure, and how it is shown.
 #[derive(Clone, Copy)]
@@ -238,35 +155,33 @@ fn long_numbers(rt: HostRuntime) -> Result<(), Fail> {
     Ok(())
 }
 
-/// The default definition has its size in both modes.
+/// The placeholder of this name has the measure of the text that it compiles into.
 fn check_default(
-    rt: &(impl Abort + AllocGlobal),
+    rt: &impl Abort,
     grok: &Grok,
-    row: &DefaultSize,
+    pattern: &str,
+    with_alias_only: bool,
 ) -> Result<(), Fail> {
-    let pattern = format!(in rt.alloc(); "%{{{}}}", row.name)?;
-    let given = grok.measure(pattern.as_str(), false)?;
-    check_measure(
-        rt,
-        row.name,
-        given,
-        size(row.length, row.groups, row.nesting),
-    );
-    let given = grok.measure(pattern.as_str(), true)?;
-    check_measure(
-        rt,
-        row.name,
-        given,
-        size(row.aliased_length, 0, row.nesting),
-    );
+    let compiled: PatternOf<Heads> = grok.compile_with(pattern, with_alias_only)?;
+    let text = compiled.text().len();
+    let keys = compiled.capture_names().count();
+    let Measure::Size { length, groups, .. } = grok.measure(pattern, with_alias_only)? else {
+        assert!(rt; false, "{pattern}: no size");
+        return Ok(());
+    };
+    assert_eq!(rt; length, text, "{pattern}");
+    assert_eq!(rt; groups, keys, "{pattern}");
     Ok(())
 }
 
+/// What the sizes are stands in the tests of `grok_tool check`.
 #[test]
 fn default_definitions(rt: HostRuntime) -> Result<(), Fail> {
     let grok = Grok::default(rt.alloc())?;
-    for row in DEFAULT_SIZES {
-        check_default(&rt, &grok, row)?;
+    for name in grok.names() {
+        let pattern = format!(in rt.alloc(); "%{{{name}}}")?;
+        check_default(&rt, &grok, pattern.as_str(), false)?;
+        check_default(&rt, &grok, pattern.as_str(), true)?;
     }
     Ok(())
 }

@@ -19,11 +19,11 @@ pub struct Row {
     /// What the first of the doublings stands for, if there are any.
     pub doubled: Option<&'static str>,
     pub pattern: &'static str,
-    /// The measure where each placeholder is recorded.
+    /// The measure where each placeholder captures.
     pub every: Measure<'static>,
-    /// The measure where those with an alias are, and no others.
+    /// The measure where those with an alias do, and no others.
     pub aliased: Measure<'static>,
-    /// How many pieces and ends `measure_counted` looks at, or at most where there is a fault.
+    /// How many pieces and ends `measure_counted` reads, or at most where there is a fault.
     pub looks: Option<(u64, u64)>,
     /// The debug text of the error of compiling in either mode, if there is one.
     pub error: Option<&'static str>,
@@ -50,8 +50,8 @@ const BLANK: Row = Row {
     error: Some("CompiledPatternIsEmpty(\"\")"),
 };
 
-/// As many placeholders in one another as are allowed: 8 bytes each and 10 + 180 + 2,700 + 92 places of their numbers
-/// where they are recorded, 4 bytes each where they are not, and the one letter.
+/// As many placeholders in one another as are allowed: 8 bytes each and 10 + 180 + 2,700 + 92 digits of their numbers
+/// where they capture, 4 bytes each where they don't, and the one letter.
 pub const DEEPEST: Row = Row {
     name: "1,023 placeholders in one another",
     chains: &[("C", 1023, "x")],

@@ -3,7 +3,7 @@ pub mod LineLaws
 pub mod Traffic
 pub mod Streams
 pub mod Errors
--- THE WORDS FOR CALLERS: each word that a clause of `answer_lines` is said in.
+-- THE WORDS FOR CALLERS: each word that a contract of `answer_lines` uses.
 pub use Rattle.grok_lines.specs.Lines.{lines_of, ended_lines_of}
 pub use Rattle.grok_lines.specs.Traffic.{traffic}
 pub use Rattle.grok_lines.specs.Streams.{HasAnsweredInput, HasAnsweredEnded, HasAnsweredSome}

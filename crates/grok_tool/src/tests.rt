@@ -1,6 +1,7 @@
 //! Tests of `run`, by its commands and by its devices, and of what stands around it.
 mod cases;
 mod cuts;
+mod default_sizes;
 mod devices;
 mod failing;
 mod large;
@@ -15,18 +16,6 @@ use grok_commands::ToolFault;
 use outcome::{Ending, check_untouched, outcome_of};
 use std::process::Abort;
 use std::test::Fail;
-
-/// What `check` without words writes: the sizes of the default definitions.
-const DEFAULT_SIZES: &str = "CISCOMAC: length 50 groups 1 nesting 1\n\
-    COMMONMAC: length 49 groups 1 nesting 1\n\
-    DAY: length 104 groups 1 nesting 1\n\
-    MAC: length 163 groups 4 nesting 2\n\
-    MONTH: length 157 groups 1 nesting 1\n\
-    SPACE: length 12 groups 1 nesting 1\n\
-    USER: length 33 groups 2 nesting 2\n\
-    USERNAME: length 24 groups 1 nesting 1\n\
-    WINDOWSMAC: length 49 groups 1 nesting 1\n\
-    YEAR: length 20 groups 1 nesting 1\n";
 
 /// Words that are no command.
 const MISUSES: &[Run] = &[

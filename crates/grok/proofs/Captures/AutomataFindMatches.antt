@@ -1,11 +1,10 @@
 -- The automata that are built from a text find the match that `regex` finds for that text.
-use Rattle.std.proofs.Common.{◌≡◌, Bool, ℕ, zero, suc, ◌+◌, ◌-◌, ◌*◌, ◌/◌, ◌<◌, ◌≤◌, ◌==◌, List, [], ◌∷◌, length, map, get_or, slice_index, Option, None, Some, IfSome, IsSome, IsSomeAnd, option_map, All, true, true≢false, refl, sym, ap, ap₂, subst, ◌∙◌, ⊎_elim, arith, ne_eqb, IsCharBoundary, slice_range}
+use Rattle.std.proofs.Common.{◌≡◌, ℕ, zero, suc, ◌+◌, ◌-◌, ◌*◌, ◌/◌, ◌<◌, ◌≤◌, ◌==◌, List, [], ◌∷◌, length, map, get_or, slice_index, Option, None, Some, IfSome, IsSomeAnd, option_map, All, true, refl, sym, ap, ap₂, subst, ◌∙◌, ⊎_elim, arith, ne_eqb, IsCharBoundary, slice_range}
 use Rattle.std.specs.List.{range_with_len}
 use Rattle.std.specs.Option.{option_or}
 use Rattle.std.specs.Str.{chars}
-use Rattle.std.specs.Coded.{Coded-set, coded_option, coded_list, coded_ℕ, coded×}
+use Rattle.std.specs.Coded.{Coded-set, coded_option, coded_list, coded_ℕ}
 use Rattle.std.proofs.lemmas.Bool.{cond-false}
-use Rattle.std.proofs.lemmas.Option.{none-some}
 use Rattle.std.proofs.lemmas.List.FromFn.{get_or-map-range_with_len}
 use mathlib.Core.Logic.{∥∥₁_elim, ∥∥₁_prop}
 use Rattle.regex_hir.specs.Re.{Re}
@@ -13,23 +12,17 @@ use Rattle.regex_hir.specs.Find.{Match, find, find_str, last_write, slot_of}
 use Rattle.regex_hir.specs.Meaning.{meaning}
 use Rattle.regex_hir.specs.Text.{is_boundary}
 use Rattle.regex_hir.specs.declared.hir.Hir.{Hir}
-use Rattle.regex_hir.proofs.FindLemmas.{first_between_cong, first_between_of_IsFirst, IsFirst-of_first_between}
 use Rattle.regex_hir.proofs.OptionLemmas.{option_cases, option_or-None}
-use Rattle.regex_nfa.specs.declared.nfa.Nfa.{Nfa}
-use Rattle.regex_nfa.specs.Run.{run}
-use Rattle.regex_extract.specs.Bounds.{IsAnchored}
-use Rattle.regex_extract.specs.Needles.{ContainsNeedle}
-use Rattle.regex_literal.specs.Find.{Nowhere, AnyOccursAt}
-use Rattle.regex_meta.proofs.LeftmostLemmas.{find_none, attempt_fits}
-use Rattle.regex_meta.proofs.PlansLemmas.{reaches_needle, ContainsFramed-bare}
+use Rattle.regex_meta.proofs.LeftmostLemmas.{find_none, find_skip, attempt_fits}
+use Rattle.regex_meta.proofs.PlansLemmas.{not_at_prefix, reaches_needle}
+use Rattle.regex_meta.specs.Plans.{Serve}
+use Rattle.regex_meta.specs.declared.plan.Role.TheVariants.{Inner}
 use Rattle.regex_meta.specs.declared.program.Program.{Program}
 use Rattle.regex_meta.specs.Programs.{pattern_of, leftmost}
-use Rattle.regex_meta.proofs.ProgramLemmas.{first_match_at_start}
-use Rattle.regex_meta.proofs.PlansLemmas.{only_at_start}
 use Rattle.regex_syntax.specs.Grammar.{Names, read}
 use Rattle.regex_syntax.specs.Verdict.{Reads, default_config}
 use Rattle.regex_syntax.proofs.CapturesLemmas as seen
-use Rattle.regex_vm.specs.Found.{first_match, span, cell, group_cells}
+use Rattle.regex_vm.specs.Found.{span, cell, group_cells}
 use Rattle.regex.specs.Patterns.{SameCaptures}
 use Rattle.regex.specs.Strings.{regex_pattern, regex_source}
 use Rattle.regex.specs.Writes.{both}
@@ -38,7 +31,9 @@ use Rattle.regex.proofs.SearchLemmas.{leftmost_none, leftmost_here}
 use Rattle.regex.proofs.ForCallers.{span_alike, found_alike}
 use Rattle.regex.proofs.Utf8Lemmas.{test_of_IsCharBoundary}
 use Rattle.grok.specs.RegexFinds.{IsReadByDefault, texts_at, span_of_group, captures_in}
-use Rattle.grok.specs.OwnSearches.{IsTreeOf, span_of_pair, span_of_cells}
+use Rattle.grok.specs.OwnSearches.{IsTreeOf, BeginsEach, IsInEach, AreMarksOf, IsNextOf, IsPlaceOf, span_of_pair, span_of_cells}
+use Rattle.grok.specs.declared.engine.marks.Marks.{Marks}
+use Rattle.grok.specs.declared.engine.marks.Needles.{Needles}
 use Rattle.grok.proofs.Trees.CompileResults.{no_bytes}
 
 -- ---- the same text
@@ -53,51 +48,6 @@ read_alike : (text : List ℕ) (hir : Hir) (names : Names) (r : Regex) → Reads
 unfolding Reads
 read_alike text hir names r p source is =
     both_hold (read default_config (chars text)) _ _ (λ x h k. seen.◌also◌ h.1 (seen.alike_sym k.1)) p (rw (← source, is.0) at is.1)
-
--- ---- a match that starts at the start
-
-not_none : {A : Type 0} (o : Option A) → o ≡ None → IsSome o → ⊥
-not_none None e some = true≢false (sym some)
-not_none (Some x) e some = none-some x (sym e)
-
--- if there is a match at the start, it is the first of all
-pub first_at_start : (nfa : Nfa) (hay : List ℕ) (stop : ℕ) (found : Option (ℕ × ℕ)) → found ≡ option_map span (first_match nfa hay stop 0 0) →
-    IsSome found → first_match nfa hay stop 0 0 ≡ first_match nfa hay stop 0 stop
-first_at_start nfa hay stop found e some =
-    let at = run nfa hay stop nfa.start in
-    ⊎_elim
-    (λ none. absurd (not_none found (e ∙ ap (option_map span) none) some))
-    (λ (here : (m : Match) × (first_match nfa hay stop 0 0 ≡ Some m)).
-    let first = IsFirst-of_first_between at 0 0 here.0 here.1 in
-    here.1 ∙ sym (first_between_of_IsFirst at 0 stop here.0 (record {
-      from = first.from;
-      to = omega (arith, first.to);
-      here = first.here;
-      before = first.before;
-    })))
-    (option_cases (first_match nfa hay stop 0 0))
-
--- what a search at the start finds is the first match, if each match starts there
-module _ (p : Program) (hay : List ℕ) (is_anchored : Bool) (if_anchored : ∥ (is_anchored ≡ true → IsAnchored true (pattern_of p)) ∥₁)
-    (anchored : is_anchored ≡ true) where
-  at_start : (is_anchored ≡ true → IsAnchored true (pattern_of p)) → first_match p.dfa.nfa hay (length hay) 0 0 ≡ leftmost p hay 0
-  at_start plan = first_match_at_start p hay (only_at_start (pattern_of p) hay (plan anchored))
-
-  pub anchored_span : (found : Option (ℕ × ℕ)) → found ≡ option_map span (first_match p.dfa.nfa hay (length hay) 0 0) →
-      found ≡ option_map span (leftmost p hay 0)
-  anchored_span found e =
-      ∥∥₁_elim if_anchored (Coded-set (coded_option (coded× coded_ℕ coded_ℕ)) found (option_map span (leftmost p hay 0)))
-      (λ plan. e ∙ ap (option_map span) (at_start plan))
-
-  pub anchored_cells : (cells : List ℕ) (n : ℕ) → IfSome (first_match p.dfa.nfa hay (length hay) 0 0) (λ m. cells ≡ group_cells m n) →
-      IfSome (leftmost p hay 0) (λ m. cells ≡ group_cells m n)
-  anchored_cells cells n is = ⊎_elim
-      (λ none. subst (λ o. IfSome o (λ m. cells ≡ group_cells m n)) (sym none) tt)
-      (λ (some : (m : Match) × (leftmost p hay 0 ≡ Some m)).
-      subst (λ o. IfSome o (λ m. cells ≡ group_cells m n)) (sym some.1)
-      (∥∥₁_elim if_anchored (Coded-set (coded_list coded_ℕ) cells (group_cells some.0 n)) (λ plan.
-      subst (λ o. IfSome o (λ m. cells ≡ group_cells m n)) (at_start plan ∙ some.1) is)))
-      (option_cases (leftmost p hay 0))
 
 -- ---- from the tree to the text
 
@@ -218,16 +168,33 @@ no_groups (Some m) = refl
 pub no_cells : (cells : List ℕ) (o : Option Match) → (length cells == 0) ≡ true → IfSome o (λ m. cells ≡ group_cells m (length cells))
 no_cells cells o e = rw (no_bytes cells e) (no_groups o)
 
--- ---- a line that lacks what each match needs
+-- ---- where a match can lie
 
--- a match holds a needle, so there is none in a line without needles
-pub none_without_needle : (re : Re) (hay : List ℕ) (needles : List (List ℕ)) → All (λ b. b < 256) hay → ∥ ContainsNeedle re needles ∥₁ →
-    Nowhere (AnyOccursAt hay needles) 0 (length hay + 1) → find re hay 0 ≡ None
-none_without_needle re hay needles bytes contains nowhere =
-    let plan = ∥∥₁_elim contains ∥∥₁_prop (ContainsFramed-bare re needles) in
-    find_none re hay 0 (λ i t low high e.
-    omega (
-      arith,
-      attempt_fits re hay i t high e,
-      reaches_needle re hay needles bytes None None plan 0 (length hay + 1) (λ k from to is. nowhere k from to is.0) i t low e,
-    ))
+pub of_first : (re : Re) (marks : Marks) (n : Needles) → ∥ AreMarksOf re marks ∥₁ → marks.first ≡ Some n → ∥ BeginsEach re n ∥₁
+of_first re marks n h is = ∥∥₁_elim h ∥∥₁_prop (λ m. ∣ subst (λ o. IfSome o (BeginsEach re)) is m.first ∣₁)
+
+pub of_inner : (re : Re) (marks : Marks) (n : Needles) → ∥ AreMarksOf re marks ∥₁ → marks.inner ≡ Some n → ∥ IsInEach re n ∥₁
+of_inner re marks n h is = ∥∥₁_elim h ∥∥₁_prop (λ m. ∣ subst (λ o. IfSome o (IsInEach re)) is m.inner ∣₁)
+
+module _ (p : Program) (hay : List ℕ) (n : Needles) (bytes : All (λ b. b < 256) hay) where
+  -- no match starts where no literal stands with which one begins
+  pub place_of_first : ∥ BeginsEach (pattern_of p) n ∥₁ → (start : ℕ) (found : Option ℕ) → IsNextOf n hay start found → IsPlaceOf p hay start found
+  place_of_first begins start None nowhere = find_none (pattern_of p) hay start (λ i t low high e.
+      not_at_prefix (pattern_of p) hay n.literals bytes (Some n.frame) begins start (length hay + 1) nowhere i t low (omega arith) e)
+  place_of_first begins start (Some at) next = (
+    next.low,
+    omega (arith, next.high),
+    find_skip (pattern_of p) hay start at next.low (λ i t low high e.
+        not_at_prefix (pattern_of p) hay n.literals bytes (Some n.frame) begins start at next.before i t low high e),
+  )
+
+  -- a match contains one of the literals, so there is none in a line without them
+  pub none_without_literal : ∥ IsInEach (pattern_of p) n ∥₁ → (start : ℕ) → IsNextOf n hay start None → leftmost p hay start ≡ None
+  none_without_literal contains start nowhere =
+      let inner : Serve (pattern_of p) Inner n.literals (Some n.frame) None = ∥∥₁_elim contains ∥∥₁_prop (λ it. ∣ (it, tt) ∣₁) in
+      find_none (pattern_of p) hay start (λ i t low high e.
+      omega (
+        arith,
+        attempt_fits (pattern_of p) hay i t high e,
+        reaches_needle (pattern_of p) hay n.literals bytes (Some n.frame) None inner start (length hay + 1) nowhere i t low e,
+      ))

@@ -6,7 +6,7 @@ use Rattle.std.proofs.lemmas.Bool.{true≢false, cases_Bool}
 use Rattle.grok.specs.Tree.{Label, is_absent, Event, Text, Open, Close, FaultEvent}
 use Rattle.grok.specs.Keys.{is_capturing, capturing, base_key, numbered, how_often, key_after, keys_after, keys, is_among, TreeFault, Structural, Clash, extract_after}
 use Rattle.grok.specs.CapturedSoFar.{onto, taken_of, in_order, extract_before, faults, after}
-use Rattle.grok.specs.FirstFault.{IsFaultBehind, Breaks, Meets, HasNoFault, HasFirstFault, FirstFaultIsFirst, HasNoExtract, HasLastExtract, ExtractIsLast}
+use Rattle.grok.specs.FirstFault.{IsFaultAfter, Breaks, Meets, HasNoFault, HasFirstFault, FirstFaultIsFirst, HasNoExtract, HasLastExtract, ExtractIsLast}
 use Rattle.grok.proofs.Keys.KeysAreDistinct.{how_often_more}
 use Rattle.grok.proofs.Texts.EqualBytesAreSameText.{same_text, text_same}
 
@@ -106,7 +106,7 @@ module _ (alias_only : Bool) where
   one : List Event → Event → Option TreeFault
   one before event = faults alias_only (after alias_only [] before) (event ∷ [])
 
-  fault_of : (before : List Event) (event : Event) (tree_fault : TreeFault) → IsFaultBehind alias_only before event tree_fault → one before event ≡ Some tree_fault
+  fault_of : (before : List Event) (event : Event) (tree_fault : TreeFault) → IsFaultAfter alias_only before event tree_fault → one before event ≡ Some tree_fault
   unfolding one
   fault_of before (FaultEvent fault) (Structural fault') (Breaks f) = refl
   fault_of before event tree_fault (Meets label meaning is clash) =
@@ -115,12 +115,12 @@ module _ (alias_only : Bool) where
       let there : is_among (key_after (onto [] opens) label) (taken_of (onto [] opens)) ≡ true = ap (λ k. is_among k (taken_of (onto [] opens))) key ∙ (sym (among_keys (key_after opens label) opens) ∙ clash) in
       rw (is, there) (ap (λ k. Some (Clash k)) key)
 
-  behind_fault : (before : List Event) (event : Event) (tree_fault : TreeFault) → one before event ≡ Some tree_fault → IsFaultBehind alias_only before event tree_fault
+  is_fault_after : (before : List Event) (event : Event) (tree_fault : TreeFault) → one before event ≡ Some tree_fault → IsFaultAfter alias_only before event tree_fault
   unfolding one
-  behind_fault before (Text text) tree_fault e = cc
-  behind_fault before Close tree_fault e = cc
-  behind_fault before (FaultEvent fault) tree_fault e = let same : Structural fault ≡ tree_fault = cc in subst (IsFaultBehind alias_only before (FaultEvent fault)) same (Breaks fault)
-  behind_fault before (Open label meaning) tree_fault e =
+  is_fault_after before (Text text) tree_fault e = cc
+  is_fault_after before Close tree_fault e = cc
+  is_fault_after before (FaultEvent fault) tree_fault e = let same : Structural fault ≡ tree_fault = cc in subst (IsFaultAfter alias_only before (FaultEvent fault)) same (Breaks fault)
+  is_fault_after before (Open label meaning) tree_fault e =
       let opens = capturing alias_only before in
       let key = key_after (onto [] opens) label in
       let same = key_onto opens label in
@@ -133,13 +133,13 @@ module _ (alias_only : Bool) where
               | inl there ↦
                   let named : Some (Clash key) ≡ Some tree_fault = sym (ap (λ b. cond b (Some (Clash key)) None) there) ∙ e₁ in
                   let finding_is : Clash (key_after opens label) ≡ tree_fault = let n : Clash key ≡ tree_fault = cc in sym (ap Clash same) ∙ n in
-                  subst (IsFaultBehind alias_only before (Open label meaning)) finding_is
+                  subst (IsFaultAfter alias_only before (Open label meaning)) finding_is
                   (Meets label meaning is (among_keys (key_after opens label) opens ∙ (ap (λ k. is_among k (taken_of (onto [] opens))) (sym same) ∙ there)))
             ]
       ]
 
   -- a fault at the cut, and none before it, is the first
-  at_cut : (before : List Event) (event : Event) (rest : List Event) (tree_fault : TreeFault) → faults alias_only [] before ≡ None → IsFaultBehind alias_only before event tree_fault → faults alias_only [] (before ++ event ∷ rest) ≡ Some tree_fault
+  at_cut : (before : List Event) (event : Event) (rest : List Event) (tree_fault : TreeFault) → faults alias_only [] before ≡ None → IsFaultAfter alias_only before event tree_fault → faults alias_only [] (before ++ event ∷ rest) ≡ Some tree_fault
   unfolding one
   at_cut before event rest tree_fault none is =
       faults-append alias_only [] before (event ∷ rest)
@@ -201,7 +201,7 @@ module _ (alias_only : Bool) where
   first_found : (tree : List Event) (tree_fault : TreeFault) → faults alias_only [] tree ≡ Some tree_fault → HasFirstFault alias_only tree tree_fault
   first_found tree tree_fault e =
       let at = cut_of [] tree tree_fault refl e in
-      record { before = at.before; event = at.event; after = at.after_it; cut = at.cut; none = clean_none at.before at.none; is = behind_fault at.before at.event tree_fault at.is }
+      record { before = at.before; event = at.event; after = at.after_it; cut = at.cut; none = clean_none at.before at.none; is = is_fault_after at.before at.event tree_fault at.is }
 
   none_clean : (tree : List Event) → HasNoFault alias_only tree → faults alias_only [] tree ≡ None
   none_clean tree none = elim (some_or_none (faults alias_only [] tree)) [
@@ -252,7 +252,7 @@ none_found earlier (label ∷ labels) key found none =
     ∙ (ap (λ ls. extract_after ls key labels found) (sym (onto_one earlier label)) ∙ none_found (earlier ++ label ∷ []) labels key found (later_ones earlier label labels key none))
 
 -- the last placeholder after others that has the key and an extract
-record LastBehind (earlier labels : List Label) (key : List ℕ) : Type 0 where
+record LastExtractAfter (earlier labels : List Label) (key : List ℕ) : Type 0 where
   before : List Label
   label : Label
   rest : List Label
@@ -274,7 +274,7 @@ none_here earlier label labels key here none (x ∷ before) l rest cut is =
     let tails : labels ≡ before ++ l ∷ rest = cc in
     none before l rest tails (ap (λ ls. key_after ls l) (append_assoc earlier (label ∷ []) before ∙ ap (λ y. earlier ++ y ∷ before) same) ∙ is)
 
-last_or_none : (earlier labels : List Label) (key : List ℕ) → HasNoExtract earlier labels key ⊎ LastBehind earlier labels key
+last_or_none : (earlier labels : List Label) (key : List ℕ) → HasNoExtract earlier labels key ⊎ LastExtractAfter earlier labels key
 unfolding gives
 last_or_none earlier [] key = inl (λ before label rest cut is. absurd (nothing_cut before label rest cut))
 last_or_none earlier (label ∷ labels) key = elim (last_or_none (earlier ++ label ∷ []) labels key) [
@@ -317,7 +317,7 @@ last_found labels key extract at =
     ∙ (none_found (at.before ++ at.label ∷ []) at.after key (Some at.label.extract) at.last
     ∙ ap Some at.has_extract))))
 
-from_last : (labels : List Label) (key : List ℕ) → (at : LastBehind [] labels key) → HasLastExtract labels key at.label.extract
+from_last : (labels : List Label) (key : List ℕ) → (at : LastExtractAfter [] labels key) → HasLastExtract labels key at.label.extract
 from_last labels key at = record { before = at.before; label = at.label; after = at.rest; cut = at.cut; has_key = at.has_key; has_extract = refl; some = at.some; last = at.last }
 
 pub extract_is_last : ExtractIsLast

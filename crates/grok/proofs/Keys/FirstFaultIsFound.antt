@@ -34,7 +34,7 @@ use Rattle.grok.proofs.Keys.DefinitionsAreCounted.{counts_same, sound_first}
 -- ---- one open
 
 module _ (before : List Label) (label : Label) (want : List ℕ) (is : want ≡ base_key label) where
-  -- how often each key is wanted with this open
+  -- how often each base key is used, with this placeholder
   abbrev pub with_own : List ℕ → ℕ
   with_own key = (cond {A = ℕ} (bytes_eq want key) 1 0 + 0) + how_often before key
 
@@ -75,7 +75,7 @@ module _ (mode : CompileMode) (items : List Item) (levels : ℕ) (before : List 
   enough : tally.height ≤ levels - 1
   enough = omega arith
 
-  -- how often each key is wanted with all that the items want
+  -- how often each base key is used, with the uses of the items
   abbrev pub with_text : List ℕ → ℕ
   with_text key = t.uses key + how_often before key
 
@@ -102,7 +102,7 @@ module _ (alias_only : Bool) (before : List Label) (xs : List Event) (mid : KeyU
   pub stopped-append : (tree_fault : keys.TreeFault) → faults alias_only (after alias_only before xs) ys ≡ Some tree_fault → faults alias_only before (xs ++ ys) ≡ Some tree_fault
   stopped-append tree_fault stops = faults-append alias_only before xs ys ∙ ap (λ o. or_then o (faults alias_only (after alias_only before xs) ys)) p.none ∙ stops
 
--- ---- behind a front
+-- ---- after the counted part
 
 module _ (mode : CompileMode) (text : List ℕ) (front : CountedPart) (f : IsCountedPartOf mode text front) (levels : ℕ) (room : 0 < levels) (before : List Label) where
   -- nothing of the text was counted
@@ -110,8 +110,8 @@ module _ (mode : CompileMode) (text : List ℕ) (front : CountedPart) (f : IsCou
   opens_all items total is keeps = record { room = room; front = []; cut = sym is; passed = record { none = refl; keeps = keeps } }
 
   module _ (total : KeyUses) (passed : HaveCounted mode.with_alias_only before (events_inside mode levels f.items) total) where
-    pub opens_behind : (items : List Item) → items ≡ drop front.items (resolve mode text) → EntersText mode levels text items before total
-    opens_behind items is =
+    pub enters_after_counted : (items : List Item) → items ≡ drop front.items (resolve mode text) → EntersText mode levels text items before total
+    enters_after_counted items is =
         let left : items ≡ f.left = is ∙ ap (λ n. drop n (resolve mode text)) (sym f.many) ∙ ap (drop (length f.items)) f.cut ∙ drop-append_seam f.items f.left in
         record { room = room; front = f.items; cut = f.cut ∙ ap (λ left. f.items ++ left) (sym left); passed = passed }
 
@@ -151,7 +151,7 @@ pub all_sound-pop : (mode : CompileMode) (around : List (List Item)) (items : Li
 all_sound-pop mode [] items sound = (sound.0, tt)
 all_sound-pop mode (outer ∷ around) items sound = let more = all_sound-pop mode around items sound.1 in (more.0, (sound.0, more.1))
 
--- the events of one item and of those behind it
+-- the events of one item and of those after it
 first_item : (inner : List ℕ → List Event) (item : Item) (rest : List Item) → events inner (item ∷ rest) ≡ events inner (item ∷ []) ++ events inner rest
 first_item inner (TextItem text) rest = refl
 first_item inner (FaultItem fault) rest = refl
@@ -181,9 +181,9 @@ left_items items levels around (item ∷ front) rest =
     ∙ sym (append_assoc (events inner (item ∷ [])) (events inner front) (events_left items levels around None rest))
     ∙ ap (λ es. es ++ events_left items levels around None rest) (sym (first_item inner item front))
 
-sound_behind : (mode : CompileMode) (front rest : List Item) → AreSound (resolve mode) (finite.get mode.grok.now) (front ++ rest) → AreSound (resolve mode) (finite.get mode.grok.now) rest
-sound_behind mode [] rest sound = sound
-sound_behind mode (item ∷ front) rest sound = sound_behind mode front rest (sound_rest (resolve mode) (finite.get mode.grok.now) item (front ++ rest) sound)
+sound_after_front : (mode : CompileMode) (front rest : List Item) → AreSound (resolve mode) (finite.get mode.grok.now) (front ++ rest) → AreSound (resolve mode) (finite.get mode.grok.now) rest
+sound_after_front mode [] rest sound = sound
+sound_after_front mode (item ∷ front) rest sound = sound_after_front mode front rest (sound_rest (resolve mode) (finite.get mode.grok.now) item (front ++ rest) sound)
 
 module _ (mode : CompileMode) (all : List Event) (total : KeyUses) where
   pub start_passed : CountsUses total (λ key. 0) → HasCountedUpTo mode all all total
@@ -316,7 +316,7 @@ module _ (mode : CompileMode) (all : List Event) where
             let long : length deeper ≡ length around + 1 = ap length is ∙ length-append around (rest ∷ []) in
             record {
               room = omega (arith, e.room);
-              sound = sound_behind mode e.front inner (subst (AreSound (resolve mode) (finite.get mode.grok.now)) e.cut ((sound_texts (finite.get mode.grok.now)).sound (meaning_text e.meaning)));
+              sound = sound_after_front mode e.front inner (subst (AreSound (resolve mode) (finite.get mode.grok.now)) e.cut ((sound_texts (finite.get mode.grok.now)).sound (meaning_text e.meaning)));
               all_sound = subst (AreAllSound mode) (sym is) (all_sound-push mode around rest w.all_sound rest_sound);
               passed = more_passed mode all total (left_of mode around items) w.passed its_front (left_of mode deeper inner) enters later e.passed;
             }

@@ -23,9 +23,9 @@ pub record IsSplit (bs front back : List ℕ) : Type 0 where
   pub last : HasNoBracket back
 
 pub is_split : (bs front back : List ℕ) (i j : ℕ) → RFindsChar 91 bs (Some (i, j)) → front ≡ take i bs → back ≡ drop j bs → IsSplit bs front back
-is_split bs front back i j found before behind = record {
-  cut = sym (take-append-drop i bs) ∙ ap (λ xs. take i bs ++ xs) (drop_at_char 91 bs i j found.1 (omega arith)) ∙ sym (ap (λ xs. xs ++ 91 ∷ drop j bs) before) ∙ sym (ap (λ xs. front ++ 91 ∷ xs) behind);
-  last = subst HasNoBracket (sym behind) (no_bracket (drop j bs) found.0);
+is_split bs front back i j found before after = record {
+  cut = sym (take-append-drop i bs) ∙ ap (λ xs. take i bs ++ xs) (drop_at_char 91 bs i j found.1 (omega arith)) ∙ sym (ap (λ xs. xs ++ 91 ∷ drop j bs) before) ∙ sym (ap (λ xs. front ++ 91 ∷ xs) after);
+  last = subst HasNoBracket (sym after) (no_bracket (drop j bs) found.0);
 }
 
 -- ---- a numbered key

@@ -31,9 +31,9 @@ number_end (d ∷ ds) h first =
     let other : ((48 + d) == 48) ≡ false = ne_eqb (48 + d) 48 (λ e. omega arith) in
     rw (other, digit_is d low) (digits_end ds h.1)
 
-behind_bracket : (front rest : List ℕ) → ends_number rest ≡ true → ends_in_number (front ++ 91 ∷ rest) ≡ true
-behind_bracket [] rest h = rw h refl
-behind_bracket (c ∷ front) rest h = rw (behind_bracket front rest h) (or_true (c == 91 && ends_number (front ++ 91 ∷ rest)))
+number_after_bracket : (front rest : List ℕ) → ends_number rest ≡ true → ends_in_number (front ++ 91 ∷ rest) ≡ true
+number_after_bracket [] rest h = rw h refl
+number_after_bracket (c ∷ front) rest h = rw (number_after_bracket front rest h) (or_true (c == 91 && ends_number (front ++ 91 ∷ rest)))
   where
     or_true : (b : Bool) → (b || true) ≡ true
     or_true true = refl
@@ -42,7 +42,7 @@ behind_bracket (c ∷ front) rest h = rw (behind_bracket front rest h) (or_true 
 pub numbered_ends : (key : List ℕ) (count : ℕ) → ends_in_number (numbered key (suc count)) ≡ true
 numbered_ends key count =
     let ds = digits_of 10 (suc count) in
-    ap ends_in_number (regroup key count) ∙ behind_bracket key (numeral (suc count) ++ 93 ∷ [])
+    ap ends_in_number (regroup key count) ∙ number_after_bracket key (numeral (suc count) ++ 93 ∷ [])
     (number_end ds (all_below_base_digits_of 10 (suc count) (omega arith)) (first_digits_of 10 (suc count) (omega arith) (omega arith)))
 
 -- ---- and back
@@ -113,8 +113,8 @@ of_ending (c ∷ cs) h = elim (or_cases (c == 91 && ends_number cs) (ends_in_num
       let parts = and_parts (c == 91) (ends_number cs) here in
       let (count, is) = of_number cs parts.1 in
       ([], count, ap₂ (λ x xs. x ∷ xs) (eqb-true c 91 parts.0) is ∙ sym (regroup [] count))
-  | inr behind ↦
-      let (front, count, is) = of_ending cs behind in
+  | inr later ↦
+      let (front, count, is) = of_ending cs later in
       (c ∷ front, count, ap (λ xs. c ∷ xs) (is ∙ regroup front count) ∙ sym (regroup (c ∷ front) count))
 ]
 

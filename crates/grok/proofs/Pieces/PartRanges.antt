@@ -9,7 +9,7 @@ use Rattle.std.proofs.lemmas.Bool.Decides.{nat_tests}
 use Rattle.grok.specs.Pieces.{Parts, Piece, Regular, Placeholder, Malformed, pieces}
 use Rattle.grok.specs.Grammar.{or_empty, MayStand, HasByteAt, IsRegularPiece, Plain, Last, Percent, IsPlaceholder, ArePieces}
 use Rattle.grok.specs.Spans.{range_from, text_in, IsRangeOf, StandsAt, PartsStand, PieceStands, IsPieceOf}
-use Rattle.grok.proofs.Pieces.WrittenPlaceholderIsRead.{behind_name, last_byte, last_rest, written_is}
+use Rattle.grok.proofs.Pieces.WrittenPlaceholderIsRead.{after_name, last_byte, last_rest, written_is}
 use Rattle.grok.proofs.Pieces.PiecesAreUnique.{regular_within, placeholder_within, pieces_are}
 
 -- a part that begins where a character does, and that a byte of ASCII ends
@@ -39,12 +39,12 @@ module _ (T : List ℕ) (u : IsUtf8 T) where
   ends_before from part rest b h e small =
       let n = length part in
       let slice : slice_range T from (from + n) ≡ part = let m : (from + n) - from ≡ n = omega arith in rw m (rw e (take-append_seam part (b ∷ rest))) in
-      let behind : drop (from + n) T ≡ b ∷ rest = sym (drop-drop n from T) ∙ (ap (λ xs. drop n xs) e ∙ drop-append_seam part (b ∷ rest)) in
-      let len : length T - (from + n) ≡ length (b ∷ rest) = sym (length-drop (from + n) T) ∙ ap length behind in
+      let after : drop (from + n) T ≡ b ∷ rest = sym (drop-drop n from T) ∙ (ap (λ xs. drop n xs) e ∙ drop-append_seam part (b ∷ rest)) in
+      let len : length T - (from + n) ≡ length (b ∷ rest) = sym (length-drop (from + n) T) ∙ ap length after in
       let within : from + n < length T = omega arith in
-      let at : get_or T (from + n) 0 ≡ b = ap (λ k. get_or T k 0) (omega arith) ∙ (sym (get_or-drop (from + n) T 0 0) ∙ ap (λ xs. get_or xs 0 0) behind) in
+      let at : get_or T (from + n) 0 ≡ b = ap (λ k. get_or T k 0) (omega arith) ∙ (sym (get_or-drop (from + n) T 0 0) ∙ ap (λ xs. get_or xs 0 0) after) in
       let low : get_or T (from + n) 0 < 128 = omega arith in
-      let more : drop (from + n + 1) T ≡ rest = ap (λ k. drop k T) (omega arith) ∙ (sym (drop-drop 1 (from + n) T) ∙ ap (λ xs. drop 1 xs) behind) in
+      let more : drop (from + n + 1) T ≡ rest = ap (λ k. drop k T) (omega arith) ∙ (sym (drop-drop 1 (from + n) T) ∙ ap (λ xs. drop 1 xs) after) in
       record {
         stands = stands_by from part h (IsCharBoundary-before_ascii T (from + n) within low) slice;
         next = IsCharBoundary-after_ascii T (from + n) u within low;
@@ -78,7 +78,7 @@ module _ (T : List ℕ) (u : IsUtf8 T) where
   pub parts_of : (name : List ℕ) (alias extract d : Option (List ℕ)) → Parts
   parts_of name alias extract d = record { name = name; alias = or_empty alias; extract = or_empty extract; definition = or_empty d }
 
-  pub parts_stand : (s e : ℕ) (name : List ℕ) (alias extract d : Option (List ℕ)) → IsCharBoundary T (s + 2) → e ≤ length T → MayStand alias extract → drop (s + 2) T ≡ name ++ behind_name alias extract d (drop e T) → PartsStand T s e (parts_of name alias extract d) × IsCharBoundary T e
+  pub parts_stand : (s e : ℕ) (name : List ℕ) (alias extract d : Option (List ℕ)) → IsCharBoundary T (s + 2) → e ≤ length T → MayStand alias extract → drop (s + 2) T ≡ name ++ after_name alias extract d (drop e T) → PartsStand T s e (parts_of name alias extract d) × IsCharBoundary T e
   unfolding parts_of
   parts_stand s e name None None d h l m x =
       let w = last_stands (s + 2) e name d h l x in

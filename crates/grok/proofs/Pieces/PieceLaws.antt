@@ -4,7 +4,7 @@ use Rattle.std.specs.List.{slice_range}
 use Rattle.std.proofs.lemmas.List.{take-append-drop, drop_all, length-append}
 use Rattle.std.proofs.Math.Seq.{take-append_seam, take-length}
 use Rattle.grok.proofs.Pieces.TextBeginsWithOpening.{is_open_split}
-use Rattle.grok.proofs.Pieces.RegularPieces.{behind_two}
+use Rattle.grok.proofs.Pieces.RegularPieces.{drop_two_more}
 use Rattle.grok.specs.Pieces.{Piece, Parts, Regular, Placeholder, Malformed, pieces, is_brace}
 use Rattle.grok.specs.Grammar.{ArePieces, NonePass, HasByteAt, IsOpenAt, IsPlaceholder, ReadsParts, MayDefine, or_empty, written}
 use Rattle.grok.specs.Tiles.{Tile}
@@ -67,14 +67,14 @@ not_nil [] x ys e = cc
 not_nil (z ∷ xs) x ys e = cc
 
 -- the pieces after some of them are those from their end on
-behind : (T : List ℕ) (s : ℕ) (front : List Piece) (p : Piece) (rest : List Piece) → ArePieces T s (front ++ p ∷ rest) → (e : ℕ) × ArePieces T e (p ∷ rest)
-behind T s [] p rest h = (s, h)
-behind T s (Regular a e text ∷ ps) p rest h = behind T e ps p rest h.3
-behind T s (Placeholder a e text parts ∷ ps) p rest h = behind T e ps p rest h.3
-behind T s (Malformed f ∷ ps) p rest h = absurd (not_nil ps p rest h.0)
+pieces_after : (T : List ℕ) (s : ℕ) (front : List Piece) (p : Piece) (rest : List Piece) → ArePieces T s (front ++ p ∷ rest) → (e : ℕ) × ArePieces T e (p ∷ rest)
+pieces_after T s [] p rest h = (s, h)
+pieces_after T s (Regular a e text ∷ ps) p rest h = pieces_after T e ps p rest h.3
+pieces_after T s (Placeholder a e text parts ∷ ps) p rest h = pieces_after T e ps p rest h.3
+pieces_after T s (Malformed f ∷ ps) p rest h = absurd (not_nil ps p rest h.0)
 
 pub fault_last : (T : List ℕ) (front rest : List Piece) (f : GrokPatternError) → pieces T ≡ front ++ Malformed f ∷ rest → rest ≡ []
-fault_last T front rest f e = let h = behind T 0 front (Malformed f) rest (subst (ArePieces T 0) e (pieces_are T)) in h.1.0
+fault_last T front rest f e = let h = pieces_after T 0 front (Malformed f) rest (subst (ArePieces T 0) e (pieces_are T)) in h.1.0
 
 -- ---- inline definitions
 
@@ -84,7 +84,7 @@ defined_without_braces (Some d) h = h.0
 
 pub inline_without_braces : (T : List ℕ) (front rest : List Piece) (a e : ℕ) (text : List ℕ) (parts : Parts) → pieces T ≡ front ++ Placeholder a e text parts ∷ rest → NonePass is_brace parts.definition
 inline_without_braces T front rest a e text parts is =
-    let h = behind T 0 front (Placeholder a e text parts) rest (subst (ArePieces T 0) is (pieces_are T)) in
+    let h = pieces_after T 0 front (Placeholder a e text parts) rest (subst (ArePieces T 0) is (pieces_are T)) in
     let r = h.1.1.reads in
     subst (NonePass is_brace) (sym r.definition_is) (defined_without_braces r.definition r.defined)
 
@@ -97,7 +97,7 @@ spelled_as T s e parts h =
     let W = written parts.name r.alias r.extract r.definition in
     let X = 37 ∷ 123 ∷ W in
     let b = placeholder_within T s e parts h in
-    let whole : drop s T ≡ X ++ drop e T = is_open_split (drop s T) (open_from T s h.opens) ∙ ap (λ xs. 37 ∷ 123 ∷ xs) (behind_two T s ∙ r.spelled) in
+    let whole : drop s T ≡ X ++ drop e T = is_open_split (drop s T) (open_from T s h.opens) ∙ ap (λ xs. 37 ∷ 123 ∷ xs) (drop_two_more T s ∙ r.spelled) in
     let front = length-drop s T in
     let back = length-drop e T in
     let sum = ap length whole ∙ length-append X (drop e T) in
@@ -120,7 +120,7 @@ alone_is parts alias extract definition X is reads =
 
 pub placeholder_alone : (T : List ℕ) (front rest : List Piece) (a e : ℕ) (text : List ℕ) (parts : Parts) → pieces T ≡ front ++ Placeholder a e text parts ∷ rest → pieces text ≡ Placeholder 0 (length text) text parts ∷ []
 placeholder_alone T front rest a e text parts is =
-    let h = behind T 0 front (Placeholder a e text parts) rest (subst (ArePieces T 0) is (pieces_are T)) in
+    let h = pieces_after T 0 front (Placeholder a e text parts) rest (subst (ArePieces T 0) is (pieces_are T)) in
     let r = h.1.1.reads in
     alone_is parts r.alias r.extract r.definition text (h.1.2 ∙ spelled_as T h.0 e parts h.1.1)
     (λ xs ys spelled. record { alias = r.alias; extract = r.extract; definition = r.definition; spelled = spelled; named = r.named; nonempty = r.nonempty; words = r.words; defined = r.defined; alias_is = r.alias_is; extract_is = r.extract_is; definition_is = r.definition_is })

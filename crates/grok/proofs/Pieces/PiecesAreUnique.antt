@@ -8,7 +8,7 @@ use Rattle.grok.specs.declared.parser.GrokPatternError.{GrokPatternError}
 use Rattle.grok.specs.Pieces.{is_open, regular_len, Piece, Regular, Placeholder, Malformed, Parts, Inside, first_piece, placeholder_at, pieces_at, pieces}
 use Rattle.grok.specs.Grammar.{HasByteAt, IsOpenAt, IsRegularPiece, Plain, Last, Percent, IsPlaceholder, ArePieces}
 use Rattle.grok.proofs.Pieces.FirstPieceAndRest.{pieces_at_next, pieces_at_end, inside_is_rest, regular_len_bounds}
-use Rattle.grok.proofs.Pieces.RegularPieces.{regular_piece_is, regular_piece_only, head_is, second_is, behind_two}
+use Rattle.grok.proofs.Pieces.RegularPieces.{regular_piece_is, regular_piece_only, head_is, second_is, drop_two_more}
 use Rattle.grok.proofs.Pieces.WrittenPlaceholderIsRead.{placeholder_at_reads}
 use Rattle.grok.proofs.Pieces.ReadPlaceholderIsWritten.{placeholder_at_found}
 use Rattle.grok.proofs.Pieces.PlaceholderFaults.{fault_is_read, read_is_fault}
@@ -59,7 +59,7 @@ step_placeholder T s e p l o w r =
     let len : length (drop s T) ≡ length T - s = length-drop s T in
     let long : length (drop e T) ≡ length T - e = length-drop e T in
     let i : Inside = record { parts = p; rest = drop e T } in
-    let r' : placeholder_at (drop 2 (drop s T)) ≡ Ok i = ap placeholder_at (behind_two T s) ∙ r in
+    let r' : placeholder_at (drop 2 (drop s T)) ≡ Ok i = ap placeholder_at (drop_two_more T s) ∙ r in
     let h = inside_is_rest (drop s T) i o r' in
     let shorter : length (drop e T) < length (drop s T) = h.shorter in
     let first = first_placeholder s (drop s T) i o r' in
@@ -72,7 +72,7 @@ step_placeholder T s e p l o w r =
 step_fault : (T : List ℕ) (s : ℕ) (f : GrokPatternError) → s < length T → is_open (drop s T) ≡ true → placeholder_at (drop (s + 2) T) ≡ Err f → pieces_at s (drop s T) ≡ Malformed f ∷ []
 step_fault T s f l o r =
     let len : length (drop s T) ≡ length T - s = length-drop s T in
-    let first = first_fault s (drop s T) f o (ap placeholder_at (behind_two T s) ∙ r) in
+    let first = first_fault s (drop s T) f o (ap placeholder_at (drop_two_more T s) ∙ r) in
     step_by s (drop s T) (Malformed f) [] _ (omega arith) (sym (ap (λ f. f.piece) first)) (sym (ap (λ f. f.rest) first)) refl ∙ ap (λ ps. Malformed f ∷ ps) (pieces_at_end _ [] refl)
 
 -- ---- the list that is computed is a list of the pieces
@@ -109,7 +109,7 @@ pieces_only T s (Malformed f ∷ ps) l h =
 read_is_placeholder : (T : List ℕ) (s : ℕ) (i : Inside) → is_open (drop s T) ≡ true → placeholder_at (drop (s + 2) T) ≡ Ok i → (e : ℕ) × (e ≤ length T) × (i.rest ≡ drop e T)
 read_is_placeholder T s i o r =
     let len : length (drop s T) ≡ length T - s = length-drop s T in
-    let h = inside_is_rest (drop s T) i o (ap placeholder_at (behind_two T s) ∙ r) in
+    let h = inside_is_rest (drop s T) i o (ap placeholder_at (drop_two_more T s) ∙ r) in
     let shorter = h.shorter in
     let m = length (drop s T) - length i.rest in
     (s + m, omega arith, h.is_end ∙ drop-drop m s T)

@@ -7,7 +7,7 @@ use Rattle.std.proofs.lemmas.Bool.Decides.{nat_tests}
 use Rattle.grok.specs.declared.parser.GrokPatternError.{GrokPatternError}
 use Rattle.grok.specs.declared.parser.GrokPatternError.TheVariants.{InvalidCharacter, InvalidPattern, InvalidPatternDefinition}
 use Rattle.grok.specs.Pieces.{◌>>=◌, is_name_byte, is_alias_byte, is_terminator, is_brace, is_empty, word_at, Word, definition_end, definition_at, Inside, close_at, extract_at, alias_at, placeholder_at}
-use Rattle.grok.specs.Grammar.{NonePass, WordKind, NameWord, AliasWord, ExtractWord, FourthWord, is_legal, word_of, behind, IsWordFault, Ends, Odd, NoName, TooMany, NoExtract, NoAlias, HasDefinition, IsFaultFrom, Here, Later, Undefined, IsFault}
+use Rattle.grok.specs.Grammar.{NonePass, WordKind, NameWord, AliasWord, ExtractWord, FourthWord, is_legal, word_of, after_word, IsWordFault, Ends, Odd, NoName, TooMany, NoExtract, NoAlias, HasDefinition, IsFaultFrom, Here, Later, Undefined, IsFault}
 use Rattle.grok.proofs.Pieces.RestIsSuffix.{definition_at_found}
 use Rattle.grok.proofs.Pieces.WrittenPlaceholderIsRead.{definition_at_reads}
 use Rattle.grok.proofs.Pieces.ReadPlaceholderIsWritten.{NonePass-before_first}
@@ -156,20 +156,20 @@ bind_bad r k f e = rw e refl
 record GoodWord (kind : WordKind) (text : List ℕ) : Type 0 where
   byte : ℕ
   more : List ℕ
-  stands : behind kind text ≡ byte ∷ more
+  stands : after_word kind text ≡ byte ∷ more
   ends : is_terminator byte ≡ true
   reads : word_at (is_legal kind) text ≡ Ok (record { word = word_of kind text; terminator = byte; rest = more })
 
-word_cases_by : (kind : WordKind) (text xs : List ℕ) → behind kind text ≡ xs → ((f : GrokPatternError) × IsWordFault kind text f × (word_at (is_legal kind) text ≡ Err f)) ⊎ GoodWord kind text
+word_cases_by : (kind : WordKind) (text xs : List ℕ) → after_word kind text ≡ xs → ((f : GrokPatternError) × IsWordFault kind text f × (word_at (is_legal kind) text ≡ Err f)) ⊎ GoodWord kind text
 word_cases_by kind text [] e = inl (InvalidPattern, Ends e, word_at_ends (is_legal kind) text e)
 word_cases_by kind text (b ∷ more) e = by_test (is_terminator b) refl
   where
     by_test : (t : Bool) → is_terminator b ≡ t → ((f : GrokPatternError) × IsWordFault kind text f × (word_at (is_legal kind) text ≡ Err f)) ⊎ GoodWord kind text
     by_test true t = inr (record { byte = b; more = more; stands = e; ends = t; reads = word_at_good (is_legal kind) text b more e t })
-    by_test false t = inl (InvalidCharacter (slice_index (chars (behind kind text)) 0), Odd _ b more e t refl, word_at_odd (is_legal kind) text b _ more e t refl)
+    by_test false t = inl (InvalidCharacter (slice_index (chars (after_word kind text)) 0), Odd _ b more e t refl, word_at_odd (is_legal kind) text b _ more e t refl)
 
 word_cases : (kind : WordKind) (text : List ℕ) → ((f : GrokPatternError) × IsWordFault kind text f × (word_at (is_legal kind) text ≡ Err f)) ⊎ GoodWord kind text
-word_cases kind text = word_cases_by kind text (behind kind text) refl
+word_cases kind text = word_cases_by kind text (after_word kind text) refl
 
 heads : (a b : ℕ) (x y : List ℕ) → (a ∷ x) ≡ b ∷ y → a ≡ b
 heads a b x y e = cc
@@ -215,8 +215,8 @@ nil_from_empty (b ∷ bs) e = absurd (omega (arith, eqb-true (length (b ∷ bs))
 empty_no : (word : List ℕ) → is_empty word ≡ false → word ≡ [] → ⊥
 empty_no word e n = false≢true (sym e ∙ empty_of word n)
 
-behind_byte : (kind : WordKind) (text : List ℕ) (w : GoodWord kind text) (b : ℕ) → w.byte ≡ b → behind kind text ≡ b ∷ w.more
-behind_byte kind text w b e = w.stands ∙ ap (λ x. x ∷ w.more) e
+byte_after_word : (kind : WordKind) (text : List ℕ) (w : GoodWord kind text) (b : ℕ) → w.byte ≡ b → after_word kind text ≡ b ∷ w.more
+byte_after_word kind text w b e = w.stands ∙ ap (λ x. x ∷ w.more) e
 
 read_fourth : (text : List ℕ) (f : GrokPatternError) → fourth_at text ≡ Err f → IsFaultFrom FourthWord text f
 read_fourth text f e = ⊎_elim (fault_here FourthWord text (λ _. Err InvalidPattern) f e)
@@ -229,9 +229,9 @@ read_extract name alias text f e = ⊎_elim (fault_here ExtractWord text _ f e)
     (λ w. let k = goes_on ExtractWord text _ f e w in
     ⊎_elim (λ h. subst (λ g. IsFaultFrom ExtractWord text g) (err_same InvalidPatternDefinition f h.1) (Here ExtractWord text InvalidPatternDefinition (NoExtract w.byte w.more refl w.stands w.ends (nil_from_empty _ h.0))))
     (λ h. let clean = clean_by ExtractWord text w (λ z. cc) (λ z. cc) (λ _. empty_no (word_of ExtractWord text) h.0) (λ z. cc) in
-    ⊎_elim (λ g. Later ExtractWord text f w.more clean (behind_byte ExtractWord text w 58 (eqb-true w.byte 58 g.0)) (read_fourth w.more f g.1))
+    ⊎_elim (λ g. Later ExtractWord text f w.more clean (byte_after_word ExtractWord text w 58 (eqb-true w.byte 58 g.0)) (read_fourth w.more f g.1))
     (λ g. let c = close_at_err name alias (word_of ExtractWord text) w.byte w.more f g.1 w.ends g.0 in
-    subst (λ g. IsFaultFrom ExtractWord text g) (sym c.1) (Undefined ExtractWord text w.more clean (behind_byte ExtractWord text w 61 c.0) c.2))
+    subst (λ g. IsFaultFrom ExtractWord text g) (sym c.1) (Undefined ExtractWord text w.more clean (byte_after_word ExtractWord text w 61 c.0) c.2))
     (cond_is (w.byte == 58) _ _ _ h.1))
     (cond_is (is_empty (word_of ExtractWord text)) _ _ _ k))
     (word_cases ExtractWord text)
@@ -243,13 +243,13 @@ read_alias name text f e = ⊎_elim (fault_here AliasWord text _ f e)
     ⊎_elim
     (λ g. let colon = eqb-true w.byte 58 g.0 in
     let clean = clean_by AliasWord text w (λ z. cc) (λ z. cc) (λ z. cc) (λ z t. absurd (⊎_elim (λ u. omega arith) (λ u. omega arith) t)) in
-    Later AliasWord text f w.more clean (behind_byte AliasWord text w 58 colon) (read_extract name (word_of AliasWord text) w.more f g.1))
+    Later AliasWord text f w.more clean (byte_after_word AliasWord text w 58 colon) (read_extract name (word_of AliasWord text) w.more f g.1))
     (λ g.
     let last : (w.byte ≡ 125) ⊎ (w.byte ≡ 61) = grind (arith, nat_tests, w.ends, g.0) in
     ⊎_elim (λ h. subst (λ g. IsFaultFrom AliasWord text g) (err_same InvalidPatternDefinition f h.1) (Here AliasWord text InvalidPatternDefinition (NoAlias w.byte w.more refl w.stands last (nil_from_empty _ h.0))))
     (λ h. let clean = clean_by AliasWord text w (λ z. cc) (λ z. cc) (λ z. cc) (λ _ _. empty_no (word_of AliasWord text) h.0) in
     let c = close_at_err name (word_of AliasWord text) [] w.byte w.more f h.1 w.ends g.0 in
-    subst (λ g. IsFaultFrom AliasWord text g) (sym c.1) (Undefined AliasWord text w.more clean (behind_byte AliasWord text w 61 c.0) c.2))
+    subst (λ g. IsFaultFrom AliasWord text g) (sym c.1) (Undefined AliasWord text w.more clean (byte_after_word AliasWord text w 61 c.0) c.2))
     (cond_is (is_empty (word_of AliasWord text)) _ _ _ g.1))
     (cond_is (w.byte == 58) _ _ _ k))
     (word_cases AliasWord text)
@@ -260,9 +260,9 @@ read_is_fault text f e = ⊎_elim (fault_here NameWord text _ f e)
     (λ w. let k = goes_on NameWord text _ f e w in
     ⊎_elim (λ h. subst (λ g. IsFaultFrom NameWord text g) (err_same InvalidPattern f h.1) (Here NameWord text InvalidPattern (NoName w.byte w.more refl w.stands w.ends (nil_from_empty _ h.0))))
     (λ h. let clean = clean_by NameWord text w (λ _. empty_no (word_of NameWord text) h.0) (λ z. cc) (λ z. cc) (λ z. cc) in
-    ⊎_elim (λ g. Later NameWord text f w.more clean (behind_byte NameWord text w 58 (eqb-true w.byte 58 g.0)) (read_alias (word_of NameWord text) w.more f g.1))
+    ⊎_elim (λ g. Later NameWord text f w.more clean (byte_after_word NameWord text w 58 (eqb-true w.byte 58 g.0)) (read_alias (word_of NameWord text) w.more f g.1))
     (λ g. let c = close_at_err (word_of NameWord text) [] [] w.byte w.more f g.1 w.ends g.0 in
-    subst (λ g. IsFaultFrom NameWord text g) (sym c.1) (Undefined NameWord text w.more clean (behind_byte NameWord text w 61 c.0) c.2))
+    subst (λ g. IsFaultFrom NameWord text g) (sym c.1) (Undefined NameWord text w.more clean (byte_after_word NameWord text w 61 c.0) c.2))
     (cond_is (w.byte == 58) _ _ _ h.1))
     (cond_is (is_empty (word_of NameWord text)) _ _ _ k))
     (word_cases NameWord text)

@@ -8,7 +8,7 @@ use Rattle.grok.specs.declared.parser.GrokPatternError.TheVariants.{InvalidPatte
 use Rattle.grok.specs.Pieces.{is_name_byte, is_alias_byte, is_terminator, is_brace, is_empty, word_at, Word, definition_at, Inside, close_at, extract_at, alias_at, placeholder_at}
 use Rattle.grok.specs.Grammar.{AllPass, NonePass, after_byte, or_empty, MayStand, MayDefine, ReadsParts}
 use Rattle.grok.proofs.Pieces.RestIsSuffix.{bind_ok, chosen_ok, cond_ok, FindsWord, word_at_found, definition_at_found, ok_same}
-use Rattle.grok.proofs.Pieces.WrittenPlaceholderIsRead.{last_byte, last_rest, behind_name, written_is}
+use Rattle.grok.proofs.Pieces.WrittenPlaceholderIsRead.{last_byte, last_rest, after_name, written_is}
 
 all_cond : (p : ℕ → Bool) (b : ℕ) (bs : List ℕ) → AllPass p bs → (t : Bool) → p b ≡ t → AllPass p (cond t (b ∷ bs) [])
 all_cond p b bs h true e = (e, h)
@@ -126,7 +126,7 @@ placeholder_at_found text i e =
       alias = Some t.alias;
       extract = t.extract;
       definition = t.definition;
-      spelled = (f.spelled ∙ (ap (λ b. w.0.word ++ b ∷ w.0.rest) (eqb-true w.0.terminator 58 g.0) ∙ (ap (λ xs. w.0.word ++ 58 ∷ xs) t.spelled ∙ ap (λ n. n ++ behind_name (Some t.alias) t.extract t.definition i.rest) (sym name)))) ∙ sym (written_is i.parts.name (Some t.alias) t.extract t.definition i.rest);
+      spelled = (f.spelled ∙ (ap (λ b. w.0.word ++ b ∷ w.0.rest) (eqb-true w.0.terminator 58 g.0) ∙ (ap (λ xs. w.0.word ++ 58 ∷ xs) t.spelled ∙ ap (λ n. n ++ after_name (Some t.alias) t.extract t.definition i.rest) (sym name)))) ∙ sym (written_is i.parts.name (Some t.alias) t.extract t.definition i.rest);
       named = subst (AllPass is_name_byte) (sym name) passes;
       nonempty = subst (λ n. 0 < length n) (sym name) some;
       words = t.words;
@@ -141,7 +141,7 @@ placeholder_at_found text i e =
       alias = None;
       extract = None;
       definition = c.definition;
-      spelled = (f.spelled ∙ (ap (λ xs. w.0.word ++ xs) c.spelled ∙ ap (λ n. n ++ behind_name None None c.definition i.rest) (sym name))) ∙ sym (written_is i.parts.name None None c.definition i.rest);
+      spelled = (f.spelled ∙ (ap (λ xs. w.0.word ++ xs) c.spelled ∙ ap (λ n. n ++ after_name None None c.definition i.rest) (sym name))) ∙ sym (written_is i.parts.name None None c.definition i.rest);
       named = subst (AllPass is_name_byte) (sym name) passes;
       nonempty = subst (λ n. 0 < length n) (sym name) some;
       words = tt;

@@ -83,8 +83,8 @@ module _ (T : List ℕ) (s : ℕ) where
   pub second_is : get_or (drop s T) 1 0 ≡ get_or T (s + 1) 0
   second_is = get_or-drop s T 1 0
 
-  pub behind_two : drop 2 (drop s T) ≡ drop (s + 2) T
-  behind_two = drop-drop 2 s T
+  pub drop_two_more : drop 2 (drop s T) ≡ drop (s + 2) T
+  drop_two_more = drop-drop 2 s T
 
 regular_two : (T : List ℕ) (s : ℕ) → s < length T → get_or (drop s T) 0 0 ≡ 37 → is_open (drop s T) ≡ false → (length (drop s T) ≤ 1) ⊎ (1 < length (drop s T)) → IsRegularPiece T s (s + regular_len (drop s T))
 regular_two T s h e o (inl l) =
@@ -95,7 +95,7 @@ regular_two T s h e o (inr l) =
     let r = run_end T (s + 2) (omega arith) in
     let n = other_from_not_open (drop s T) e o in
     let place : s + (2 + position_or_len is_percent (drop (s + 2) T)) ≡ (s + 2) + position_or_len is_percent (drop (s + 2) T) = omega arith in
-    rw (len_percent (drop s T) e l) (rw (behind_two T s) (rw place (Percent (h, sym (head_is T s) ∙ e) (omega arith) (λ f. n (second_is T s ∙ f)) (omega arith) r)))
+    rw (len_percent (drop s T) e l) (rw (drop_two_more T s) (rw place (Percent (h, sym (head_is T s) ∙ e) (omega arith) (λ f. n (second_is T s ∙ f)) (omega arith) r)))
 
 regular_one : (T : List ℕ) (s : ℕ) → s < length T → is_open (drop s T) ≡ false → (b : Bool) → is_percent (get_or (drop s T) 0 0) ≡ b → IsRegularPiece T s (s + regular_len (drop s T))
 regular_one T s h o true e = regular_two T s h (eqb-true _ 37 e) o (⊎_elim (λ l. inr l) (λ l. inl l) (cases_lt 1 (length (drop s T))))
@@ -126,5 +126,5 @@ regular_piece_only T s e (Percent h l n m f) =
     let first : get_or (drop s T) 0 0 ≡ 37 = head_is T s ∙ h.1 in
     let whole = run_only T (s + 2) e m f in
     let other : get_or (drop s T) 1 0 ≢ 123 = λ g. n (sym (second_is T s) ∙ g) in
-    let count : regular_len (drop s T) ≡ 2 + position_or_len is_percent (drop (s + 2) T) = len_percent (drop s T) first (omega arith) ∙ ap (λ xs. 2 + position_or_len is_percent xs) (behind_two T s) in
+    let count : regular_len (drop s T) ≡ 2 + position_or_len is_percent (drop (s + 2) T) = len_percent (drop s T) first (omega arith) ∙ ap (λ xs. 2 + position_or_len is_percent xs) (drop_two_more T s) in
     (not_open_other (drop s T) other, omega arith)

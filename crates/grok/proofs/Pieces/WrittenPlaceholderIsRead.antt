@@ -64,10 +64,10 @@ unfolding alias_at
 alias_at_reads_more name alias extract d rest a b n m = rw (word_at_reads is_alias_byte alias (extract ++ last_byte d ∷ last_rest d rest) 58 a refl refl) (extract_at_reads name alias extract d rest b n m)
 
 -- the text after the name
-abbrev pub behind_name : Option (List ℕ) → Option (List ℕ) → Option (List ℕ) → List ℕ → List ℕ
-behind_name alias extract d rest = after_byte 58 alias ++ (after_byte 58 extract ++ (last_byte d ∷ last_rest d rest))
+abbrev pub after_name : Option (List ℕ) → Option (List ℕ) → Option (List ℕ) → List ℕ → List ℕ
+after_name alias extract d rest = after_byte 58 alias ++ (after_byte 58 extract ++ (last_byte d ∷ last_rest d rest))
 
-placeholder_at_reads_by : (name : List ℕ) (alias extract d : Option (List ℕ)) (rest : List ℕ) → AllPass is_name_byte name → 0 < length name → MayStand alias extract → MayDefine d → placeholder_at (name ++ behind_name alias extract d rest) ≡ Ok (inside_of name (or_empty alias) (or_empty extract) d rest)
+placeholder_at_reads_by : (name : List ℕ) (alias extract d : Option (List ℕ)) (rest : List ℕ) → AllPass is_name_byte name → 0 < length name → MayStand alias extract → MayDefine d → placeholder_at (name ++ after_name alias extract d rest) ≡ Ok (inside_of name (or_empty alias) (or_empty extract) d rest)
 unfolding placeholder_at
 placeholder_at_reads_by name None None None rest a n s m = rw (word_at_reads is_name_byte name rest 125 a refl refl) (rw (some_word name n) (close_at_reads name [] [] None rest m))
 placeholder_at_reads_by name None None (Some d) rest a n s m = rw (word_at_reads is_name_byte name (d ++ 125 ∷ rest) 61 a refl refl) (rw (some_word name n) (close_at_reads name [] [] (Some d) rest m))
@@ -76,7 +76,7 @@ placeholder_at_reads_by name (Some alias) None d rest a n s m = rw (word_at_read
 placeholder_at_reads_by name (Some alias) (Some x) d rest a n s m = rw (word_at_reads is_name_byte name (alias ++ 58 ∷ (x ++ last_byte d ∷ last_rest d rest)) 58 a refl refl) (rw (some_word name n) (alias_at_reads_more name alias x d rest s.0 s.1 s.2 m))
 
 -- the two ways to write the same text
-pub written_is : (name : List ℕ) (alias extract d : Option (List ℕ)) (rest : List ℕ) → written name alias extract d ++ rest ≡ name ++ behind_name alias extract d rest
+pub written_is : (name : List ℕ) (alias extract d : Option (List ℕ)) (rest : List ℕ) → written name alias extract d ++ rest ≡ name ++ after_name alias extract d rest
 written_is name alias extract None rest = simp append_assoc
 written_is name alias extract (Some d) rest = simp append_assoc
 

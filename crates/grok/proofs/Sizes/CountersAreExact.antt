@@ -11,7 +11,7 @@ use Rattle.grok.specs.Measured.{weighed}
 use Rattle.grok.proofs.Sizes.TextsWithoutPlaceholders.{IsSound}
 use Rattle.grok.proofs.Sizes.SizesAdd.{both_ok, wrapped_ok}
 use Rattle.grok.proofs.Sizes.ReadingInduction.{last_progress, IsUnread, Steps, reads}
-use Rattle.grok.proofs.Sizes.RememberingChangesNothing.{marked_cases}
+use Rattle.grok.proofs.Sizes.RememberingChangesNothing.{progress_cases}
 
 -- the text of a name in a table of names and texts
 abbrev pub found : List ℕ → List (List ℕ × List ℕ) → Option (List ℕ)
@@ -79,15 +79,15 @@ weighed_none weight (entry ∷ entries) = omega (arith, weighed_none weight entr
 abbrev pub is_started : State → List ℕ → Bool
 is_started st name = is_some (st.by_name name)
 
-pub started_marked : (st : State) (name : List ℕ) (progress : Progress Size) (other : List ℕ) → is_started (with_progress st name progress) other ≡ (bytes_eq name other || is_started st other)
-started_marked st name progress other = elim (bytes_eq name other) as (λ b. is_some (cond b (Some progress) (st.by_name other)) ≡ (b || is_some (st.by_name other))) [ true ↦ refl | false ↦ refl ]
+pub started_with_progress : (st : State) (name : List ℕ) (progress : Progress Size) (other : List ℕ) → is_started (with_progress st name progress) other ≡ (bytes_eq name other || is_started st other)
+started_with_progress st name progress other = elim (bytes_eq name other) as (λ b. is_some (cond b (Some progress) (st.by_name other)) ≡ (b || is_some (st.by_name other))) [ true ↦ refl | false ↦ refl ]
 
 -- no text was too deep
 abbrev IsShallow : State → Type 0
 IsShallow st = (name : List ℕ) (levels : ℕ) → st.by_name name ≡ Some (NeedsMoreThan levels) → ⊥
 
-shallow_marked : (st : State) (name : List ℕ) (progress : Progress Size) → ((levels : ℕ) → progress ≡ NeedsMoreThan levels → ⊥) → IsShallow st → IsShallow (with_progress st name progress)
-shallow_marked st name progress other_mark shallow other levels is = elim (marked_cases st.by_name name progress other) [
+shallow_with_progress : (st : State) (name : List ℕ) (progress : Progress Size) → ((levels : ℕ) → progress ≡ NeedsMoreThan levels → ⊥) → IsShallow st → IsShallow (with_progress st name progress)
+shallow_with_progress st name progress other_mark shallow other levels is = elim (progress_cases st.by_name name progress other) [
   | inl (same, it) ↦ let deep : Some progress ≡ Some (NeedsMoreThan levels) = sym it ∙ is in other_mark levels (let m : progress ≡ NeedsMoreThan levels = cc in m)
   | inr (apart, old) ↦ shallow other levels (sym old ∙ is)
 ]
@@ -128,22 +128,22 @@ module _ (alias_only : Bool) (resolve : List ℕ → List Item) (definitions : D
     keeps : (name : List ℕ) → is_started st name ≡ true → is_started answer.1 name ≡ true
     shallow : (size : Size) → answer.0 ≡ Ok size → IsShallow answer.1
 
-  met_more : (st : State) (name text : List ℕ) → definitions name ≡ Some text → is_started st name ≡ false → cache (with_progress st name InProgress) ≡ cache st + weight text
-  met_more st name text stored fresh =
+  seen_more : (st : State) (name text : List ℕ) → definitions name ≡ Some text → is_started st name ≡ false → cache (with_progress st name InProgress) ≡ cache st + weight text
+  seen_more st name text stored fresh =
       weighed_more weight (is_started st) (is_started (with_progress st name InProgress)) name text entries table.apart (table.same name ∙ stored) fresh
       (rw ((bytes_eq-Decides name name).1 refl) refl)
-      (λ other apart. rw (started_marked st name InProgress other, false_from_ne_true (bytes_eq name other) (λ t. apart ((bytes_eq-Decides name other).0 t))) refl)
+      (λ other apart. rw (started_with_progress st name InProgress other, false_from_ne_true (bytes_eq name other) (λ t. apart ((bytes_eq-Decides name other).0 t))) refl)
 
   -- a definition that was used stays so
-  met_still : (st : State) (name : List ℕ) (progress : Progress Size) → is_started st name ≡ true → cache (with_progress st name progress) ≡ cache st
-  met_still st name progress on = weighed_same weight (is_started (with_progress st name progress)) (is_started st) entries (λ other. started_marked st name progress other ∙ go other (bytes_eq name other) refl)
+  seen_still : (st : State) (name : List ℕ) (progress : Progress Size) → is_started st name ≡ true → cache (with_progress st name progress) ≡ cache st
+  seen_still st name progress on = weighed_same weight (is_started (with_progress st name progress)) (is_started st) entries (λ other. started_with_progress st name progress other ∙ go other (bytes_eq name other) refl)
     where
       go : (other : List ℕ) (b : Bool) → bytes_eq name other ≡ b → (b || is_started st other) ≡ is_started st other
       go other true e = sym on ∙ ap (is_started st) ((bytes_eq-Decides name other).0 e)
       go other false e = refl
 
-  marked_keeps : (st : State) (name : List ℕ) (progress : Progress Size) (other : List ℕ) → is_started st other ≡ true → is_started (with_progress st name progress) other ≡ true
-  marked_keeps st name progress other on = started_marked st name progress other ∙ elim (bytes_eq name other) as (λ b. (b || is_started st other) ≡ true) [ true ↦ refl | false ↦ on ]
+  progress_keeps : (st : State) (name : List ℕ) (progress : Progress Size) (other : List ℕ) → is_started st other ≡ true → is_started (with_progress st name progress) other ≡ true
+  progress_keeps st name progress other on = started_with_progress st name progress other ∙ elim (bytes_eq name other) as (λ b. (b || is_started st other) ≡ true) [ true ↦ refl | false ↦ on ]
 
   -- THE STEPS, each where no text was too deep
   counts : Steps alias_only resolve definitions (λ levels item st answer. IsShallow st → Counted st answer 0) (λ levels items st answer. IsShallow st → Counted st answer (own items)) (λ levels label text st answer. IsShallow st → Counted st answer 0)
@@ -177,16 +177,16 @@ module _ (alias_only : Bool) (resolve : List ℕ → List Item) (definitions : D
     deep = λ label text st shallow. record { left = 0; adds = omega arith; all = λ size e. refl; keeps = λ name on. on; shallow = λ size e. shallow };
     known = λ levels label text st progress r stored is e shallow. record { left = 0; adds = omega arith; all = λ size e. refl; keeps = λ name on. on; shallow = λ size e. shallow };
     fresh = λ levels label text st answer stored unread h shallow.
-        let c = h (shallow_marked st label.name InProgress (λ levels e. cc) shallow) in
+        let c = h (shallow_with_progress st label.name InProgress (λ levels e. cc) shallow) in
         let progress = last_progress (suc levels) answer in
-        let new = met_more st label.name text stored (unread_new st label.name (suc levels) shallow unread (st.by_name label.name) refl) in
-        let still = met_still answer.1 label.name progress (c.keeps label.name (rw ((bytes_eq-Decides label.name label.name).1 refl) refl)) in
+        let new = seen_more st label.name text stored (unread_new st label.name (suc levels) shallow unread (st.by_name label.name) refl) in
+        let still = seen_still answer.1 label.name progress (c.keeps label.name (rw ((bytes_eq-Decides label.name label.name).1 refl) refl)) in
         record {
           left = c.left;
           adds = omega (arith, c.adds, new, still);
           all = c.all;
-          keeps = λ name on. marked_keeps answer.1 label.name progress name (c.keeps name (marked_keeps st label.name InProgress name on));
-          shallow = λ size e. shallow_marked answer.1 label.name progress (last_shallow (suc levels) answer size e) (c.shallow size e);
+          keeps = λ name on. progress_keeps answer.1 label.name progress name (c.keeps name (progress_keeps st label.name InProgress name on));
+          shallow = λ size e. shallow_with_progress answer.1 label.name progress (last_shallow (suc levels) answer size e) (c.shallow size e);
         };
   }
 

@@ -6,11 +6,11 @@ use Rattle.std.specs.BTreeMap.{BTreeMap, is_at}
 use Rattle.std.specs.Map.{lookup}
 use Rattle.std.specs.Option.{option_map}
 use Rattle.std.specs.FinMap as finite
-use Rattle.grok.specs.declared.measure.Failure.{Failure}
-use Rattle.grok.specs.declared.measure.Frame.{Frame}
-use Rattle.grok.specs.declared.measure.PartialSize.{PartialSize}
-use Rattle.grok.specs.declared.measure.MeasureCache.{MeasureCache}
-use Rattle.grok.specs.declared.measure.Progress.{Progress}
+use Rattle.grok.specs.declared.measure.partial_size.Failure.{Failure}
+use Rattle.grok.specs.declared.measure.measurer.Frame.{Frame}
+use Rattle.grok.specs.declared.measure.partial_size.PartialSize.{PartialSize}
+use Rattle.grok.specs.declared.measure.cache.MeasureCache.{MeasureCache}
+use Rattle.grok.specs.declared.measure.cache.Progress.{Progress}
 use Rattle.grok.specs.Maps.{Texts}
 use Rattle.grok.specs.Tree.{Item, items_of, Event, deepest, tree, first_structural, reached}
 use Rattle.grok.specs.Keys.{has_numbered_alias}
@@ -74,5 +74,5 @@ module _ (texts : Texts) (alias_only : Bool) (pattern : List ℕ) where
     pub ends_read : cache.looks.ends ≡ counted (reading_of texts alias_only pattern).ends
     ends_read = given.shows.ends ∙ ap counted (sym tallies.ends)
 
-    pub bracket_is : cache.has_numbered_alias ≡ has_numbered_alias (reached whole)
-    bracket_is = given.shows.numbered_alias ∙ sym tallies.numbered_alias ∙ theorem.numbered_alias
+    pub numbered_alias_is : cache.has_numbered_alias ≡ has_numbered_alias (reached whole)
+    numbered_alias_is = given.shows.numbered_alias ∙ sym tallies.numbered_alias ∙ theorem.numbered_alias

@@ -3,14 +3,14 @@ use Rattle.std.proofs.Common.{◌≡◌, ℕ, zero, suc, ◌+◌, ◌-◌, ◌<�
 use Rattle.std.specs.Option.{option_map}
 use Rattle.std.specs.BTreeMap.{BTreeMap}
 use Rattle.std.specs.Str.{bytes_eq}
-use Rattle.grok.specs.declared.measure.PartialSize.{PartialSize}
-use Rattle.grok.specs.declared.measure.MeasureCache.{MeasureCache}
-use Rattle.grok.specs.declared.measure.Progress.{Progress}
-use Rattle.grok.specs.declared.measure.Progress.TheVariants as progress
-use Rattle.grok.specs.declared.measure.Failure.{Failure}
-use Rattle.grok.specs.declared.measure.Frame.{Frame}
-use Rattle.grok.specs.declared.measure.PlaceholderSize.{PlaceholderSize}
-use Rattle.grok.specs.declared.measure.PlaceholderSize.TheVariants.{Measured, Unread}
+use Rattle.grok.specs.declared.measure.partial_size.PartialSize.{PartialSize}
+use Rattle.grok.specs.declared.measure.cache.MeasureCache.{MeasureCache}
+use Rattle.grok.specs.declared.measure.cache.Progress.{Progress}
+use Rattle.grok.specs.declared.measure.cache.Progress.TheVariants as progress
+use Rattle.grok.specs.declared.measure.partial_size.Failure.{Failure}
+use Rattle.grok.specs.declared.measure.measurer.Frame.{Frame}
+use Rattle.grok.specs.declared.measure.placeholders.PlaceholderSize.{PlaceholderSize}
+use Rattle.grok.specs.declared.measure.placeholders.PlaceholderSize.TheVariants.{Measured, Unread}
 use Rattle.grok.specs.declared.defs.items.Label.{Label as CodeLabel}
 use Rattle.grok.specs.Tree.{Fault, MalformedPiece, Missing, TooDeep, Label, Meaning, Inline, Stored, Item, TextItem, FaultItem, PlaceholderItem}
 use Rattle.grok.specs.Items.{fault_view, label_view}
@@ -30,10 +30,10 @@ pushed : (b : Bool) (progress : Progress) (known : kept.Progress Size) (now : Op
 pushed true progress known now old is same = ap Some is
 pushed false progress known now old is same = same
 
-pub marked_shows : (cache : MeasureCache) (by_name : BTreeMap (Bor (List ℕ)) Progress) (name : List ℕ) (progress : Progress)
+pub progress_shows : (cache : MeasureCache) (by_name : BTreeMap (Bor (List ℕ)) Progress) (name : List ℕ) (progress : Progress)
     → HasProgress name progress cache (record cache { by_name = by_name })
     → (st : State) (known : kept.Progress Size) → progress_view progress ≡ shown_progress known → ShowsState cache st → ShowsState (record cache { by_name = by_name }) (with_progress st name known)
-marked_shows cache by_name name progress updates st known is s = record {
+progress_shows cache by_name name progress updates st known is s = record {
   by_name = λ other. ap (option_map progress_view) (updates other) ∙ pushed (bytes_eq name other) progress known (progress_of cache.by_name other) (st.by_name other) is (s.by_name other);
   pieces = s.pieces;
   ends = s.ends;
@@ -138,13 +138,13 @@ unwinds_more levels n all left frame fault st cache after progress height next u
 reached : (st : State) (m n : ℕ) → m ≡ n → with_reach st m ≡ with_reach st n
 reached st m n e = ap (with_reach st) e
 
-behind_none : (answer : Reading) → after_size no_size answer ≡ answer
-behind_none answer =
+after_no_size : (answer : Reading) → after_size no_size answer ≡ answer
+after_no_size answer =
     let same : max 0 answer.1.reach ≡ answer.1.reach = omega arith in
     λ i. (both_none answer.0 i, reached answer.1 (max 0 answer.1.reach) answer.1.reach same i)
 
-behind_twice : (a b : Size) (answer : Reading) → after_size a (after_size b answer) ≡ after_size (plus a b) answer
-behind_twice a b answer =
+after_two_sizes : (a b : Size) (answer : Reading) → after_size a (after_size b answer) ≡ after_size (plus a b) answer
+after_two_sizes a b answer =
     let same : max a.height (max b.height answer.1.reach) ≡ max (max a.height b.height) answer.1.reach = omega arith in
     λ i. (sym (both_assoc (Ok a) (Ok b) answer.0) i, reached answer.1 (max a.height (max b.height answer.1.reach)) (max (max a.height b.height) answer.1.reach) same i)
 
@@ -300,7 +300,7 @@ module _ (alias_only : Bool) (resolve : List ℕ → List Item) where
   pub goes_on_start : (levels : ℕ) (all : List Item) (st : State) (so_far : PartialSize) (cache : MeasureCache) → so_far ≡ shown no_size → ShowsState cache st → GoesOn levels (reads levels all st) [] all so_far cache
   goes_on_start levels all st so_far cache e shows =
       let same : levels - 0 ≡ levels = omega arith in
-      record { now = st; total = no_size; is_sum = e; shows = shows; rest = sym (behind_none (reads levels all st)) ∙ ap (λ n. after_size no_size (reads n all st)) (sym same) }
+      record { now = st; total = no_size; is_sum = e; shows = shows; rest = sym (after_no_size (reads levels all st)) ∙ ap (λ n. after_size no_size (reads n all st)) (sym same) }
 
   -- a text has ended, and the one around it goes on
   pub end_goes_on : (levels : ℕ) (whole : Reading) (frames : List Frame) (frame : Frame) (so_far sum : PartialSize) (cache after : MeasureCache) → GoesOn levels whole (frames ++ frame ∷ []) [] so_far cache
@@ -316,7 +316,7 @@ module _ (alias_only : Bool) (resolve : List ℕ → List Item) where
       let last = deeper (with_progress read frame.name.now (HasSize g.total)) in
       let same : around (levels - length frames) frame.name.now frame.is_capturing frame.items p.total inner ≡ after_size (plus p.total size) (left last) =
       ap (λ (z : Size). around (levels - length frames) frame.name.now frame.is_capturing frame.items p.total (Ok z, read)) (plus_none_right g.total)
-      ∙ behind_twice p.total size (left last) in
+      ∙ after_two_sizes p.total size (left last) in
       record {
         now = last;
         total = plus p.total size;
@@ -359,7 +359,7 @@ module _ (alias_only : Bool) (resolve : List ℕ → List Item) where
       sum_goes_on one sum is adds =
           let (z, p, q) = shown_ok here.0 one (sym (ap result_view is) ∙ gives.same) in
           let over : after_size g.total (reads room (item ∷ left) g.now) ≡ after_size (plus g.total z) (reads room left here.1) =
-          ap (λ (a : Result Size Fault). after_size g.total (then_rest a here.1 (reads room left))) p ∙ behind_twice g.total z (reads room left here.1) in
+          ap (λ (a : Result Size Fault). after_size g.total (then_rest a here.1 (reads room left))) p ∙ after_two_sizes g.total z (reads room left here.1) in
           record {
             now = here.1;
             total = plus g.total z;
@@ -389,7 +389,7 @@ module _ (alias_only : Bool) (resolve : List ℕ → List Item) where
         ∙ ap (λ (a : Reading). after_size g.total (then_rest (wrapped alias_only l a.0) (deeper a.1) (reads room left))) visited
         ∙ ap (λ b. around room label.name.now b left g.total inner) (sym has_key) in
         let same : inner ≡ after_size no_size (reads (levels - length (frames ++ frame ∷ [])) (resolve text) now) =
-        sym (behind_none inner) ∙ ap (λ n. after_size no_size (reads n (resolve text) now)) less in
+        sym (after_no_size inner) ∙ ap (λ n. after_size no_size (reads n (resolve text) now)) less in
         record {
           now = now;
           total = no_size;

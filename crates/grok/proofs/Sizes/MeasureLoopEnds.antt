@@ -3,10 +3,10 @@ use Rattle.std.proofs.Common.{◌≡◌, ℕ, suc, ◌+◌, ◌-◌, ◌<◌, �
 use Rattle.std.proofs.lemmas.Slice.Eq.{bytes_eq-Decides}
 use Rattle.std.specs.Prelude.{not}
 use Rattle.std.specs.Str.{bytes_eq}
-use Rattle.grok.specs.declared.measure.MeasureCache.{MeasureCache}
-use Rattle.grok.specs.declared.measure.Progress.{Progress}
-use Rattle.grok.specs.declared.measure.Progress.TheVariants.{InProgress}
-use Rattle.grok.specs.declared.measure.Frame.{Frame}
+use Rattle.grok.specs.declared.measure.cache.MeasureCache.{MeasureCache}
+use Rattle.grok.specs.declared.measure.cache.Progress.{Progress}
+use Rattle.grok.specs.declared.measure.cache.Progress.TheVariants.{InProgress}
+use Rattle.grok.specs.declared.measure.measurer.Frame.{Frame}
 use Rattle.grok.specs.Tree.{Definitions, Label, Stored, Item, PlaceholderItem}
 use Rattle.grok.specs.Measured.{weighed}
 use Rattle.grok.specs.MeasureCache.{progress_of, is_kept, HasProgress, AreLow}

@@ -2,10 +2,10 @@
 use Rattle.std.proofs.Common.{◌≡◌, ℕ, Bool, List, length, Result, Some, Ok, Err, refl, sym, ◌∙◌, ap, subst, inl, inr}
 use Rattle.std.specs.Prelude.{MatchResult}
 use Rattle.std.specs.FinMap as finite
-use Rattle.grok.specs.declared.measure.Failure.{Failure}
-use Rattle.grok.specs.declared.measure.PartialSize.{PartialSize}
-use Rattle.grok.specs.declared.measure.MeasureCache.{MeasureCache}
-use Rattle.grok.specs.declared.measure.Frame.{Frame}
+use Rattle.grok.specs.declared.measure.partial_size.Failure.{Failure}
+use Rattle.grok.specs.declared.measure.partial_size.PartialSize.{PartialSize}
+use Rattle.grok.specs.declared.measure.cache.MeasureCache.{MeasureCache}
+use Rattle.grok.specs.declared.measure.measurer.Frame.{Frame}
 use Rattle.grok.specs.Maps.{Texts}
 use Rattle.grok.specs.Tree.{Fault, Item, items_of, deepest, tree}
 use Rattle.grok.specs.Expanded.{expanded, groups, nesting}

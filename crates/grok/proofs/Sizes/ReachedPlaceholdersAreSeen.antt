@@ -14,9 +14,9 @@ use Rattle.grok.specs.MeasuredOnce.{Progress, InProgress, known_result, State, w
 use Rattle.grok.specs.Measured.{reaches}
 use Rattle.grok.proofs.Sizes.TextsWithoutPlaceholders.{IsSound}
 use Rattle.grok.proofs.Sizes.SizeIsThatOfTree.{tree_sizes}
-use Rattle.grok.proofs.Sizes.ReadingInduction.{last_progress, with_last_progress, finish_marks, after_size, Steps, reads}
+use Rattle.grok.proofs.Sizes.ReadingInduction.{last_progress, with_last_progress, finish_sets_progress, after_size, Steps, reads}
 use Rattle.grok.proofs.Sizes.RememberingChangesNothing.{measure_right}
-use Rattle.grok.proofs.Sizes.CountersAreExact.{is_started, started_marked}
+use Rattle.grok.proofs.Sizes.CountersAreExact.{is_started, started_with_progress}
 use Rattle.grok.proofs.Trees.FaultInPlaceOfOpen as block
 use Rattle.grok.proofs.Trees.FaultInPlaceOfOpen.{stop}
 
@@ -30,7 +30,7 @@ or_right : (a b : Bool) → b ≡ true → (a || b) ≡ true
 or_right true b e = refl
 or_right false b e = e
 
--- What is watched for: labels, and names whose stored text is opened. The flag is on once reading has met one, and `has` tells whether a list of events has one.
+-- What is watched for: labels, and names whose stored text is opened. The flag is on once one was read, and `has` tells whether a list of events has one.
 pub record Watch : Type 0 where
   pub of_label : Label → Bool
   pub of_name : List ℕ → Bool
@@ -70,7 +70,7 @@ module _ (w : Watch) (is_watch : IsWatch w) (marker : Fault) (alias_only : Bool)
   abbrev blocking : List ℕ → List Item
   blocking = block.blocking (is_watched w) marker resolve
 
-  -- the other reading is the same and nothing was met, or it ends at the fault that stands for what was met
+  -- the other reading is the same and none was read, or it ends at the fault that stands for what was read
   abbrev Alike : Reading → Reading → Type 0
   Alike answer other = ((other ≡ answer) × (is_on w answer.1 ≡ false)) ⊎ ((other.0 ≡ Err marker) × IsSeen w answer)
 
@@ -89,14 +89,14 @@ module _ (w : Watch) (is_watch : IsWatch w) (marker : Fault) (alias_only : Bool)
     same : w.of_name label.name ≡ false → is_on w st ≡ false → Alike answer (visit alias_only blocking levels label.name text st)
     cache : w.of_name label.name ≡ true → IsSeen w answer
 
-  -- what was met inside brackets, or behind a size
-  met_enclosed : (label : Label) (answer : Reading) → IsSeen w answer → IsSeen w (enclosed alias_only label answer)
-  met_enclosed label answer (inl on) = inl on
-  met_enclosed label answer (inr (fault, name, e, watched)) = inr (fault, name, ap (wrapped alias_only label) e, watched)
+  -- what was read inside brackets, or after a size
+  seen_enclosed : (label : Label) (answer : Reading) → IsSeen w answer → IsSeen w (enclosed alias_only label answer)
+  seen_enclosed label answer (inl on) = inl on
+  seen_enclosed label answer (inr (fault, name, e, watched)) = inr (fault, name, ap (wrapped alias_only label) e, watched)
 
-  met_behind : (size : Size) (later : Reading) → IsSeen w later → IsSeen w (after_size size later)
-  met_behind size later (inl on) = inl on
-  met_behind size later (inr (fault, name, e, watched)) = inr (fault, name, ap (both (Ok size)) e, watched)
+  seen_after_size : (size : Size) (later : Reading) → IsSeen w later → IsSeen w (after_size size later)
+  seen_after_size size later (inl on) = inl on
+  seen_after_size size later (inr (fault, name, e, watched)) = inr (fault, name, ap (both (Ok size)) e, watched)
 
   -- the flag stays on
   label_on : (label : Label) (st : State) → is_on w st ≡ true → is_on w (labelled label st) ≡ true
@@ -114,10 +114,10 @@ module _ (w : Watch) (is_watch : IsWatch w) (marker : Fault) (alias_only : Bool)
       → (a b : Bool) → w.of_label label ≡ a → w.of_name label.name ≡ b
       → Alike (enclosed alias_only label inner) (item_within alias_only blocking levels (cond (a || b) (FaultItem marker) (PlaceholderItem label (Stored text))) st)
   seen_stored levels label text st inner h off true b e f = inr (refl, inl (h.keeps (rw (is_watch.labels label st, e) refl)))
-  seen_stored levels label text st inner h off false true e f = inr (refl, met_enclosed label inner (h.cache f))
+  seen_stored levels label text st inner h off false true e f = inr (refl, seen_enclosed label inner (h.cache f))
   seen_stored levels label text st inner h off false false e f = elim (h.same f (rw (is_watch.labels label st, e) off)) [
     | inl (same, still) ↦ inl (ap (enclosed alias_only label) same, still)
-    | inr (ends, cache) ↦ inr (ap (wrapped alias_only label) ends, met_enclosed label inner cache)
+    | inr (ends, cache) ↦ inr (ap (wrapped alias_only label) ends, seen_enclosed label inner cache)
   ]
 
   -- a fault that ends an item ends the items
@@ -152,7 +152,7 @@ module _ (w : Watch) (is_watch : IsWatch w) (marker : Fault) (alias_only : Bool)
                 let here = ap (λ (x : Reading). then_rest x.0 x.1 rest) same in
                 elim (l.same still) [
                   | inl (same', still') ↦ inl (here ∙ ap (after_size a) same', still')
-                  | inr (ends, cache) ↦ inr (ap (λ (x : Reading). x.0) here ∙ ap (both (Ok a)) ends, met_behind a later cache)
+                  | inr (ends, cache) ↦ inr (ap (λ (x : Reading). x.0) here ∙ ap (both (Ok a)) ends, seen_after_size a later cache)
                 ]
             | inr (ends, inl on) ↦ inr (ends_there (item_within alias_only blocking levels (blocked item) (piece_read st)) rest ends, inl (l.keeps on))
             | inr (ends, inr (fault, name, e, watched)) ↦ cc
@@ -170,7 +170,7 @@ module _ (w : Watch) (is_watch : IsWatch w) (marker : Fault) (alias_only : Bool)
         let name = label.name in
         let progress = last_progress (suc levels) answer in
         let other = items_within alias_only blocking levels (blocking text) (with_progress st name InProgress) in
-        let read = unread_progress (suc levels) st (finish name (suc levels) other) (st.by_name name) unread ∙ sym (finish_marks name (suc levels) other) in
+        let read = unread_progress (suc levels) st (finish name (suc levels) other) (st.by_name name) unread ∙ sym (finish_sets_progress name (suc levels) other) in
         record {
           keeps = λ on. name_on name progress answer.1 (h.keeps (name_on name InProgress st on));
           same = λ apart off. elim (h.same (rw (is_watch.names name InProgress st, apart) off)) [
@@ -208,11 +208,11 @@ another (Some (MalformedPiece fault)) = (TooDeep, λ e. cc)
 another (Some (Missing name)) = (TooDeep, λ e. cc)
 another (Some TooDeep) = (Missing [], λ e. cc)
 
-marks_stop : (marker : Fault) (o : Option Fault) (b : Bool) → (o ≡ Some marker → ⊥) → cond b (Some marker) o ≡ Some marker → b ≡ true
-marks_stop marker o true apart e = refl
-marks_stop marker o false apart e = absurd (apart e)
+progress_stops : (marker : Fault) (o : Option Fault) (b : Bool) → (o ≡ Some marker → ⊥) → cond b (Some marker) o ≡ Some marker → b ≡ true
+progress_stops marker o true apart e = refl
+progress_stops marker o false apart e = absurd (apart e)
 
--- THE THEOREM: the flag is on only where the tree reaches what is watched for, and then it was met
+-- THE THEOREM: the flag is on only where the tree reaches what is watched for, and then it was read
 pub record Watched (w : Watch) (answer : Reading) (tree : List Event) : Type 0 where
   pub only : is_on w answer.1 ≡ true → w.has (reached tree) ≡ true
   pub every : w.has (reached tree) ≡ true → IsSeen w answer
@@ -233,7 +233,7 @@ watched w is_watch alias_only resolve definitions sound levels pattern =
             only = λ on. absurd (true≢false (sym on ∙ off));
             every = λ there. absurd (apart (one ∙ ap (λ b. cond b (Some marker) (first_structural tree)) there));
           }
-      | inr (ends, cache) ↦ record { only = λ on. marks_stop marker (first_structural tree) _ apart (sym stops ∙ fault' ∙ ap fault_of ends); every = λ there. cache }
+      | inr (ends, cache) ↦ record { only = λ on. progress_stops marker (first_structural tree) _ apart (sym stops ∙ fault' ∙ ap fault_of ends); every = λ there. cache }
     ]
 
 -- ---- an alias that ends in a number in brackets
@@ -269,20 +269,20 @@ names_stop name marker (Open label (Stored text) ∷ es) =
     elim (bytes_eq label.name name) as (λ b. cond b (Some marker) (stop (is_watched (names name)) marker es) ≡ cond (cond b true (reaches name (reached es))) (Some marker) (first_structural es)) [ true ↦ refl | false ↦ rest ]
 
 module _ (alias_only : Bool) (resolve : List ℕ → List Item) (definitions : Definitions) (sound : IsSound resolve definitions) where
-  -- whether an alias that ends so was met is whether the tree reaches one
+  -- whether an alias that ends so was read is whether the tree reaches one
   pub measure_flags : (levels : ℕ) (pattern : List ℕ) → (measure_within levels alias_only resolve pattern).1.numbered_alias ≡ has_numbered_alias (reached (tree_within levels resolve pattern))
   measure_flags levels pattern =
       let is_watch : IsWatch aliases = record { starts_off = refl; labels = λ label st. refl; names = λ name progress st. refl; known = λ name progress st never is. cc; stops = aliases_stop } in
       let h = watched aliases is_watch alias_only resolve definitions sound levels pattern in
       alike _ _ h.only (λ there. elim (h.every there) [ inl on ↦ on | inr (fault, name, e, never) ↦ cc ])
 
-  -- a name is met only where the tree reaches it, and where there is no fault it was
+  -- a name is read only where the tree reaches it, and if there is no fault it was read
   pub measure_meets : (levels : ℕ) (pattern name : List ℕ) → Watched (names name) (measure_within levels alias_only resolve pattern) (tree_within levels resolve pattern)
   measure_meets levels pattern name =
       let is_watch : IsWatch (names name) = record {
         starts_off = refl;
         labels = λ label st. refl;
-        names = λ other progress st. started_marked st other progress name;
+        names = λ other progress st. started_with_progress st other progress name;
         known = λ other progress st same is. subst (λ n. is_started st n ≡ true) ((bytes_eq-Decides other name).0 same) (rw is refl);
         stops = names_stop name;
       } in

@@ -14,9 +14,9 @@ last_progress levels (Err fault, st) = failed_progress fault levels st.reach
 abbrev pub with_last_progress : List ℕ → ℕ → Reading → Reading
 with_last_progress name levels answer = (answer.0, with_progress answer.1 name (last_progress levels answer))
 
-pub finish_marks : (name : List ℕ) (levels : ℕ) (answer : Reading) → with_last_progress name levels answer ≡ finish name levels answer
-finish_marks name levels (Ok size, st) = refl
-finish_marks name levels (Err fault, st) = refl
+pub finish_sets_progress : (name : List ℕ) (levels : ℕ) (answer : Reading) → with_last_progress name levels answer ≡ finish name levels answer
+finish_sets_progress name levels (Ok size, st) = refl
+finish_sets_progress name levels (Err fault, st) = refl
 
 -- an item with this size, and the result of the items after it
 abbrev pub after_size : Size → Reading → Reading
@@ -70,17 +70,17 @@ module _ (alias_only : Bool) (resolve : List ℕ → List Item) (definitions : D
         (steps.stored levels label text (piece_read st) inner (v label text (labelled label (piece_read st)) sound.0)) (λ st'. items_read levels v items st' sound.1)
 
     -- a definition with this progress, or with none
-    by_mark_reads : (levels : ℕ) (label : Label) (text : List ℕ) (st : State) (answer : Reading) → definitions label.name ≡ Some text → OfItems levels (resolve text) (with_progress st label.name InProgress) answer
+    by_progress_reads : (levels : ℕ) (label : Label) (text : List ℕ) (st : State) (answer : Reading) → definitions label.name ≡ Some text → OfItems levels (resolve text) (with_progress st label.name InProgress) answer
         → (known : Option (Progress Size)) → st.by_name label.name ≡ known → OfText (suc levels) label text st (by_progress known (suc levels) st (finish label.name (suc levels) answer))
-    by_mark_reads levels label text st answer stored h None is =
-        subst (OfText (suc levels) label text st) (finish_marks label.name (suc levels) answer)
+    by_progress_reads levels label text st answer stored h None is =
+        subst (OfText (suc levels) label text st) (finish_sets_progress label.name (suc levels) answer)
         (steps.fresh levels label text st answer stored (λ progress e. let bad : None ≡ Some progress = sym is ∙ e in cc) h)
-    by_mark_reads levels label text st answer stored h (Some progress) is = go (known_result progress (suc levels)) refl
+    by_progress_reads levels label text st answer stored h (Some progress) is = go (known_result progress (suc levels)) refl
       where
         go : (o : Option (Result Size Fault)) → known_result progress (suc levels) ≡ o
             → OfText (suc levels) label text st (by_result o (with_reach st (reach_within progress (suc levels))) (finish label.name (suc levels) answer))
         go None e =
-            subst (OfText (suc levels) label text st) (finish_marks label.name (suc levels) answer)
+            subst (OfText (suc levels) label text st) (finish_sets_progress label.name (suc levels) answer)
             (steps.fresh levels label text st answer stored (λ other f. let same : progress ≡ other = cc in subst (λ m. known_result m (suc levels) ≡ None) same e) h)
         go (Some r) e = steps.known levels label text st progress r stored is e
 
@@ -89,7 +89,7 @@ module _ (alias_only : Bool) (resolve : List ℕ → List Item) (definitions : D
       text_reads zero label text st stored = steps.deep label text st
       text_reads (suc levels) label text st stored =
           let begun = with_progress st label.name InProgress in
-          by_mark_reads levels label text st (items_within alias_only resolve levels (resolve text) begun) stored
+          by_progress_reads levels label text st (items_within alias_only resolve levels (resolve text) begun) stored
           (items_read levels (text_reads levels) (resolve text) begun (sound.sound text)) (st.by_name label.name) refl
 
       -- THE INDUCTION

@@ -7,14 +7,14 @@ use Rattle.grok.specs.Tree.{Definitions, Fault, MalformedPiece, Missing, TooDeep
 use Rattle.grok.specs.Sizes.{Size, no_size, size_of_bytes, both, wrapped, sizes, size_or_fault}
 use Rattle.grok.specs.MeasuredOnce.{Progress, InProgress, known_result, State, updated, with_progress, Reading, nothing_measured, items_within, measure_within}
 use Rattle.grok.specs.MeasureCache.{HoldsOfText}
-use Rattle.grok.proofs.Sizes.SizesByLevels.{Settles, settles_always, settles_wrapped, settles_first, deep_behind, settles_behind, settles_text, settles_inline, high, of_text, of_item, of_items, circle, last_says, known_settles}
+use Rattle.grok.proofs.Sizes.SizesByLevels.{Settles, settles_always, settles_wrapped, settles_first, deep_after_size, settles_after_size, settles_text, settles_inline, high, of_text, of_item, of_items, circle, last_says, known_settles}
 use Rattle.grok.proofs.Sizes.TextsWithoutPlaceholders.{IsSound, flat_measured}
 use Rattle.grok.proofs.Sizes.ReadingInduction.{last_progress, Steps, reads}
 
 -- after a progress is set for one name, each name has that progress or the one it had
-pub marked_cases : (by_name : List ℕ → Option (Progress Size)) (name : List ℕ) (progress : Progress Size) (other : List ℕ)
+pub progress_cases : (by_name : List ℕ → Option (Progress Size)) (name : List ℕ) (progress : Progress Size) (other : List ℕ)
     → ((name ≡ other) × (updated by_name name progress other ≡ Some progress)) ⊎ ((name ≡ other → ⊥) × (updated by_name name progress other ≡ by_name other))
-marked_cases by_name name progress other = go (bytes_eq name other) refl
+progress_cases by_name name progress other = go (bytes_eq name other) refl
   where
     go : (b : Bool) → bytes_eq name other ≡ b → ((name ≡ other) × (cond (bytes_eq name other) (Some progress) (by_name other) ≡ Some progress)) ⊎ ((name ≡ other → ⊥) × (cond (bytes_eq name other) (Some progress) (by_name other) ≡ by_name other))
     go true e = inl ((bytes_eq-Decides name other).0 e, rw e refl)
@@ -58,7 +58,7 @@ module _ (alias_only : Bool) (resolve : List ℕ → List Item) (definitions : D
 
   -- a name's text is opened
   lead_open : (st : State) (name text : List ℕ) → definitions name ≡ Some text → OpenLead st (of_text alias_only resolve text) → OpenLead (with_progress st name InProgress) (of_items alias_only resolve (resolve text))
-  lead_open st name text stored lead other text' is stored' = elim (marked_cases st.by_name name InProgress other) [
+  lead_open st name text stored lead other text' is stored' = elim (progress_cases st.by_name name InProgress other) [
     | inl (same, progress) ↦
         let here : definitions name ≡ definitions other = ap definitions same in
         let one : text ≡ text' = cc in
@@ -69,9 +69,9 @@ module _ (alias_only : Bool) (resolve : List ℕ → List Item) (definitions : D
   ]
 
   -- the progress that is set for a name is right for its definition
-  honest_marked : (st : State) (name text : List ℕ) (progress : Progress Size) → definitions name ≡ Some text → (progress ≡ InProgress) ⊎ HoldsOfText alias_only resolve progress text → IsHonest st
+  correct_with_progress : (st : State) (name text : List ℕ) (progress : Progress Size) → definitions name ≡ Some text → (progress ≡ InProgress) ⊎ HoldsOfText alias_only resolve progress text → IsHonest st
       → IsHonest (with_progress st name progress)
-  honest_marked st name text progress stored says honest other progress' text' is stored' = elim (marked_cases st.by_name name progress other) [
+  correct_with_progress st name text progress stored says honest other progress' text' is stored' = elim (progress_cases st.by_name name progress other) [
     | inl (same, it) ↦
         let here : definitions name ≡ definitions other = ap definitions same in
         let one : text ≡ text' = cc in
@@ -84,9 +84,9 @@ module _ (alias_only : Bool) (resolve : List ℕ → List Item) (definitions : D
   -- a definition that was measured is no longer in progress
   ended_opens : (st st' : State) (name : List ℕ) (progress : Progress Size) → (progress ≡ InProgress → ⊥) → ((other : List ℕ) → st'.by_name other ≡ Some InProgress → (with_progress st name InProgress).by_name other ≡ Some InProgress)
       → (other : List ℕ) → (with_progress st' name progress).by_name other ≡ Some InProgress → st.by_name other ≡ Some InProgress
-  ended_opens st st' name progress other_mark opens other is = elim (marked_cases st'.by_name name progress other) [
+  ended_opens st st' name progress other_mark opens other is = elim (progress_cases st'.by_name name progress other) [
     | inl (same, it) ↦ let bad : Some progress ≡ Some InProgress = sym it ∙ is in absurd (other_mark (let m : progress ≡ InProgress = cc in m))
-    | inr (apart, old) ↦ elim (marked_cases st.by_name name InProgress other) [
+    | inr (apart, old) ↦ elim (progress_cases st.by_name name InProgress other) [
       | inl (same, it) ↦ absurd (apart same)
       | inr (apart', before) ↦ sym before ∙ opens other (sym old ∙ is)
     ]
@@ -148,12 +148,12 @@ module _ (alias_only : Bool) (resolve : List ℕ → List Item) (definitions : D
         let g = of_items alias_only resolve items in
         let o = h items honest lead in
         let here = o.settles (λ e. cc) in
-        let lead' = lead_through st (of_items alias_only resolve (item ∷ items)) g (deep_behind f g a.height a here) lead in
+        let lead' = lead_through st (of_items alias_only resolve (item ∷ items)) g (deep_after_size f g a.height a here) lead in
         let l = rest o.honest (λ name text cache stored. lead' name text (o.opens name cache) stored) in
         record {
           same = ap (λ r. both r later.0) o.same ∙ ap (both (f levels)) l.same;
           settles = λ real. subst (λ n. Settles (of_items alias_only resolve (item ∷ items)) n (both (Ok a) later.0)) (high_both a later.0 later.1.reach)
-              (settles_behind f g a.height (high later.0 later.1.reach) a later.0 here (l.settles (λ e. real (ap (both (Ok a)) e))));
+              (settles_after_size f g a.height (high later.0 later.1.reach) a later.0 here (l.settles (λ e. real (ap (both (Ok a)) e))));
           honest = l.honest;
           opens = λ name cache. o.opens name (l.opens name cache);
         };
@@ -167,14 +167,14 @@ module _ (alias_only : Bool) (resolve : List ℕ → List Item) (definitions : D
           opens = λ name cache. cache;
         };
     fresh = λ levels label text st answer stored unread h honest lead.
-        let o = h (honest_marked st label.name text InProgress stored (inl refl) honest) (lead_open st label.name text stored lead) in
+        let o = h (correct_with_progress st label.name text InProgress stored (inl refl) honest) (lead_open st label.name text stored lead) in
         let progress = last_progress (suc levels) answer in
         let least = high answer.0 answer.1.reach in
         let settles : (answer.0 ≡ Err TooDeep → ⊥) → Settles (of_text alias_only resolve text) (suc least) answer.0 = λ real. settles_text alias_only resolve text least answer.0 (o.settles real) in
         record {
           same = o.same;
           settles = settles;
-          honest = honest_marked answer.1 label.name text progress stored (inr (last_says alias_only resolve (suc levels) text answer o.same settles)) o.honest;
+          honest = correct_with_progress answer.1 label.name text progress stored (inr (last_says alias_only resolve (suc levels) text answer o.same settles)) o.honest;
           opens = ended_opens st answer.1 label.name progress (last_not_begun (suc levels) answer) o.opens;
         };
   }

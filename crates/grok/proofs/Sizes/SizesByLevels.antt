@@ -48,17 +48,17 @@ module _ (f g : ℕ → Result Size Fault) where
   settles_first least fault h = record { fits = λ n le. ap (λ r. both r (g n)) (h.fits n le); deep = λ n low. ap (λ r. both r (g n)) (h.deep n low) }
 
   -- after a text with a size
-  pub deep_behind : (least : ℕ) (a : Size) → Settles f least (Ok a) → (n : ℕ) → g n ≡ Err TooDeep → both (f n) (g n) ≡ Err TooDeep
-  deep_behind least a h n deep = elim (cases_lt n least) [
+  pub deep_after_size : (least : ℕ) (a : Size) → Settles f least (Ok a) → (n : ℕ) → g n ≡ Err TooDeep → both (f n) (g n) ≡ Err TooDeep
+  deep_after_size least a h n deep = elim (cases_lt n least) [
     | inl below ↦ ap (λ r. both r (g n)) (h.deep n below)
     | inr room ↦ ap (λ r. both r (g n)) (h.fits n room) ∙ ap (both (Ok a)) deep
   ]
 
-  pub settles_behind : (here least : ℕ) (a : Size) (r : Result Size Fault) → Settles f here (Ok a) → Settles g least r → Settles (λ n. both (f n) (g n)) (max here least) (both (Ok a) r)
-  settles_behind here least a r h l = record {
+  pub settles_after_size : (here least : ℕ) (a : Size) (r : Result Size Fault) → Settles f here (Ok a) → Settles g least r → Settles (λ n. both (f n) (g n)) (max here least) (both (Ok a) r)
+  settles_after_size here least a r h l = record {
     fits = λ n le. ap (λ r. both r (g n)) (h.fits n (omega arith)) ∙ ap (both (Ok a)) (l.fits n (omega arith));
     deep = λ n low. elim (cases_lt n least) [
-      | inl below ↦ deep_behind here a h n (l.deep n below)
+      | inl below ↦ deep_after_size here a h n (l.deep n below)
       | inr room ↦ ap (λ r. both r (g n)) (h.deep n (omega arith))
     ];
   }

@@ -5,7 +5,7 @@ use Rattle.std.specs.Prelude.{nat_lt}
 use Rattle.grok.specs.Sizes.{Size, length_of}
 use Rattle.grok.specs.Measured.{Sized, TooLong, size_within}
 use Rattle.grok.specs.MeasureCache.{fit, shown}
-use Rattle.grok.specs.declared.measure.PartialSize.{PartialSize}
+use Rattle.grok.specs.declared.measure.partial_size.PartialSize.{PartialSize}
 use Rattle.grok.proofs.Sizes.DigitsOfNumbers.{digits_least}
 
 pub fit_some : (n m : ℕ) → Some m ≡ fit n → (m ≡ n) × (n < 2 ^ 64)

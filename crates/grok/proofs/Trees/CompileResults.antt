@@ -18,7 +18,11 @@ use Rattle.grok.specs.Walks.{HasKeys}
 use Rattle.grok.specs.declared.errors.error.Error.{Error}
 use Rattle.grok.specs.declared.errors.error.Error.TheVariants as rust
 use Rattle.grok.specs.Errors.{ErrorValue, Memory, error_value}
-use Rattle.grok.specs.Compiled.{IsFaultError, IsFirstError, error_of_refusal, IsBuilt, IsRefusal, Refused, Expansion, Fits, Compiles, IsCompileError, First, Unbuilt, NoMemory}
+use Rattle.grok.specs.Compiled.{IsFaultError, IsFirstError, error_of_refusal, IsBuilt, IsRefusal, Refused, Expansion, Compiles, IsCompileError, Empty, First, Unbuilt, NoMemory}
+use Rattle.grok.specs.declared.expand.write.ExpandedPattern.{ExpandedPattern}
+use Rattle.grok.specs.declared.why_refused.RegexRefusal.{RegexRefusal}
+use Rattle.grok.specs.Refusals.{Examines}
+use Rattle.grok.specs.Expansions.{NeverRefuses, IsExpansionError, IsExpansionOf, Expands}
 
 -- ---- what was measured
 
@@ -111,20 +115,36 @@ pub unbuilt : (may_refuse : List ℕ → Type 0) (text : List ℕ) (why : Refusa
 unbuilt may_refuse text refusal.Memory error may is = inl is
 unbuilt may_refuse text refusal.Refused error may is = inr (subst (λ e. IsRefusal may_refuse text e) (sym is) (Refused (may refl)))
 
-module _ {E : Type 0} (source_of : E → List ℕ) (group_names : E → List (Option (List ℕ))) (may_refuse : List ℕ → Type 0) (e : Expansion) (some : e.pattern ≢ []) where
-  pub no_memory : (r : Result (PatternValue E) Error) → IsErrAnd r (λ error. error ≡ rust.Memory) → Compiles source_of group_names may_refuse e r
-  no_memory (Ok p) h = elim h [ ]
-  no_memory (Err error) h = subst (λ is. IsCompileError may_refuse e (error_value is)) (sym h) (NoMemory some)
+-- an error of expanding is one of compiling, whatever the engine refuses
+pub expansion_error : (may_refuse : List ℕ → Type 0) (e : Expansion) (error : Error) → IsExpansionError e error → IsCompileError may_refuse e (error_value error)
+expansion_error may_refuse e error h = go (error_value error) h
+  where
+    go : (value : ErrorValue) → IsCompileError NeverRefuses e value → IsCompileError may_refuse e value
+    go _ (Empty none) = Empty none
+    go _ (First value some first fits) = First value some first fits
+    go _ (Unbuilt value some can (Refused never)) = absurd never
+    go _ (NoMemory some) = NoMemory some
 
-  pub first_answer : (error : ErrorValue) → IsFirstError e.alias_only e.tree error → (first_structural e.tree ≡ None → Fits e) → IsCompileError may_refuse e error
-  first_answer error first fits = First error some first fits
+module _ (e : Expansion) (some : e.pattern ≢ []) where
+  pub expansion_without_memory : (r : Result ExpandedPattern Error) → IsErrAnd r (λ error. error ≡ rust.Memory) → Expands e r
+  expansion_without_memory (Ok p) h = elim h [ ]
+  expansion_without_memory (Err error) h = subst (λ is. IsExpansionError e is) (sym h) (NoMemory some)
 
-  pub built_answer : (given : KeyAssigner) (text : List ℕ) (r : Result (PatternValue E) Error) → first_fault e.alias_only e.tree ≡ None → HasKeys e.alias_only e.tree given → text ≡ expanded e.alias_only e.tree → Fits e
-      → MatchResult r (IsBuilt source_of group_names text (map string_bytes given.keys.items) (λ key. option_map string_bytes (get_by_text given.extracts key))) (λ error. (error_value error ≡ Memory) ⊎ IsRefusal may_refuse text (error_value error))
+  pub examined_without_memory : (r : Result (Option RegexRefusal) Error) → IsErrAnd r (λ error. error ≡ rust.Memory) → Examines e r
+  examined_without_memory (Ok found) h = elim h [ ]
+  examined_without_memory (Err error) h = subst (λ is. IsExpansionError e is) (sym h) (NoMemory some)
+
+module _ {E : Type 0} (source_of : E → List ℕ) (group_names : E → List (Option (List ℕ))) (may_refuse : List ℕ → Type 0) (e : Expansion) where
+  pub unexpanded_answer : (r : Result (PatternValue E) Error) (error : Error) → IsErrAnd r (λ same. same ≡ error) → IsExpansionError e error → Compiles source_of group_names may_refuse e r
+  unexpanded_answer (Ok p) error h is = elim h [ ]
+  unexpanded_answer (Err same) error h is = expansion_error may_refuse e same (subst (IsExpansionError e) (sym h) is)
+
+  pub built_answer : (found : ExpandedPattern) (text : List ℕ) (r : Result (PatternValue E) Error) → IsExpansionOf e found → text ≡ string_bytes found.text
+      → MatchResult r (IsBuilt source_of group_names text (map string_bytes found.keys.keys.items) (λ key. option_map string_bytes (get_by_text found.keys.extracts key))) (λ error. (error_value error ≡ Memory) ⊎ IsRefusal may_refuse text (error_value error))
       → Compiles source_of group_names may_refuse e r
-  built_answer given text (Ok p) none has is fits built = record { some = some; can = record { clean = none; fits = fits }; built = built_as source_of group_names e.alias_only e.tree given text p has is built }
-  built_answer given text (Err error) none has is fits (inl memory) = subst (λ is. IsCompileError may_refuse e is) (sym memory) (NoMemory some)
-  built_answer given text (Err error) none has is fits (inr refused) = Unbuilt (error_value error) some (record { clean = none; fits = fits }) (subst (λ t. IsRefusal may_refuse t (error_value error)) is refused)
+  built_answer found text (Ok p) is same built = record { some = is.some; can = is.can; built = built_as source_of group_names e.alias_only e.tree found.keys text p is.keys (same ∙ is.text) built }
+  built_answer found text (Err error) is same (inl memory) = subst (λ value. IsCompileError may_refuse e value) (sym memory) (NoMemory is.some)
+  built_answer found text (Err error) is same (inr refused) = Unbuilt (error_value error) is.some is.can (subst (λ t. IsRefusal may_refuse t (error_value error)) (same ∙ is.text) refused)
 
 pub no_bytes : (xs : List ℕ) → (length xs == 0) ≡ true → xs ≡ []
 no_bytes [] h = refl

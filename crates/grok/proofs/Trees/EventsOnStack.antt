@@ -4,14 +4,14 @@ use Rattle.std.specs.FinMap as finite
 use Rattle.std.specs.Option.{option_map}
 use Rattle.grok.specs.Tree.{Meaning, meaning_text, Label, Fault, items_of, Item, TextItem, FaultItem, PlaceholderItem, Event, Text, Open, Close, FaultEvent, TooDeep, events, inside, deepest}
 use Rattle.grok.specs.Items.{meaning_view}
-use Rattle.grok.specs.Events.{behind, events_left}
+use Rattle.grok.specs.Events.{entered_events, events_left}
 use Rattle.grok.specs.declared.defs.items.Meaning.{Meaning as CodeMeaning}
 use Rattle.grok.specs.declared.expand.events.Events.TheInside.{Inside}
 
 module _ (items : List ℕ → List Item) where
   -- a step in the innermost text
   pub left_step : (levels_left : ℕ) (around : List (List Item)) (old new : List Item) (opening : Option Meaning) (event : Event)
-      → ((n : ℕ) → events (inside items n) old ≡ event ∷ (behind items n opening ++ events (inside items n) new))
+      → ((n : ℕ) → events (inside items n) old ≡ event ∷ (entered_events items n opening ++ events (inside items n) new))
       → events_left items levels_left around None old ≡ event ∷ events_left items levels_left around opening new
   left_step levels_left [] old new opening event h = h levels_left
   left_step levels_left (outer ∷ around) old new opening event h = ap (λ es. es ++ Close ∷ events (inside items levels_left) outer) (left_step (levels_left - 1) around old new opening event h)
@@ -73,7 +73,7 @@ module _ (left : List Event) (fields : Inside) (meaning : CodeMeaning) (some : f
 
 module _ (left : List Event) (fields : Inside) (s : IsSettled left fields) where
   settled_step : (later : Inside) (opening : Option Meaning) (event : Event) → later.grok ≡ fields.grok → later.around.items ≡ fields.around.items → option_map meaning_view later.opening ≡ opening
-      → ((n : ℕ) → events (inside (resolve fields) n) fields.items ≡ event ∷ (behind (resolve fields) n opening ++ events (inside (resolve fields) n) later.items))
+      → ((n : ℕ) → events (inside (resolve fields) n) fields.items ≡ event ∷ (entered_events (resolve fields) n opening ++ events (inside (resolve fields) n) later.items))
       → left ≡ event ∷ left_of later
   settled_step later opening event same around opens step =
       s.is ∙ left_step (resolve fields) deepest fields.around.items fields.items later.items opening event step ∙ rw (same, around, opens) refl

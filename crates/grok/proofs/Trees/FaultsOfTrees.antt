@@ -23,12 +23,12 @@ written_after written (Malformed fault ∷ ps) = written_after written ps
 written_after written (Placeholder s e text parts ∷ ps) = written_after (with_written written parts) ps
 
 -- the item of a piece after others
-item_behind : (stored written : Definitions) (before after : List Piece) (s e : ℕ) (pattern : List ℕ) (parts : Parts)
+item_after_pieces : (stored written : Definitions) (before after : List Piece) (s e : ℕ) (pattern : List ℕ) (parts : Parts)
     → slice_get (items_after stored written (before ++ Placeholder s e pattern parts ∷ after)) (length before) ≡ Some (placeholder_item stored (written_after written before) parts)
-item_behind stored written [] after s e pattern parts = refl
-item_behind stored written (Regular a b text ∷ ps) after s e pattern parts = item_behind stored written ps after s e pattern parts
-item_behind stored written (Malformed fault ∷ ps) after s e pattern parts = item_behind stored written ps after s e pattern parts
-item_behind stored written (Placeholder a b text other ∷ ps) after s e pattern parts = item_behind stored (with_written written other) ps after s e pattern parts
+item_after_pieces stored written [] after s e pattern parts = refl
+item_after_pieces stored written (Regular a b text ∷ ps) after s e pattern parts = item_after_pieces stored written ps after s e pattern parts
+item_after_pieces stored written (Malformed fault ∷ ps) after s e pattern parts = item_after_pieces stored written ps after s e pattern parts
+item_after_pieces stored written (Placeholder a b text other ∷ ps) after s e pattern parts = item_after_pieces stored (with_written written other) ps after s e pattern parts
 
 with_own : (written : Definitions) (parts : Parts) → is_absent parts.definition ≡ false → with_written written parts parts.name ≡ Some parts.definition
 with_own written parts own = rw ((bytes_eq-Decides parts.name parts.name).1 refl, own) refl
@@ -55,12 +55,12 @@ written_append written (Placeholder s e text parts ∷ ps) qs = written_append (
 
 pub own_definition_holds : OwnDefinitionHolds
 own_definition_holds stored text before after s e pattern parts is own =
-    ap (λ ps. slice_get (items_after stored no_definitions ps) (length before)) is ∙ item_behind stored no_definitions before after s e pattern parts
+    ap (λ ps. slice_get (items_after stored no_definitions ps) (length before)) is ∙ item_after_pieces stored no_definitions before after s e pattern parts
     ∙ ap (λ o. Some (resolved (label_of parts) o (stored parts.name))) (with_own (written_after no_definitions before) parts own)
 
 pub stored_definition_holds : StoredDefinitionHolds
 stored_definition_holds stored text before after s e pattern parts is none absent =
-    ap (λ ps. slice_get (items_after stored no_definitions ps) (length before)) is ∙ item_behind stored no_definitions before after s e pattern parts
+    ap (λ ps. slice_get (items_after stored no_definitions ps) (length before)) is ∙ item_after_pieces stored no_definitions before after s e pattern parts
     ∙ ap (λ o. Some (resolved (label_of parts) o (stored parts.name))) (without_own (written_after no_definitions before) parts parts.name (λ same. absent) ∙ written_still no_definitions before parts.name none)
 
 pub earlier_definition_holds : EarlierDefinitionHolds
@@ -72,7 +72,7 @@ earlier_definition_holds stored text before between after s e s' e' pattern patt
     ap (λ w. w parts.name) (written_append no_definitions before (Placeholder s e pattern earlier ∷ between))
     ∙ written_still (with_written written earlier) between parts.name none ∙ ap (with_written written earlier) (sym same) ∙ with_own written earlier own in
     ap (λ n. slice_get (items_of stored text) n) (sym place)
-    ∙ ap (λ ps. slice_get (items_after stored no_definitions ps) (length front)) is ∙ item_behind stored no_definitions front after s' e' pattern' parts
+    ∙ ap (λ ps. slice_get (items_after stored no_definitions ps) (length front)) is ∙ item_after_pieces stored no_definitions front after s' e' pattern' parts
     ∙ ap (λ o. Some (resolved (label_of parts) o (stored parts.name))) (without_own (written_after no_definitions front) parts parts.name (λ same. absent) ∙ known)
 
 -- ---- unused definitions

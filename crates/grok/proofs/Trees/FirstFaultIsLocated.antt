@@ -2,8 +2,8 @@
 use Rattle.std.proofs.Common.{◌≡◌, ℕ, zero, suc, ◌-◌, ◌<◌, Bool, true, List, [], ◌∷◌, ◌++◌, length, Option, Result, Some, None, Ok, Err, refl, sym, ◌∙◌, ap, subst, arith, append-nil, append_assoc, length-append}
 use Rattle.std.specs.Option.{option_map}
 use Rattle.std.specs.FinMap as finite
-use Rattle.grok.specs.declared.measure.PartialSize.{PartialSize}
-use Rattle.grok.specs.declared.measure.Failure.{Failure}
+use Rattle.grok.specs.declared.measure.partial_size.PartialSize.{PartialSize}
+use Rattle.grok.specs.declared.measure.partial_size.Failure.{Failure}
 use Rattle.grok.specs.Maps.{Texts}
 use Rattle.grok.specs.Tree.{deepest, Definitions, Fault, TooDeep, Label, Meaning, meaning_text, Inline, Stored, Item, TextItem, FaultItem, PlaceholderItem, items_of, events, inside, first_structural, Event, Text, Open, Close, FaultEvent}
 use Rattle.grok.specs.Sizes.{Size, no_size, size_or_fault}
@@ -115,10 +115,6 @@ placing_starts stored levels text left items left_is items_is = record {
   sound = subst (AreSound (items_of stored) stored) (sym items_is) ((sound_texts stored).sound text);
 }
 
-pub placing_ends : (stored : Definitions) (levels : ℕ) (text : List ℕ) (left : List Piece) (items : List Item) (begin : ℕ) → IsPlacing stored levels text left items begin → items ≡ [] → fault_within stored levels (items_of stored text) ≡ None
-placing_ends stored levels text left items begin p over =
-    ap (fault_within stored levels) (p.items_are ∙ ap (λ xs. p.before ++ xs) over ∙ append-nil p.before) ∙ p.clean
-
 -- the end of the last piece is the end of all
 end_of_all-last : (text : List ℕ) (from : ℕ) (before : List Piece) (piece : Piece) → end_of_all text from (before ++ piece ∷ []) ≡ end_of text piece
 end_of_all-last text from [] piece = refl
@@ -200,9 +196,6 @@ pub record IsWayDown (stored : Definitions) (pattern : List ℕ) (path : List (L
   pub leads : (rest : List (List ℕ)) (faulty : List ℕ) (from to : ℕ) (fault : Fault) → IsFaultAt stored levels text rest faulty from to fault → IsFaultAt stored deepest pattern (path ++ rest) faulty from to fault
   pub clean : fault_within stored levels (items_of stored text) ≡ None → fault_within stored deepest (items_of stored pattern) ≡ None
 
-pub way_starts : (stored : Definitions) (pattern : List ℕ) → IsWayDown stored pattern [] deepest pattern
-way_starts stored pattern = record { leads = λ rest faulty from to fault at. at; clean = λ none. none }
-
 pub way_ends : (stored : Definitions) (pattern : List ℕ) (path : List (List ℕ)) (levels : ℕ) (text : List ℕ) (first : FirstWrong) (fault : CodeFault) → IsWayDown stored pattern path levels text
     → IsFirstWrong stored levels text first → first.wrong ≡ wrong.Here fault → IsFaultAt stored deepest pattern path text first.range.start first.range.end (fault_view fault)
 way_ends stored pattern path levels text first fault way f is =
@@ -232,6 +225,3 @@ pub way_goes : (stored : Definitions) (pattern : List ℕ) (path : List (List �
     → IsFirstWrong stored levels text first → first.wrong ≡ wrong.Inside name definition → IsWayDown stored pattern (path ++ name.now ∷ []) (levels - 1) definition.now
 way_goes stored pattern path levels text first name definition way f is =
     way_inside stored pattern path text first name.now definition.now levels way f (subst (IsWrong stored levels f.item) is f.wrong)
-
-pub some_room : (stored : Definitions) (levels : ℕ) (text : List ℕ) (first : FirstWrong) (name definition : Bor (List ℕ)) → IsFirstWrong stored levels text first → first.wrong ≡ wrong.Inside name definition → 0 < levels
-some_room stored levels text first name definition f is = let w : IsFaultInside stored levels f.item name.now definition.now = subst (IsWrong stored levels f.item) is f.wrong in w.room

@@ -4,7 +4,6 @@ ghost use Rattle.grok.specs.Captures.{capture_texts, AreSlicesOf};
 ghost use Rattle.grok.specs.Locations.{AreLocationsIn, located_texts};
 
 use crate::engine::Engine;
-use crate::engine::regex_engine::{RegexEngine, group_texts, write_locations};
 use std::alloc::{AllocError, Global};
 
 /// A search that keeps its caches from line to line. What it finds in a line doesn't depend on the
@@ -62,56 +61,4 @@ pub trait HasMatcher<'e>: Engine {
             (λ matcher. Self.Matcher.finds matcher ≡ Self.answer_to self.now) }
         ensures count { IfOk result
             (λ matcher. Self.Matcher.group_count matcher ≡ length (Self.group_names self.now)) };
-}
-
-/// A search of `regex`, which keeps its caches.
-#[derive(Drop)]
-pub struct RegexMatcher<'e> {
-    matcher: regex::Matcher<'e>,
-}
-
-impl<'e> EngineMatcher for RegexMatcher<'e> {
-    ghost use Rattle.std.specs.Prelude.{length};
-    ghost use Rattle.regex.specs.Strings.{matcher_pattern, matcher_names};
-    ghost use Rattle.grok.specs.RegexFinds.{captures_in};
-
-    ghost finds = { λ matcher. captures_in (matcher_pattern matcher.matcher)
-        (length (matcher_names matcher.matcher)) };
-
-    ghost group_count = { λ matcher. length (matcher_names matcher.matcher) };
-
-    #[inline(always)]
-    fn captures<'t>(
-        &mut self,
-        alloc: Global,
-        line: &'t str,
-    ) -> Result<Option<Vec<Option<&'t str>>>, AllocError> {
-        match self.matcher.captures(line) {
-            Some(found) => Ok(Some(group_texts(alloc, &found)?)),
-            None => Ok(None),
-        }
-    }
-
-    fn captures_read(
-        &mut self,
-        locations: &mut Vec<Option<(usize, usize)>>,
-        line: &str,
-    ) -> Result<bool, AllocError> {
-        match self.matcher.captures(line) {
-            Some(found) => {
-                write_locations(locations, &found)?;
-                Ok(true)
-            }
-            None => Ok(false),
-        }
-    }
-}
-
-impl<'e> HasMatcher<'e> for RegexEngine {
-    type Matcher = RegexMatcher<'e>;
-
-    fn matcher(&'e self, alloc: Global) -> Result<RegexMatcher<'e>, AllocError> {
-        let matcher = self.regex.matcher(alloc)?;
-        Ok(RegexMatcher { matcher })
-    }
 }

@@ -1,22 +1,19 @@
-//! A search that owns its automaton and its tables, and keeps both from line to line.
-ghost use Rattle.std.specs.Prelude.{◌≡◌, ◌+◌, ◌-◌, ◌/◌, ◌≤◌, true, Some, length, vec_len, string_bytes, option_map, slice_range, IfOk, IfSome, OnOk, IsTrue, IsFalse, IsCharBoundary, None};
-ghost use Rattle.std.specs.Option.{ForSome};
+//! A search that owns its automata and their tables, and keeps both from line to line.
+ghost use Rattle.std.specs.Prelude.{◌≡◌, ◌+◌, ◌-◌, ◌/◌, ◌≤◌, true, Some, length, vec_len, string_bytes, option_map, slice_range, IfOk, IfSome, OnOk, IsTrue, IsFalse, IsCharBoundary};
 ghost use Rattle.regex.specs.Patterns.{find_str, span};
 ghost use Rattle.regex.specs.Strings.{regex_pattern, regex_source, regex_names};
 ghost use Rattle.regex_dfa.specs.Search.{IsForwardFor, IsReverseFor};
-ghost use Rattle.regex_extract.specs.Bounds.{IsAnchored};
-ghost use Rattle.regex_extract.specs.Needles.{ContainsNeedle};
 ghost use Rattle.regex_meta.specs.Programs.{pattern_of, leftmost};
 ghost use Rattle.regex_meta.specs.Located.{EndsAt};
 ghost use Rattle.regex_tagged.specs.Valid.{IsFor};
 ghost use Rattle.regex_vm.specs.Found.{group_cells};
 ghost use Rattle.grok.specs.Captures.{text_of, capture_texts, IsSliceOf, AreSlicesOf};
 ghost use Rattle.grok.specs.RegexFinds.{IsReadByDefault, captures_in, text_at, texts_at};
-ghost use Rattle.grok.specs.OwnSearches.{IsTreeOf, span_of_cells};
+ghost use Rattle.grok.specs.OwnSearches.{IsTreeOf, AreMarksOf, span_of_cells};
 
+use crate::engine::marks::{Marks, Needles};
 use regex::Regex;
 use regex_dfa::{End, Forward, Reverse, Start};
-use regex_literal::{Bounded, Prefilter};
 use regex_meta::Program;
 use regex_syntax::{Config, Parsed};
 use regex_tagged::Tagged;
@@ -26,27 +23,21 @@ use std::alloc::Global;
 /// The bytes that the tables of the NFA may take, as in `regex`.
 const LIMIT: usize = 10 << 20;
 
-/// A program of a text, and what its searches fill.
+/// The automata of a text, and what their searches keep.
 #[derive(Drop)]
 pub(crate) struct OwnSearch {
     source: String,
     program: Program,
-    /// Whether a match starts where the line starts.
-    is_anchored: bool,
-    /// Literals of which each match contains one, if such are known.
-    needles: Option<Prefilter>,
+    marks: Marks,
     tagged: Tagged,
     forward: Forward,
     reverse: Reverse,
-    /// Where the tables give up.
+    /// Searches a line where the automata give up.
     backtracker: Backtracker,
     /// From group 1 on, a start and an end for each group: a position plus one, or 0 for none.
     cells: Vec<usize>,
-    /// Whether the line before matched from its start on: the next one is likely to do so, too.
-    matched_at_start: bool,
     ghost read: { ∥ IsTreeOf (string_bytes source) program.hir ∥₁ },
-    ghost starts: { ∥ (is_anchored ≡ true → IsAnchored true (pattern_of program)) ∥₁ },
-    ghost contains: { ∥ ForSome needles (ContainsNeedle (pattern_of program)) ∥₁ },
+    ghost marked: { ∥ AreMarksOf (pattern_of program) marks ∥₁ },
     ghost own: { IsFor tagged program.dfa },
     ghost ahead: { IsForwardFor forward program.dfa },
     ghost back: { IsReverseFor reverse program.dfa },
@@ -54,14 +45,17 @@ pub(crate) struct OwnSearch {
 }
 
 impl OwnSearch {
-    /// The search of a text, unless the text is refused or memory runs out.
+    /// Builds the search of a text.
+    ///
+    /// # Errors
+    ///
+    /// `Declined` if the text is no regular expression, is too big, or memory runs out.
     pub(crate) fn build(alloc: Global, text: &str) -> Result<OwnSearch, Declined>
         ensures { IfOk result (λ search. string_bytes search.source ≡ text.now) }
     {
         let source = String::from_str(alloc, text)?;
         let program = program_of(alloc, text)?;
-        let is_anchored = regex_extract::is_anchored_start(&program.hir);
-        let needles = needles_of_matches(alloc, &program, is_anchored)?;
+        let marks = Marks::of(alloc, &program)?;
         let tagged = Tagged::new(alloc, &program.dfa)?;
         let forward = Forward::new(alloc, &program.dfa, false)?;
         let reverse = Reverse::new(alloc, &program.dfa)?;
@@ -70,19 +64,21 @@ impl OwnSearch {
         Ok(OwnSearch {
             source,
             program,
-            is_anchored,
-            needles,
+            marks,
             tagged,
             forward,
             reverse,
             backtracker: Backtracker::new(alloc),
             cells,
-            matched_at_start: true,
         })
     }
 
-    /// The text of each group of the first match in the line, or none where nothing matches, as the
-    /// regex finds it.
+    /// Returns the text of each group of the first match that the regex finds in the line, or `None`
+    /// if nothing matches.
+    ///
+    /// # Errors
+    ///
+    /// `Declined` if the regex has another text, the search gives up, or memory runs out.
     pub(crate) fn captures<'t>(
         &mut self,
         alloc: Global,
@@ -107,7 +103,7 @@ impl OwnSearch {
         }
     }
 
-    /// Whether its text is that of the regex, with as many groups.
+    /// Returns whether it was built from the text of the regex, with as many groups.
     fn is_of(&self, regex: &Regex) -> bool
         ensures source { IsTrue result → string_bytes self.now.source ≡ regex_source regex.now }
         ensures groups { IsTrue result → vec_len self.now.cells / 2 + 1
@@ -116,7 +112,7 @@ impl OwnSearch {
         self.cells.len() / 2 + 1 == regex.captures_len() && self.source.as_str() == regex.as_str()
     }
 
-    /// The span of the first match in the line. The cells are those of its groups.
+    /// Finds the span of the first match in the line, and writes the cells of its groups.
     fn find(&mut self, line: &str) -> Result<Option<(usize, usize)>, Declined>
         ensures span { IfOk result (λ found. found
             ≡ option_map span (find_str (pattern_of self.old.program) line.now 0)) }
@@ -131,7 +127,7 @@ impl OwnSearch {
         Ok(found)
     }
 
-    /// The same in bytes, where a match may start at each.
+    /// Finds the first match as `find` does, but also one that starts inside a character.
     fn find_in_bytes(&mut self, hay: &[u8]) -> Result<Option<(usize, usize)>, Declined>
         ensures span { IfOk result (λ found. found
             ≡ option_map span (leftmost self.old.program hay.now 0)) }
@@ -139,72 +135,35 @@ impl OwnSearch {
             (λ m. self.new.cells.items ≡ group_cells m (vec_len self.old.cells))) }
         ensures width { vec_len self.new.cells ≡ vec_len self.old.cells }
     {
-        if self.lacks_needle(hay) {
-            return Ok(None);
-        }
-        let by_tables = leftmost_by_tables(
+        let by_automata = leftmost_by_automata(
             &self.program,
+            &self.marks,
             &mut self.tagged,
             &mut self.forward,
             &mut self.reverse,
             hay,
             &mut self.cells,
-            self.is_anchored,
-            self.matched_at_start,
         );
-        if let Ok(found) = by_tables {
-            self.matched_at_start = matches!(found, Some((0, _)));
+        if let Ok(found) = by_automata {
             return Ok(found);
         }
         let found = by_steps(&self.program, &mut self.backtracker, hay, &mut self.cells)?;
         Ok(found)
     }
-
-    /// Whether the line contains none of the literals of which each match contains one.
-    fn lacks_needle(&self, hay: &[u8]) -> bool
-        ensures { IsTrue result → leftmost self.now.program hay.now 0 ≡ None }
-    {
-        match &self.needles {
-            Some(needles) => match needles.find_bounded(hay, 0) {
-                Bounded::Missing => true,
-                Bounded::Found(_, _) | Bounded::Tired(_) => false,
-            },
-            None => false,
-        }
-    }
 }
 
-/// The literals of which each match of the program contains one, if such are known. A match that has to
-/// start where the line starts, or to end where it ends, is found or refused sooner without them.
-fn needles_of_matches(
-    alloc: Global,
+/// Finds the span of the first match, and writes the cells of its groups, unless an automaton gives
+/// up. The lazy automata find the span, and inside it the tagged one finds the groups.
+fn leftmost_by_automata(
     program: &Program,
-    is_anchored: bool,
-) -> Result<Option<Prefilter>, Declined>
-    ensures { IfOk result (λ needles. IfSome needles (ContainsNeedle (pattern_of program.now))) }
-{
-    if is_anchored || program.at_end {
-        return Ok(None);
-    }
-    match regex_extract::required(alloc, &program.hir)? {
-        Some(needles) => Ok(Prefilter::new(alloc, needles)?),
-        None => Ok(None),
-    }
-}
-
-/// The span of the first match, unless the tables give up. The cells are those of its groups. A match
-/// from the start on may be tried first: where there is one, that is quicker.
-fn leftmost_by_tables(
-    program: &Program,
+    marks: &Marks,
     tagged: &mut Tagged,
     forward: &mut Forward,
     reverse: &mut Reverse,
     hay: &[u8],
     cells: &mut [usize],
-    is_anchored: bool,
-    tries_start: bool,
 ) -> Result<Option<(usize, usize)>, Declined>
-    requires starts { ∥ (is_anchored ≡ true → IsAnchored true (pattern_of program.now)) ∥₁ }
+    requires marked { ∥ AreMarksOf (pattern_of program.now) marks.now ∥₁ }
     requires own { IsFor tagged.old program.now.dfa }
     requires ahead { IsForwardFor forward.old program.now.dfa }
     requires back { IsReverseFor reverse.old program.now.dfa }
@@ -216,23 +175,14 @@ fn leftmost_by_tables(
     ensures ahead { IsForwardFor forward.new program.now.dfa }
     ensures back { IsReverseFor reverse.new program.now.dfa }
 {
-    if is_anchored {
-        let at_start = tagged.find_at(&program.dfa, hay, 0, hay.len(), cells)?;
-        return Ok(at_start);
-    }
-    if tries_start {
-        let tried = tagged.find_at(&program.dfa, hay, 0, hay.len(), cells)?;
-        if tried.is_some() {
-            return Ok(tried);
-        }
-    }
-    let Some((start, end)) = first_span(program, forward, reverse, hay)? else {
+    let Some(whole) = first_span(program, marks, forward, reverse, hay)? else {
         return Ok(None);
     };
-    groups_within(program, tagged, hay, (start, end), cells)
+    groups_within(program, tagged, hay, whole, cells)
 }
 
-/// The same of a match whose span is known. Where there are no groups, nothing more is searched.
+/// Writes the cells of the groups of the first match, whose span is known, and returns that span. If
+/// the pattern has no groups, nothing more is searched.
 fn groups_within(
     program: &Program,
     tagged: &mut Tagged,
@@ -255,7 +205,7 @@ fn groups_within(
     Ok(found)
 }
 
-/// The same with no table, unless the line is too long for that.
+/// Finds the first match by backtracking, which needs no tables, unless the line is too long for that.
 fn by_steps(
     program: &Program,
     backtracker: &mut Backtracker,
@@ -271,7 +221,7 @@ fn by_steps(
     Ok(found)
 }
 
-/// The program of a text, unless the text is refused.
+/// Compiles the automata of a text, unless the text is refused.
 fn program_of(alloc: Global, text: &str) -> Result<Program, Declined>
     ensures { IfOk result (λ program. ∥ IsTreeOf text.now program.hir ∥₁) }
 {
@@ -287,13 +237,16 @@ fn program_of(alloc: Global, text: &str) -> Result<Program, Declined>
     Ok(program)
 }
 
-/// The span of the first match, unless the tables give up.
+/// Finds the span of the first match, unless an automaton gives up. A match at the first place where
+/// one can start is tried before all others, since its start need not be searched for.
 fn first_span(
     program: &Program,
+    marks: &Marks,
     forward: &mut Forward,
     reverse: &mut Reverse,
     hay: &[u8],
 ) -> Result<Option<(usize, usize)>, Declined>
+    requires marked { ∥ AreMarksOf (pattern_of program.now) marks.now ∥₁ }
     requires ahead { IsForwardFor forward.old program.now.dfa }
     requires back { IsReverseFor reverse.old program.now.dfa }
     ensures span { IfOk result (λ found. found
@@ -301,20 +254,109 @@ fn first_span(
     ensures ahead { IsForwardFor forward.new program.now.dfa }
     ensures back { IsReverseFor reverse.new program.now.dfa }
 {
-    if program.at_end {
+    if program.at_end && !marks.at_start {
         return span_at_end(program, reverse, hay);
     }
-    let Some(floor) = program.first_place(hay, 0) else {
+    let Some(place) = marks.next_place(program, hay, 0) else {
         return Ok(None);
     };
-    match forward.find_end(&program.dfa, hay, floor, hay.len(), false, false) {
-        End::At(end) => Ok(Some(span_to(program, reverse, hay, floor, end)?)),
+    match forward.find_end(&program.dfa, hay, place, hay.len(), true, false) {
+        End::At(end) => Ok(Some((place, end))),
+        End::NoMatch => Ok(span_after(program, marks, forward, reverse, hay, place)?),
+        End::Idle(_) | End::GaveUp => Err(Declined),
+    }
+}
+
+/// Finds the span of the first match that starts after this place, unless an automaton gives up.
+fn span_after(
+    program: &Program,
+    marks: &Marks,
+    forward: &mut Forward,
+    reverse: &mut Reverse,
+    hay: &[u8],
+    place: usize,
+) -> Result<Option<(usize, usize)>, Declined>
+    requires marked { ∥ AreMarksOf (pattern_of program.now) marks.now ∥₁ }
+    requires inside { place ≤ length hay.now }
+    requires ahead { IsForwardFor forward.old program.now.dfa }
+    requires back { IsReverseFor reverse.old program.now.dfa }
+    ensures span { IfOk result (λ found. found
+        ≡ option_map span (leftmost program.now hay.now (place + 1))) }
+    ensures ahead { IsForwardFor forward.new program.now.dfa }
+    ensures back { IsReverseFor reverse.new program.now.dfa }
+{
+    if marks.at_start {
+        return Ok(None);
+    }
+    if place == hay.len() {
+        return Ok(None);
+    }
+    let Some(from) = marks.next_place(program, hay, place + 1) else {
+        return Ok(None);
+    };
+    match &marks.inner {
+        Some(inner) => Ok(span_by_needles(program, marks, inner, forward, reverse, hay, from)?),
+        None => Ok(span_from(program, forward, reverse, hay, from)?),
+    }
+}
+
+/// Finds the span of the first match that starts at `from` or later, unless an automaton gives up. A
+/// match that starts before the first of the literals is tried first: if there is none, and no second
+/// literal either, then the rest of the line isn't read.
+fn span_by_needles(
+    program: &Program,
+    marks: &Marks,
+    inner: &Needles,
+    forward: &mut Forward,
+    reverse: &mut Reverse,
+    hay: &[u8],
+    from: usize,
+) -> Result<Option<(usize, usize)>, Declined>
+    requires marked { ∥ AreMarksOf (pattern_of program.now) marks.now ∥₁ }
+    requires inside { from ≤ length hay.now }
+    requires ahead { IsForwardFor forward.old program.now.dfa }
+    requires back { IsReverseFor reverse.old program.now.dfa }
+    ensures span { IfOk result (λ found. found
+        ≡ option_map span (leftmost program.now hay.now from)) }
+    ensures ahead { IsForwardFor forward.new program.now.dfa }
+    ensures back { IsReverseFor reverse.new program.now.dfa }
+{
+    let last = inner.next_or_end(hay, from);
+    match forward.find_end_within(&program.dfa, hay, from, last, hay.len(), false) {
+        End::At(end) => Ok(Some(span_to(program, reverse, hay, from, end)?)),
+        End::NoMatch if last == hay.len() => Ok(None),
+        End::NoMatch => match marks.next_place(program, hay, last + 1) {
+            Some(next) => Ok(span_from(program, forward, reverse, hay, next)?),
+            None => Ok(None),
+        },
+        End::Idle(_) | End::GaveUp => Err(Declined),
+    }
+}
+
+/// Finds the span of the first match that starts at `from` or later, unless an automaton gives up.
+fn span_from(
+    program: &Program,
+    forward: &mut Forward,
+    reverse: &mut Reverse,
+    hay: &[u8],
+    from: usize,
+) -> Result<Option<(usize, usize)>, Declined>
+    requires inside { from ≤ length hay.now }
+    requires ahead { IsForwardFor forward.old program.now.dfa }
+    requires back { IsReverseFor reverse.old program.now.dfa }
+    ensures span { IfOk result (λ found. found
+        ≡ option_map span (leftmost program.now hay.now from)) }
+    ensures ahead { IsForwardFor forward.new program.now.dfa }
+    ensures back { IsReverseFor reverse.new program.now.dfa }
+{
+    match forward.find_end(&program.dfa, hay, from, hay.len(), false, false) {
+        End::At(end) => Ok(Some(span_to(program, reverse, hay, from, end)?)),
         End::NoMatch => Ok(None),
         End::Idle(_) | End::GaveUp => Err(Declined),
     }
 }
 
-/// The span of the first match, where each match ends at the end of the line.
+/// Finds the span of the first match of a pattern whose matches end where the line ends.
 fn span_at_end(
     program: &Program,
     reverse: &mut Reverse,
@@ -333,7 +375,7 @@ fn span_at_end(
     }
 }
 
-/// The span of the first match from `floor` on, which ends at `end`.
+/// Finds the span of the first match that starts at `floor` or later, and ends at `end`.
 fn span_to(
     program: &Program,
     reverse: &mut Reverse,
@@ -353,7 +395,7 @@ fn span_to(
     }
 }
 
-/// Whether the match starts inside a character.
+/// Returns whether the match starts inside a character.
 fn starts_inside(line: &str, found: Option<(usize, usize)>) -> bool
     ensures { IsFalse result → IfSome found (λ s. IsCharBoundary line.now s.0) }
 {
@@ -363,7 +405,7 @@ fn starts_inside(line: &str, found: Option<(usize, usize)>) -> bool
     }
 }
 
-/// The text of each group of a match with this span and these cells, from group 0 on.
+/// Returns the text of each group of a match with this span and these cells, from group 0 on.
 fn texts_of<'t>(
     alloc: Global,
     line: &'t str,
@@ -386,7 +428,7 @@ fn texts_of<'t>(
     Ok(captures)
 }
 
-/// The text of one group, if it took part.
+/// Returns the text of one group, if it took part.
 fn group_text<'t>(
     line: &'t str,
     whole: (usize, usize),
@@ -404,7 +446,7 @@ fn group_text<'t>(
     }
 }
 
-/// What a group spans, if it took part.
+/// Returns the byte range of one group, if it took part.
 fn group_span(whole: (usize, usize), cells: &[usize], number: usize) -> Option<(usize, usize)>
     requires { number ≤ length cells.now / 2 }
     ensures { result ≡ span_of_cells whole cells.now number }
@@ -421,7 +463,7 @@ fn group_span(whole: (usize, usize), cells: &[usize], number: usize) -> Option<(
     }
 }
 
-/// The part of the line between two places, unless one of them is no place to cut it.
+/// Returns the part of the line between two positions, unless one of them is inside a character.
 fn part(line: &str, start: usize, end: usize) -> Result<&str, Declined>
     ensures text { IfOk result (λ text. text.now ≡ slice_range line.now start end) }
     ensures slice { IfOk result (λ text. IsSliceOf line.now text.now) }

@@ -10,22 +10,26 @@ use regex_vm::Declined;
 use std::alloc::Global;
 use std::sync::Mutex;
 
-/// The search that is kept, or whether the next call makes one.
+/// How far the shared search has come.
 #[derive(Drop)]
 enum Kept {
     /// There was no call yet. A single call is fastest with a matcher of its own.
     No,
+    /// There was one call, and the next one builds the search.
     Next,
+    /// The search is built.
     Yes(Box<OwnSearch>),
 }
 
-/// A search whose tables are kept, from the second call on. A call that finds it in use is declined.
+/// A search whose automata are kept from the second call on. A call that finds it in use gets
+/// `Declined`, and so never waits.
 #[derive(Drop)]
 pub(crate) struct SharedSearch {
     kept: Mutex<Kept>,
 }
 
 impl SharedSearch {
+    /// Makes a shared search that no call was made of yet.
     pub(crate) fn new() -> SharedSearch {
         SharedSearch {
             kept: Mutex::new(Kept::No),
@@ -34,6 +38,10 @@ impl SharedSearch {
 
     /// Returns the text of each group of the first match that the regex finds in the line, or `None`
     /// if nothing matches.
+    ///
+    /// # Errors
+    ///
+    /// `Declined` if this is the first call, the search is in use or gives up, or memory runs out.
     pub(crate) fn captures<'t>(
         &self,
         alloc: Global,
@@ -87,6 +95,7 @@ impl Kept {
     }
 }
 
+/// Builds the search of a text, on the heap.
 fn boxed(alloc: Global, text: &str) -> Result<Box<OwnSearch>, Declined> {
     let search = OwnSearch::build(alloc, text)?;
     let Ok(search) = Box::new(alloc, search) else {

@@ -216,7 +216,7 @@ pub(crate) enum Asked {
 }
 
 /// Compiles the pattern over the definitions on standard input, and asks for the lines that stand there after an empty
-/// one. As by `match -a`, only placeholders with an alias are recorded.
+/// one. As by `match -a`, only placeholders with an alias capture.
 pub(crate) fn call(rt: &HostRuntime, pattern: &str, asked: Asked) -> Result<()> {
     let text = io::read_to_string(rt.alloc(), rt.stdin())?;
     let Some((definitions, log)) = text.split_once("\n\n") else {

@@ -1,5 +1,5 @@
 //! One run of each command that succeeds, with its whole output.
-use super::DEFAULT_SIZES;
+use super::default_sizes::EVERY;
 use super::devices::{FakeReader, FakeWriter};
 use super::outcome::{Ending, Outcome, check_outcome, outcome_of};
 use std::process::Abort;
@@ -81,7 +81,7 @@ pub const CASES: [Case; 5] = [
         name: "the sizes of the default definitions",
         words: &["check"],
         reads: false,
-        output: DEFAULT_SIZES,
+        output: EVERY,
     },
 ];
 

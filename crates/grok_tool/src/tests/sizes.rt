@@ -1,6 +1,6 @@
 //! Runs of `measure` and of `check`.
-use super::DEFAULT_SIZES;
 use super::cases::{Run, UNREAD};
+use super::default_sizes::{ALIASED, EVERY};
 use super::devices::{FakeReader, FakeWriter};
 use super::outcome::{Ending, Outcome, check_outcome, check_pattern_fault, ending_of, outcome_at};
 use std::alloc::{AllocError, Global};
@@ -122,22 +122,13 @@ const LISTS: &[Run] = &[
     Run {
         name: "the default definitions",
         words: &["check"],
-        output: DEFAULT_SIZES,
+        output: EVERY,
         ..UNREAD
     },
     Run {
         name: "the default definitions without aliases",
         words: &["check", "-a"],
-        output: "CISCOMAC: length 45 groups 0 nesting 1\n\
-         COMMONMAC: length 44 groups 0 nesting 1\n\
-         DAY: length 99 groups 0 nesting 1\n\
-         MAC: length 143 groups 0 nesting 2\n\
-         MONTH: length 152 groups 0 nesting 1\n\
-         SPACE: length 7 groups 0 nesting 1\n\
-         USER: length 23 groups 0 nesting 2\n\
-         USERNAME: length 19 groups 0 nesting 1\n\
-         WINDOWSMAC: length 44 groups 0 nesting 1\n\
-         YEAR: length 15 groups 0 nesting 1\n",
+        output: ALIASED,
         ..UNREAD
     },
 ];
@@ -249,7 +240,7 @@ fn measure_of_a_text_past_the_limit(rt: HostRuntime) -> Result<(), Fail> {
 }
 
 #[test]
-fn check_lists_the_ten(rt: HostRuntime) -> Result<(), Fail> {
+fn check_lists_the_default_definitions(rt: HostRuntime) -> Result<(), Fail> {
     for row in LISTS {
         check_written(&rt, row, &[])?;
     }
@@ -261,26 +252,32 @@ fn check_names_each_fault(rt: HostRuntime) -> Result<(), Fail> {
     let words = ["check", "B=%{nope}", "A=%{A}", "=x", "a-b=x"];
     let first = ": Something unexpected happened during the compilation phase: \"InvalidPattern\"\n\
         A: Recursion while compiling reached the limit of 1024\n\
-        B: The given pattern definition name \"nope\" could not be found in the definition map\n\
-        CISCOMAC: length 50 groups 1 nesting 1\n";
-    let last = "YEAR: length 20 groups 1 nesting 1\n\
-        a-b: Something unexpected happened during the compilation phase: \"InvalidCharacter('-')\"\n";
+        B: The given pattern definition name \"nope\" could not be found in the definition map\n";
+    let last =
+        "a-b: Something unexpected happened during the compilation phase: \"InvalidCharacter('-')\"\n";
+    let expected = format!(in rt.alloc(); "{first}{EVERY}{last}")?;
     let list = written(&rt, "each fault by its name", &words);
-    assert!(rt; list.starts_with(first.as_bytes()));
-    assert!(rt; list.ends_with(last.as_bytes()));
+    assert_eq!(rt; list.as_slice(), expected.as_bytes());
     Ok(())
 }
 
 #[test]
 fn check_names_a_definition_once(rt: HostRuntime) -> Result<(), Fail> {
-    let words = ["check", "A=a", "DAY=x", "A=bcd"];
-    let first = "A: length 12 groups 1 nesting 1\n\
-        CISCOMAC: length 50 groups 1 nesting 1\n\
-        COMMONMAC: length 49 groups 1 nesting 1\n\
-        DAY: length 10 groups 1 nesting 1\n\
-        MAC: length 163 groups 4 nesting 2\n";
+    let words = ["check", "A=a", "B=x", "A=bcd"];
+    let first = "A: length 12 groups 1 nesting 1\nB: length 10 groups 1 nesting 1\n";
+    let expected = format!(in rt.alloc(); "{first}{EVERY}")?;
     let list = written(&rt, "a definition once", &words);
-    assert!(rt; list.starts_with(first.as_bytes()));
+    assert_eq!(rt; list.as_slice(), expected.as_bytes());
+    Ok(())
+}
+
+/// The definition of a default name counts, and not the default one.
+#[test]
+fn check_names_a_default_definition_once(rt: HostRuntime) -> Result<(), Fail> {
+    let list = written(&rt, "a default definition once", &["check", "DAY=x"]);
+    let text = str::from_utf8(&list).unwrap_or("");
+    assert!(rt; text.contains("\nDAY: length 10 groups 1 nesting 1\nMAC: "));
+    assert_eq!(rt; text.lines().count(), EVERY.lines().count());
     Ok(())
 }
 

@@ -1,71 +1,13 @@
-use Rattle.std.proofs.Common.{◌≡◌, ◌≢◌, ℕ, List, [], Some, None, sym, ◌∙◌, ap, subst}
-use Rattle.std.specs.Option.{option_map}
-use Rattle.std.specs.FinMap as finite
-use Rattle.grok.specs.Tree.{Event, tree, first_structural, Fault}
-use Rattle.grok.specs.Keys.{Structural}
-use Rattle.grok.specs.Items.{fault_view}
-use Rattle.grok.specs.Errors.{error_value, CompiledPatternIsEmpty}
-use Rattle.grok.specs.Compiled.{expansion_of, IsCompileError, Empty, NoMemory}
-use Rattle.grok.specs.MeasureCache.{measure_view}
-use Rattle.grok.proofs.Trees.CompileResults.{no_memory, first_answer, faulty_is, structural_error, sized_is, sized_fits, some_bytes, no_bytes}
+use Rattle.grok.specs.Compiled.{expansion_of}
+use Rattle.grok.proofs.Trees.CompileResults.{unexpanded_answer, built_answer}
 use Rattle.grok.proofs.defs.Grok.compile_with.Goals as goal
 
-pub returns-then-is_empty : goal.returns-then-is_empty
-returns-then-is_empty g c =
-    subst (λ (bs : List ℕ). IsCompileError g.E.Engine.may_refuse (expansion_of c.args.self.now c.args.with_alias_only c.args.pattern.now) (CompiledPatternIsEmpty bs)) (sym c.new.ensures.bytes)
-    (Empty (no_bytes c.args.pattern.now (sym c.is_empty.ensures ∙ c.if-is_empty.true)))
+pub returns-in_err-text : goal.returns-in_err-text
+returns-in_err-text g c =
+    unexpanded_answer g.E.Engine.source_of g.E.Engine.group_names g.E.Engine.may_refuse (expansion_of c.args.self.now c.args.with_alias_only c.args.pattern.now)
+    c.from_residual.result c.in_err-text.field-0.0 c.from_residual.ensures.1 c.in_err-text.ensures
 
-pub returns-in_err-found : goal.returns-in_err-found
-returns-in_err-found g c =
-    no_memory g.E.Engine.source_of g.E.Engine.group_names g.E.Engine.may_refuse (expansion_of c.args.self.now c.args.with_alias_only c.args.pattern.now)
-    (some_bytes c.args.pattern.now (sym c.is_empty.ensures ∙ c.if-is_empty.false)) c.from_residual.result c.from_residual.ensures.1
-
-pub returns-in-TooLong : goal.returns-in-TooLong
-returns-in-TooLong g c = NoMemory (some_bytes c.args.pattern.now (sym c.is_empty.ensures ∙ c.if-is_empty.false))
-
-pub returns-in_err-error-in-Fault : goal.returns-in_err-error-in-Fault
-returns-in_err-error-in-Fault g c =
-    no_memory g.E.Engine.source_of g.E.Engine.group_names g.E.Engine.may_refuse (expansion_of c.args.self.now c.args.with_alias_only c.args.pattern.now)
-    (some_bytes c.args.pattern.now (sym c.is_empty.ensures ∙ c.if-is_empty.false)) c.from_residual-in_err-error-in-Fault.result c.from_residual-in_err-error-in-Fault.ensures.1
-
-pub returns-in-Some : goal.returns-in-Some
-returns-in-Some g c =
-    let events : List Event = tree (finite.get c.args.self.now) c.args.pattern.now in
-    let fault : Fault = fault_view c.in-Fault.fault in
-    let faulty : first_structural events ≡ Some fault = faulty_is c.args.with_alias_only events fault (sym (ap measure_view c.in-Fault.is) ∙ c.in_ok-found.ensures.answer) in
-    first_answer g.E.Engine.source_of g.E.Engine.group_names g.E.Engine.may_refuse (expansion_of c.args.self.now c.args.with_alias_only c.args.pattern.now)
-    (some_bytes c.args.pattern.now (sym c.is_empty.ensures ∙ c.if-is_empty.false)) (error_value c.in-Some.error) (rw c.in-Some.is at c.in_ok-error-in-Fault.ensures)
-    (λ clean. let both : None ≡ Some fault = sym clean ∙ faulty in cc)
-
-pub returns-in_err-to_error-in-None : goal.returns-in_err-to_error-in-None
-returns-in_err-to_error-in-None g c =
-    no_memory g.E.Engine.source_of g.E.Engine.group_names g.E.Engine.may_refuse (expansion_of c.args.self.now c.args.with_alias_only c.args.pattern.now)
-    (some_bytes c.args.pattern.now (sym c.is_empty.ensures ∙ c.if-is_empty.false)) c.from_residual-in_err-to_error-in-None.result c.from_residual-in_err-to_error-in-None.ensures.1
-
-pub returns-in-Fault : goal.returns-in-Fault
-returns-in-Fault g c =
-    let events : List Event = tree (finite.get c.args.self.now) c.args.pattern.now in
-    let fault : Fault = fault_view c.in-Fault.fault in
-    let faulty : first_structural events ≡ Some fault = faulty_is c.args.with_alias_only events fault (sym (ap measure_view c.in-Fault.is) ∙ c.in_ok-found.ensures.answer) in
-    first_answer g.E.Engine.source_of g.E.Engine.group_names g.E.Engine.may_refuse (expansion_of c.args.self.now c.args.with_alias_only c.args.pattern.now)
-    (some_bytes c.args.pattern.now (sym c.is_empty.ensures ∙ c.if-is_empty.false)) (error_value c.in_ok-to_error-in-None.field-0)
-    (structural_error c.args.with_alias_only events fault (error_value c.in_ok-to_error-in-None.field-0) (rw c.in-None.is at c.in_ok-error-in-Fault.ensures) faulty c.in_ok-to_error-in-None.ensures)
-    (λ clean. let both : None ≡ Some fault = sym clean ∙ faulty in cc)
-
-pub returns-in_err-error-in-Size : goal.returns-in_err-error-in-Size
-returns-in_err-error-in-Size g c =
-    no_memory g.E.Engine.source_of g.E.Engine.group_names g.E.Engine.may_refuse (expansion_of c.args.self.now c.args.with_alias_only c.args.pattern.now)
-    (some_bytes c.args.pattern.now (sym c.is_empty.ensures ∙ c.if-is_empty.false)) c.from_residual-in_err-error-in-Size.result c.from_residual-in_err-error-in-Size.ensures.1
-
-pub returns-in-Some-2 : goal.returns-in-Some-2
-returns-in-Some-2 g c =
-    let events : List Event = tree (finite.get c.args.self.now) c.args.pattern.now in
-    first_answer g.E.Engine.source_of g.E.Engine.group_names g.E.Engine.may_refuse (expansion_of c.args.self.now c.args.with_alias_only c.args.pattern.now)
-    (some_bytes c.args.pattern.now (sym c.is_empty.ensures ∙ c.if-is_empty.false)) (error_value c.in-Some-2.error) (rw c.in-Some-2.is at c.in_ok-error-in-Size.ensures)
-    (λ clean. sized_fits c.args.with_alias_only events c.in-Size.length c.in-Size.groups c.in-Size.nesting (sym (ap measure_view c.in-Size.is) ∙ c.in_ok-found.ensures.answer))
-
-pub compile_clean-requires-clause-clean : goal.compile_clean-requires-clause-clean
-compile_clean-requires-clause-clean g c =
-    let events : List Event = tree (finite.get c.args.self.now) c.args.pattern.now in
-    let sized = sized_is c.args.with_alias_only events c.in-Size.length c.in-Size.groups c.in-Size.nesting (sym (ap measure_view c.in-Size.is) ∙ c.in_ok-found.ensures.answer) in
-    (rw c.in_default.is at c.in_ok-error-in-Size.ensures) ∙ ap (option_map Structural) sized.0
+pub returns : goal.returns
+returns g c =
+    built_answer g.E.Engine.source_of g.E.Engine.group_names g.E.Engine.may_refuse (expansion_of c.args.self.now c.args.with_alias_only c.args.pattern.now)
+    c.in_ok-text.field-0 c.as_str.result.now c.build.result c.in_ok-text.ensures c.as_str.ensures.value c.build.ensures

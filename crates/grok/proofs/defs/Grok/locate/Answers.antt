@@ -1,23 +1,26 @@
-use Rattle.std.proofs.Common.{◌≡◌, ◌-◌, ◌≤◌, [], ◌∷◌, ◌++◌, sym, ◌∙◌, ap, subst, arith}
+use Rattle.std.proofs.Common.{◌≡◌, ◌-◌, ◌≤◌, None, [], ◌∷◌, ◌++◌, sym, ◌∙◌, ap, subst, arith}
 use Rattle.std.proofs.lemmas.List.{map-append}
 use Rattle.std.specs.FinMap as finite
-use Rattle.grok.specs.Tree.{tree, deepest}
+use Rattle.grok.specs.declared.measure.mode.MeasureMode.{MeasureMode}
+use Rattle.grok.specs.Maps.{Texts}
+use Rattle.grok.specs.Tree.{tree, deepest, items_of}
 use Rattle.grok.specs.Items.{fault_view}
-use Rattle.grok.specs.FaultPlaces.{path_view, IsFaultAt}
+use Rattle.grok.specs.FaultPlaces.{path_view, IsFaultAt, fault_within}
+use Rattle.grok.specs.FirstWrong.{IsFirstWrong}
 use Rattle.grok.proofs.Trees.FirstFaultIsLocated.{IsWayDown, fault_at, way_goes, way_ends}
 use Rattle.grok.proofs.defs.Grok.locate.Goals as goal
 
 pub returns-in-Here-clause-place : goal.returns-in-Here-clause-place
 returns-in-Here-clause-place c =
     let stored = finite.get c.args.self.now in
-    let first = rw c.in-Some.is at (c.in_ok-first.ensures.wrong c.texts.invariant.shown) in
+    let first = subst (λ (texts : Texts). IsFirstWrong (finite.get texts) c.texts.levels c.texts.text.now c.in-Some.first) c.texts.invariant.grok (rw c.in-Some.is at (c.in_ok-first.ensures.wrong c.texts.invariant.known)) in
     way_ends stored c.args.pattern.now (path_view c.texts.path.items) c.texts.levels c.texts.text.now c.in-Some.first c.in-Here.fault c.texts.invariant.way first c.in-Here.is
 
 pub returns-in-Here-clause-fault : goal.returns-in-Here-clause-fault
 unfolding tree
 returns-in-Here-clause-fault c =
     let stored = finite.get c.args.self.now in
-    let first = rw c.in-Some.is at (c.in_ok-first.ensures.wrong c.texts.invariant.shown) in
+    let first = subst (λ (texts : Texts). IsFirstWrong (finite.get texts) c.texts.levels c.texts.text.now c.in-Some.first) c.texts.invariant.grok (rw c.in-Some.is at (c.in_ok-first.ensures.wrong c.texts.invariant.known)) in
     let path = path_view c.texts.path.items in
     let range = c.in-Some.first.range in
     let fault = fault_view c.in-Here.fault in
@@ -28,22 +31,23 @@ returns-in-Here-clause-fault c =
 pub returns-clause-fault : goal.returns-clause-fault
 unfolding tree
 returns-clause-fault c =
-    let none = rw c.in_default.is at (c.in_ok-first.ensures.wrong c.texts.invariant.shown) in
+    let none = subst (λ (texts : Texts). fault_within (finite.get texts) c.texts.levels (items_of (finite.get texts) c.texts.text.now) ≡ None) c.texts.invariant.grok (rw c.in_default.is at (c.in_ok-first.ensures.wrong c.texts.invariant.known)) in
     sym (c.texts.invariant.way.clean none)
 
 pub texts-preserved : goal.texts-preserved
 texts-preserved c =
     let stored = finite.get c.args.self.now in
-    let first = rw c.in-Some.is at (c.in_ok-first.ensures.wrong c.texts.invariant.shown) in
+    let first = subst (λ (texts : Texts). IsFirstWrong (finite.get texts) c.texts.levels c.texts.text.now c.in-Some.first) c.texts.invariant.grok (rw c.in-Some.is at (c.in_ok-first.ensures.wrong c.texts.invariant.known)) in
     let path = path_view c.texts.path.items in
     let name = c.in-Inside.name in
     let longer : path_view c.push.new.self.items ≡ path ++ name.now ∷ [] = ap path_view c.in_ok-push-in-Inside.ensures.items ∙ map-append _ c.texts.path.items (name ∷ []) in
     let below = way_goes stored c.args.pattern.now path c.texts.levels c.texts.text.now c.in-Some.first name c.in-Inside.stored c.texts.invariant.way first c.in-Inside.is in
     record {
       utf8 = c.text-text.utf8;
-      none = c.in_ok-first.ensures.none;
-      few = let few : c.texts.levels ≤ 1023 = c.texts.invariant.few in omega arith;
-      shown = c.in_ok-first.ensures.keeps c.texts.invariant.shown;
+      idle = c.in_ok-first.ensures.idle;
+      grok = ap (λ (mode : MeasureMode). mode.grok.now) c.in_ok-first.ensures.mode ∙ c.texts.invariant.grok;
+      few = let few : c.texts.levels ≤ deepest = c.texts.invariant.few in omega arith;
+      known = c.in_ok-first.ensures.keeps c.texts.invariant.known;
       way = subst (λ names. IsWayDown stored c.args.pattern.now names (c.texts.levels - 1) c.text-text.result.now) (sym longer)
           (subst (IsWayDown stored c.args.pattern.now (path ++ name.now ∷ []) (c.texts.levels - 1)) (sym c.text-text.ensures) below);
     }

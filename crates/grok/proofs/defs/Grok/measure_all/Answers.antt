@@ -1,8 +1,9 @@
-use Rattle.std.proofs.Common.{◌≡◌, ℕ, ◌+◌, ◌<◌, List, [], ◌∷◌, ◌++◌, length, get_or, take, map, Bor, sym, ◌∙◌, ap}
+use Rattle.std.proofs.Common.{◌≡◌, ℕ, ◌+◌, ◌<◌, List, [], ◌∷◌, ◌++◌, length, get_or, take, map, Bor, sym, ◌∙◌, ap, ap₂}
 use Rattle.std.proofs.lemmas.List.{map-append, take_more}
 use Rattle.grok.specs.MeasuredOnce.{nothing_measured}
 use Rattle.grok.specs.Measured.{tree_of, measured_tree}
-use Rattle.grok.specs.MeasureCache.{ShowsCorrectState, measure_view}
+use Rattle.grok.specs.declared.measure.mode.MeasureMode.{MeasureMode}
+use Rattle.grok.specs.MeasureCache.{measure_view}
 use Rattle.grok.proofs.Sizes.MeasuringAgain.{nothing_true}
 use Rattle.grok.proofs.defs.Grok.measure_all.Goals as goal
 
@@ -13,18 +14,25 @@ one_more f g done last all i d more same so_far =
 
 pub patterns-init : goal.patterns-init
 patterns-init c = record {
-  remembers = record { st = nothing_measured; shows = c.new-cache.ensures; is_true = nothing_true c.args.self.now c.args.with_alias_only };
-  none = c.new-frames.ensures.items;
+  grok = ap (λ (mode : MeasureMode). mode.grok.now) c.new-measurer.ensures.mode;
+  alias_only = ap (λ (mode : MeasureMode). mode.with_alias_only) c.new-measurer.ensures.mode;
+  remembers = record { st = nothing_measured; shows = c.new-measurer.ensures.nothing; is_true = nothing_true c.new-measurer.result.mode.grok.now c.new-measurer.result.mode.with_alias_only };
+  idle = c.new-measurer.ensures.idle;
   measured = ap (map measure_view) c.new-measures.ensures.items;
 }
 
 pub patterns-preserved : goal.patterns-preserved
 patterns-preserved c =
-    let known : ShowsCorrectState c.args.self.now c.args.with_alias_only c.patterns.cache = c.patterns.invariant.remembers in
+    let invariant = c.patterns.invariant in
+    let mode = c.in_ok-measure.ensures.mode in
+    let pattern : Bor (List ℕ) = get_or c.args.patterns.now c.patterns.pattern-index (record { ref_ptr = (0, 0); now = [] }) in
     record {
-      remembers = c.in_ok-measure.ensures.keeps known;
-      none = c.in_ok-measure.ensures.none;
+      grok = ap (λ (mode : MeasureMode). mode.grok.now) mode ∙ invariant.grok;
+      alias_only = ap (λ (mode : MeasureMode). mode.with_alias_only) mode ∙ invariant.alias_only;
+      remembers = c.in_ok-measure.ensures.keeps invariant.remembers;
+      idle = c.in_ok-measure.ensures.idle;
       measured = ap (map measure_view) c.in_ok-push.ensures.items
           ∙ one_more measure_view (λ (pattern : Bor (List ℕ)). measured_tree c.args.with_alias_only (tree_of c.args.self.now pattern.now)) c.patterns.measures.items c.in_ok-measure.measure c.args.patterns.now c.patterns.pattern-index
-          (record { ref_ptr = (0, 0); now = [] }) c.patterns-test.true (c.in_ok-measure.ensures.answer known.st known.shows known.is_true) c.patterns.invariant.measured;
+          (record { ref_ptr = (0, 0); now = [] }) c.patterns-test.true
+          (c.in_ok-measure.ensures.answer invariant.remembers ∙ ap₂ (λ alias_only texts. measured_tree alias_only (tree_of texts pattern.now)) invariant.alias_only invariant.grok) invariant.measured;
     }

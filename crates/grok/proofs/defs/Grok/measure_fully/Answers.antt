@@ -1,9 +1,11 @@
+use Rattle.std.proofs.Common.{subst}
 use Rattle.std.specs.FinMap as finite
+use Rattle.grok.specs.declared.measure.mode.MeasureMode.{MeasureMode}
 use Rattle.grok.specs.Tree as tree
-use Rattle.grok.specs.MeasuredOnce.{items_within, nothing_measured}
-use Rattle.grok.specs.MeasureCache.{StopsReading, measure_view}
+use Rattle.grok.specs.MeasuredOnce.{State, items_within, nothing_measured}
+use Rattle.grok.specs.MeasureCache.{ShowsState, StopsReading, measure_view}
 use Rattle.grok.proofs.Sizes.MeasuringAgain.{answer_is, nothing_true}
-use Rattle.grok.proofs.Sizes.MeasureIsCounted.{pieces_most, ends_most, pieces_all, ends_all, pieces_read, ends_read, bracket_is}
+use Rattle.grok.proofs.Sizes.MeasureIsCounted.{pieces_most, ends_most, pieces_all, ends_all, pieces_read, ends_read, numbered_alias_is}
 use Rattle.grok.proofs.defs.Grok.measure_fully.Goals as goal
 
 pub returns : goal.returns
@@ -12,18 +14,22 @@ returns c =
     let alias_only = c.args.with_alias_only in
     let pattern = c.args.pattern.now in
     let r = c.in_ok-answer.answer in
-    let cache = c.measure_text.new.cache in
+    let cache = c.measure_text.new.self.cache in
     let resolve = tree.items_of (finite.get texts) in
-    let frames = c.measure_text.new.frames.items in
-    let stops : StopsReading tree.deepest r frames cache (items_within alias_only resolve tree.deepest (resolve pattern) nothing_measured) =
-    c.in_ok-answer.ensures.stops nothing_measured c.new-cache.ensures in
+    let frames = c.measure_text.new.self.frames.items in
+    let each : (st : State) → ShowsState c.new-measurer.result.cache st → StopsReading tree.deepest r frames cache (items_within alias_only resolve tree.deepest (resolve pattern) st) =
+    subst (λ (mode : MeasureMode). (st : State) → ShowsState c.new-measurer.result.cache st → StopsReading tree.deepest r frames cache
+    (items_within mode.with_alias_only (tree.items_of (finite.get mode.grok.now)) tree.deepest (tree.items_of (finite.get mode.grok.now) pattern) st)) c.new-measurer.ensures.mode c.in_ok-answer.ensures.stops in
+    let stops = each nothing_measured c.new-measurer.ensures.nothing in
     record {
-      answer = answer_is texts alias_only pattern r frames c.new-cache.result cache c.in_ok-answer.ensures.stops nothing_measured c.new-cache.ensures (nothing_true texts alias_only) (measure_view c.measure_of_result.result) c.measure_of_result.ensures;
-      pieces = pieces_most texts alias_only pattern r frames cache stops;
-      ends = ends_most texts alias_only pattern r frames cache stops;
-      all_pieces = pieces_all texts alias_only pattern r frames cache stops;
-      all_ends = ends_all texts alias_only pattern r frames cache stops;
-      read_pieces = pieces_read texts alias_only pattern r frames cache stops;
-      read_ends = ends_read texts alias_only pattern r frames cache stops;
-      numbered_alias = bracket_is texts alias_only pattern r frames cache stops;
+      measured = record {
+        answer = answer_is texts alias_only pattern r frames c.new-measurer.result.cache cache each nothing_measured c.new-measurer.ensures.nothing (nothing_true texts alias_only) (measure_view c.measure_of_result.result) c.measure_of_result.ensures;
+        pieces = pieces_most texts alias_only pattern r frames cache stops;
+        ends = ends_most texts alias_only pattern r frames cache stops;
+        all_pieces = pieces_all texts alias_only pattern r frames cache stops;
+        all_ends = ends_all texts alias_only pattern r frames cache stops;
+        read_pieces = pieces_read texts alias_only pattern r frames cache stops;
+        read_ends = ends_read texts alias_only pattern r frames cache stops;
+      };
+      numbered_alias = numbered_alias_is texts alias_only pattern r frames cache stops;
     }

@@ -1,4 +1,4 @@
-use Rattle.std.proofs.Common.{◌≡◌, ℕ, refl, sym, ap, subst, arith, length, Option, Some, option_map, false}
+use Rattle.std.proofs.Common.{refl, sym, ap, subst, arith, length, Some, option_map, false}
 use Rattle.std.specs.Coded.{Coded-set, coded_option, coded_ℕ, coded×}
 use mathlib.Core.Logic.{∥∥₁_elim}
 use Rattle.regex_vm.specs.Found.{span}

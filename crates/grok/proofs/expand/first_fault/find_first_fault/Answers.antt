@@ -19,9 +19,9 @@ items-preserved-in-Skip c =
     let item = item_view c.in-Some.item in
     let cut : c.items.items ≡ item ∷ c.next.new.self = rw c.in-Some.is at c.in_ok-item.ensures in
     let w : IsWalking mode all around c.items.items c.items.total = c.items.invariant in
-    let room : 1023 - c.len.result ≡ deepest - length around = ap (λ n. deepest - n) (c.len.ensures ∙ c.items.around.ok.0) in
+    let room : deepest - c.len.result ≡ deepest - length around = ap (λ n. deepest - n) (c.len.ensures ∙ c.items.around.ok.0) in
     let stepped : StepsAtItem mode (deepest - length around) item (walked mode all around c.items.items c.items.total w) c.read_item.new.total c.in_ok-read_item-in-Some.field-0 =
-    walk_steps mode all around c.items.items c.items.total w item c.next.new.self cut (1023 - c.len.result) room c.read_item.new.total c.in_ok-read_item-in-Some.field-0 c.in_ok-read_item-in-Some.ensures in
+    walk_steps mode all around c.items.items c.items.total w item c.next.new.self cut (deepest - c.len.result) room c.read_item.new.total c.in_ok-read_item-in-Some.field-0 c.in_ok-read_item-in-Some.ensures in
     walk_passes mode all around c.items.items c.items.total w item c.next.new.self cut c.read_item.new.total
     (subst (StepsAtItem mode (deepest - length around) item (walked mode all around c.items.items c.items.total w) c.read_item.new.total) c.in-Skip.is stepped)
 
@@ -42,9 +42,9 @@ items-preserved-in-Continue-branch-5 c =
     let rest = c.next.new.self in
     let cut : c.items.items ≡ item ∷ rest = rw c.in-Some.is at c.in_ok-item.ensures in
     let w : IsWalking mode all around c.items.items c.items.total = c.items.invariant in
-    let room : 1023 - c.len.result ≡ deepest - length around = ap (λ n. deepest - n) (c.len.ensures ∙ c.items.around.ok.0) in
+    let room : deepest - c.len.result ≡ deepest - length around = ap (λ n. deepest - n) (c.len.ensures ∙ c.items.around.ok.0) in
     let stepped : StepsAtItem mode (deepest - length around) item (walked mode all around c.items.items c.items.total w) c.read_item.new.total c.in_ok-read_item-in-Some.field-0 =
-    walk_steps mode all around c.items.items c.items.total w item rest cut (1023 - c.len.result) room c.read_item.new.total c.in_ok-read_item-in-Some.field-0 c.in_ok-read_item-in-Some.ensures in
+    walk_steps mode all around c.items.items c.items.total w item rest cut (deepest - c.len.result) room c.read_item.new.total c.in_ok-read_item-in-Some.field-0 c.in_ok-read_item-in-Some.ensures in
     let entered : EntersPlaceholder mode (deepest - length around) item c.in-Enter.inner (walked mode all around c.items.items c.items.total w) c.read_item.new.total =
     subst (StepsAtItem mode (deepest - length around) item (walked mode all around c.items.items c.items.total w) c.read_item.new.total) c.in-Enter.is stepped in
     let deeper : c.descend.new.around.items ≡ around ++ rest ∷ [] = c.in_ok-descend-in-Enter.ensures.around in
@@ -60,9 +60,9 @@ items-smaller-in-Continue-branch-5 c =
     let rest = c.next.new.self in
     let cut : c.items.items ≡ item ∷ rest = rw c.in-Some.is at c.in_ok-item.ensures in
     let w : IsWalking mode all around c.items.items c.items.total = c.items.invariant in
-    let room : 1023 - c.len.result ≡ deepest - length around = ap (λ n. deepest - n) (c.len.ensures ∙ c.items.around.ok.0) in
+    let room : deepest - c.len.result ≡ deepest - length around = ap (λ n. deepest - n) (c.len.ensures ∙ c.items.around.ok.0) in
     let stepped : StepsAtItem mode (deepest - length around) item (walked mode all around c.items.items c.items.total w) c.read_item.new.total c.in_ok-read_item-in-Some.field-0 =
-    walk_steps mode all around c.items.items c.items.total w item rest cut (1023 - c.len.result) room c.read_item.new.total c.in_ok-read_item-in-Some.field-0 c.in_ok-read_item-in-Some.ensures in
+    walk_steps mode all around c.items.items c.items.total w item rest cut (deepest - c.len.result) room c.read_item.new.total c.in_ok-read_item-in-Some.field-0 c.in_ok-read_item-in-Some.ensures in
     let entered : EntersPlaceholder mode (deepest - length around) item c.in-Enter.inner (walked mode all around c.items.items c.items.total w) c.read_item.new.total =
     subst (StepsAtItem mode (deepest - length around) item (walked mode all around c.items.items c.items.total w) c.read_item.new.total) c.in-Enter.is stepped in
     let deeper : c.descend.new.around.items ≡ around ++ rest ∷ [] = c.in_ok-descend-in-Enter.ensures.around in
@@ -78,9 +78,9 @@ returns-in-Report c =
     let item = item_view c.in-Some.item in
     let cut : c.items.items ≡ item ∷ c.next.new.self = rw c.in-Some.is at c.in_ok-item.ensures in
     let w : IsWalking mode all around c.items.items c.items.total = c.items.invariant in
-    let room : 1023 - c.len.result ≡ deepest - length around = ap (λ n. deepest - n) (c.len.ensures ∙ c.items.around.ok.0) in
+    let room : deepest - c.len.result ≡ deepest - length around = ap (λ n. deepest - n) (c.len.ensures ∙ c.items.around.ok.0) in
     let stepped : StepsAtItem mode (deepest - length around) item (walked mode all around c.items.items c.items.total w) c.read_item.new.total c.in_ok-read_item-in-Some.field-0 =
-    walk_steps mode all around c.items.items c.items.total w item c.next.new.self cut (1023 - c.len.result) room c.read_item.new.total c.in_ok-read_item-in-Some.field-0 c.in_ok-read_item-in-Some.ensures in
+    walk_steps mode all around c.items.items c.items.total w item c.next.new.self cut (deepest - c.len.result) room c.read_item.new.total c.in_ok-read_item-in-Some.field-0 c.in_ok-read_item-in-Some.ensures in
     sym (walk_finds mode all around c.items.items c.items.total w item c.next.new.self cut c.in-Report.tree_fault
     (subst (StepsAtItem mode (deepest - length around) item (walked mode all around c.items.items c.items.total w) c.read_item.new.total) c.in-Report.is stepped))
 

@@ -23,8 +23,8 @@ pub returns-in_err-number : goal.returns-in_err-number
 returns-in_err-number c =
     let inside = c.in_ok-inside.inside.now in
     let ends = strip_suffix_char 93 c.args.key.now (Some c.in_ok-inside.inside) c.in_ok-inside.ensures.cases (omega arith) in
-    let (i, j, found, before, behind, le, front_long, back_long) = c.in_ok-base.ensures.cases in
-    let split = is_split inside c.in_ok-base.base.now c.in_ok-base.digits.now i j found before behind in
+    let (i, j, found, before, after, le, front_long, back_long) = c.in_ok-base.ensures.cases in
+    let split = is_split inside c.in_ok-base.base.now c.in_ok-base.digits.now i j found before after in
     subst (Answers c.args.key.now) (sym c.from_residual-in_err-number.ensures)
     (λ base count low is. c.in_err-number.ensures (suc count) low (has_number c.args.key.now base count is inside ends c.in_ok-base.base.now c.in_ok-base.digits.now split))
 
@@ -32,8 +32,8 @@ pub returns-then-number-eq0 : goal.returns-then-number-eq0
 returns-then-number-eq0 c base count low is =
     let inside = c.in_ok-inside.inside.now in
     let ends = strip_suffix_char 93 c.args.key.now (Some c.in_ok-inside.inside) c.in_ok-inside.ensures.cases (omega arith) in
-    let (i, j, found, before, behind, le, front_long, back_long) = c.in_ok-base.ensures.cases in
-    let split = is_split inside c.in_ok-base.base.now c.in_ok-base.digits.now i j found before behind in
+    let (i, j, found, before, after, le, front_long, back_long) = c.in_ok-base.ensures.cases in
+    let split = is_split inside c.in_ok-base.base.now c.in_ok-base.digits.now i j found before after in
     let said = has_number c.args.key.now base count is inside ends c.in_ok-base.base.now c.in_ok-base.digits.now split in
     let same : c.in_ok-number.number ≡ suc count = numeral_same c.in_ok-number.number (suc count) (sym c.in_ok-number.ensures ∙ said) in
     omega (arith, same, c.if-number-eq0.true)
@@ -42,7 +42,7 @@ pub returns-else-number-eq0 : goal.returns-else-number-eq0
 returns-else-number-eq0 c =
     let inside = c.in_ok-inside.inside.now in
     let ends = strip_suffix_char 93 c.args.key.now (Some c.in_ok-inside.inside) c.in_ok-inside.ensures.cases (omega arith) in
-    let (i, j, found, before, behind, le, front_long, back_long) = c.in_ok-base.ensures.cases in
-    let split = is_split inside c.in_ok-base.base.now c.in_ok-base.digits.now i j found before behind in
+    let (i, j, found, before, after, le, front_long, back_long) = c.in_ok-base.ensures.cases in
+    let split = is_split inside c.in_ok-base.base.now c.in_ok-base.digits.now i j found before after in
     let some : 0 < c.in_ok-number.number = omega (arith, c.if-number-eq0.false) in
     (some, is_numbered c.args.key.now inside c.in_ok-base.base.now c.in_ok-base.digits.now c.in_ok-number.number ends split.cut c.in_ok-number.ensures some)

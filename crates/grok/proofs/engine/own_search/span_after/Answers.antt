@@ -1,0 +1,19 @@
+use Rattle.std.proofs.Common.{◌+◌, sym, ap, arith, None, option_map}
+use Rattle.std.specs.Coded.{Coded-set, coded_option, coded_ℕ, coded×}
+use mathlib.Core.Logic.{∥∥₁_elim}
+use Rattle.regex_vm.specs.Found.{span}
+use Rattle.regex_meta.proofs.PlansLemmas.{anchored_later}
+use Rattle.regex_meta.proofs.ProgramLemmas.{leftmost_beyond}
+use Rattle.regex_meta.specs.Programs.{pattern_of, leftmost}
+use Rattle.grok.proofs.engine.own_search.span_after.Goals as goal
+
+pub returns-then-marks-clause-span : goal.returns-then-marks-clause-span
+returns-then-marks-clause-span c =
+    let p = c.args.program.now in
+    let hay = c.args.hay.now in
+    ∥∥₁_elim c.requires.marked (Coded-set (coded_option (coded× coded_ℕ coded_ℕ)) None (option_map span (leftmost p hay (c.args.place + 1)))) (λ marks.
+    sym (ap (option_map span) (anchored_later (pattern_of p) hay (marks.start c.if-marks.true) (c.args.place + 1) (omega arith))))
+
+pub returns-then-place-hay-clause-span : goal.returns-then-place-hay-clause-span
+returns-then-place-hay-clause-span c =
+    sym (ap (option_map span) (leftmost_beyond c.args.program.now c.args.hay.now (c.args.place + 1) (omega arith)))

@@ -1,0 +1,10 @@
+use Rattle.std.proofs.Common.{◌≡◌, ◌+◌}
+use Rattle.grok.specs.MeasureCache.{fit}
+use Rattle.grok.proofs.Sizes.DigitsOfNumbers.{tens, above}
+use Rattle.grok.proofs.measure.partial_size.digits_of_numbers_below.Given as goal
+
+abbrev pub invariant-powers : goal.invariant-powers
+invariant-powers l = record {
+  power : l.power ≡ tens l._exponent;
+  digits : l.digits ≡ fit (l.count + above l._exponent l.count);
+}

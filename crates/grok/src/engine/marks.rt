@@ -1,0 +1,164 @@
+//! Where in a line a match can lie, by the literals that each match of a pattern has.
+ghost use Rattle.std.specs.Prelude.{◌≡◌, ◌≤◌, Some, length, IfOk, IfSome};
+ghost use Rattle.regex_extract.specs.Needles.{needles_of};
+ghost use Rattle.regex_extract.specs.Frames.{StartsFramed, IsInner};
+ghost use Rattle.regex_meta.specs.Programs.{pattern_of};
+ghost use Rattle.grok.specs.OwnSearches.{BeginsEach, IsInEach, AreMarksOf, IsNextOf, IsPlaceOf};
+
+use regex_extract::{Frame, Framed, Frames, Inner};
+use regex_literal::{Bounded, Prefilter};
+use regex_meta::Program;
+use regex_vm::Declined;
+use std::alloc::Global;
+
+/// What is known of all matches of a pattern.
+#[derive(Drop)]
+pub(crate) struct Marks {
+    /// Whether each match starts where the line starts.
+    pub(crate) at_start: bool,
+    /// Literals of which each match begins with one, if such are known.
+    pub(crate) first: Option<Needles>,
+    /// Literals of which each match contains one, if such are known.
+    pub(crate) inner: Option<Needles>,
+}
+
+/// Literals, and the bytes that can stand around them in a match.
+#[derive(Drop)]
+pub(crate) struct Needles {
+    literals: Prefilter,
+    frame: Frame,
+}
+
+impl Marks {
+    /// Finds out what all matches of the program have. If they start where the line starts, no
+    /// literals are looked for: such a line is refused sooner without them.
+    pub(crate) fn of(alloc: Global, program: &Program) -> Result<Marks, Declined>
+        ensures { IfOk result (λ marks. ∥ AreMarksOf (pattern_of program.now) marks ∥₁) }
+    {
+        if regex_extract::is_anchored_start(&program.hir) {
+            return Ok(Marks {
+                at_start: true,
+                first: None,
+                inner: None,
+            });
+        }
+        let Frames {
+            first,
+            best,
+            second: _second,
+        } = regex_extract::framed_needles(alloc, &program.hir)?;
+        Ok(Marks {
+            at_start: false,
+            first: first_needles(alloc, program, first)?,
+            inner: inner_needles(alloc, program, best)?,
+        })
+    }
+
+    /// Returns a place before which no match starts from `start` on, or `None` if no match starts
+    /// there at all.
+    pub(crate) fn next_place(&self, program: &Program, hay: &[u8], start: usize) -> Option<usize>
+        requires marked { ∥ AreMarksOf (pattern_of program.now) self.now ∥₁ }
+        requires inside { start ≤ length hay.now }
+        ensures { IsPlaceOf program.now hay.now start result }
+    {
+        let Some(place) = self.next_start(program, hay, start) else {
+            return None;
+        };
+        let Some(inner) = &self.inner else {
+            return Some(place);
+        };
+        match inner.next(hay, place) {
+            Some(_) => Some(place),
+            None => None,
+        }
+    }
+
+    /// Returns the same by what the matches begin with alone.
+    fn next_start(&self, program: &Program, hay: &[u8], start: usize) -> Option<usize>
+        requires marked { ∥ AreMarksOf (pattern_of program.now) self.now ∥₁ }
+        requires inside { start ≤ length hay.now }
+        ensures { IsPlaceOf program.now hay.now start result }
+    {
+        match &self.first {
+            Some(first) => first.next(hay, start),
+            None => program.first_place(hay, start),
+        }
+    }
+}
+
+impl Needles {
+    /// Builds the search for these literals, if there is a fast one.
+    fn new(alloc: Global, found: Framed) -> Result<Option<Needles>, Declined>
+        ensures { IfOk result (λ needles. IfSome needles (λ n.
+            (n.literals ≡ needles_of found.needles) × (n.frame ≡ found.frame))) }
+    {
+        let Framed { needles, frame, .. } = found;
+        match Prefilter::new(alloc, needles)? {
+            Some(literals) => Ok(Some(Needles { literals, frame })),
+            None => Ok(None),
+        }
+    }
+
+    /// Returns the first place from `start` on where a literal stands with such bytes around it, or an
+    /// earlier place if the search for it stops there.
+    pub(crate) fn next(&self, hay: &[u8], start: usize) -> Option<usize>
+        requires { start ≤ length hay.now }
+        ensures { IsNextOf self.now hay.now start result }
+    {
+        let mut from = start;
+        'literals: loop {
+            match self.literals.find_bounded(hay, from) {
+                Bounded::Missing => return None,
+                Bounded::Tired(at) => return Some(at),
+                Bounded::Found(at, _) => {
+                    if at == hay.len() || self.frame.fits(hay, at) {
+                        return Some(at);
+                    }
+                    from = at + 1;
+                }
+            }
+        }
+    }
+
+    /// Returns the same, or the end of the line if there is none.
+    pub(crate) fn next_or_end(&self, hay: &[u8], start: usize) -> usize
+        requires { start ≤ length hay.now }
+        ensures { (start ≤ result) × (result ≤ length hay.now) }
+    {
+        match self.next(hay, start) {
+            Some(at) => at,
+            None => hay.len(),
+        }
+    }
+}
+
+/// Builds the search for what each match begins with.
+fn first_needles(
+    alloc: Global,
+    program: &Program,
+    first: Option<Framed>,
+) -> Result<Option<Needles>, Declined>
+    requires { IfSome first (λ it.
+        StartsFramed (pattern_of program.now) (needles_of it.needles) (Some it.frame)) }
+    ensures { IfOk result (λ found. IfSome found (BeginsEach (pattern_of program.now))) }
+{
+    match first {
+        Some(first) => Ok(Needles::new(alloc, first)?),
+        None => Ok(None),
+    }
+}
+
+/// Builds the search for what each match contains.
+fn inner_needles(
+    alloc: Global,
+    program: &Program,
+    best: Option<Inner>,
+) -> Result<Option<Needles>, Declined>
+    requires { IfSome best (IsInner (pattern_of program.now)) }
+    ensures { IfOk result (λ found. IfSome found (IsInEach (pattern_of program.now))) }
+{
+    match best {
+        Some(Inner { found, head: _head }) => Ok(Needles::new(alloc, found)?),
+        None => Ok(None),
+    }
+}

@@ -1,0 +1,74 @@
+//! All that measuring a pattern finds out, as compiling needs it.
+ghost use Rattle.std.specs.Prelude.{◌≡◌, IfOk};
+ghost use Rattle.grok.specs.Tree.{reached};
+ghost use Rattle.grok.specs.Keys.{has_numbered_alias};
+ghost use Rattle.grok.specs.Measured.{tree_of};
+ghost use Rattle.grok.specs.CountedMeasures.{IsCountedMeasure};
+
+use crate::defs::Grok;
+use crate::errors::fault::LEVELS;
+use crate::measure::cache::Progress;
+use crate::measure::measurer::Measurer;
+use crate::measure::mode::MeasureMode;
+use crate::measure::partial_size::measure_of_result;
+use crate::measure::{Looks, Measure};
+use std::alloc::{AllocError, Global};
+use std::collections::BTreeMap;
+
+/// All that measuring a pattern finds out.
+#[derive(Drop)]
+pub(crate) struct FullMeasure<'a> {
+    pub measure: Measure<'a>,
+    pub looks: Looks,
+    /// Whether an alias that ends in a number in brackets is reached.
+    pub has_numbered_alias: bool,
+    /// How far measuring each name has come.
+    by_name: BTreeMap<&'a str, Progress<'a>>,
+}
+
+impl<'a> FullMeasure<'a> {
+    /// Returns the names whose texts were read to their ends, each with how many levels its text
+    /// needs. A name comes after the names that its text uses. Names whose texts were read in part
+    /// come last.
+    pub(crate) fn read_names(&self, alloc: Global) -> Result<Vec<(usize, &'a str)>, AllocError> {
+        let mut names = Vec::new(alloc);
+        for (name, progress) in &self.by_name {
+            match progress {
+                Progress::HasSize(sum) => names.push((sum.height, *name))?,
+                _ => names.push((usize::MAX, *name))?,
+            }
+        }
+        names.sort()?;
+        Ok(names)
+    }
+}
+
+impl Grok {
+    /// Measures a pattern, and reports how much was read for it and whether it reaches an alias
+    /// that ends in a number in brackets.
+    pub(crate) fn measure_fully<'a>(
+        &'a self,
+        pattern: &'a str,
+        with_alias_only: bool,
+    ) -> Result<FullMeasure<'a>, AllocError>
+        ensures measured { IfOk result (λ found.
+            IsCountedMeasure self.now with_alias_only pattern.now found.measure found.looks) }
+        ensures numbered_alias { IfOk result (λ found.
+            found.has_numbered_alias ≡ has_numbered_alias
+            (reached (tree_of self.now pattern.now))) }
+    {
+        let mut measurer = Measurer::new(MeasureMode {
+            grok: self,
+            alloc: self.alloc(),
+            with_alias_only,
+        });
+        let answer = measurer.measure_text(pattern, LEVELS)?;
+        let cache = measurer.cache;
+        Ok(FullMeasure {
+            measure: measure_of_result(answer),
+            looks: cache.looks,
+            has_numbered_alias: cache.has_numbered_alias,
+            by_name: cache.by_name,
+        })
+    }
+}

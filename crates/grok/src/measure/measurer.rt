@@ -1,0 +1,245 @@
+//! Measures texts. A definition that one of them uses is measured first, while a frame keeps the
+//! rest of the text around it.
+ghost use Rattle.std.specs.Prelude.{◌≡◌, ◌+◌, ◌<◌, ◌≤◌, ◌^◌, [], ◌∷◌, Option, Result, OnOk, IfOk, IfErr, MatchOption, length, Some, option_map};
+ghost use Rattle.std.specs.FinMap as finite;
+ghost use Rattle.grok.specs.Tree.{first_structural, inside, items_of};
+ghost use Rattle.grok.specs.Sizes.{sizes, size_or_fault};
+ghost use Rattle.grok.specs.MeasuredOnce.{State, items_within, nothing_measured};
+ghost use Rattle.grok.specs.Measured.{tree_of, measured_tree, counted};
+ghost use Rattle.grok.specs.MeasureCache.{items_in, shown_result, result_view, measure_view, ShowsState, unwound, AreLow, StopsReading, IsIdle, HasCorrectCache};
+ghost use Rattle.grok.specs.Items.{fault_view, item_view};
+
+use crate::defs::definition::Definition;
+use crate::defs::items::{Item, Items};
+use crate::errors::fault::{Fault, LEVELS};
+use crate::measure::cache::{MeasureCache, Progress, progress_of_failure};
+use crate::measure::mode::MeasureMode;
+use crate::measure::partial_size::{
+    Failure, PartialSize, add, bracketed, fault_after, fault_of, measure_of_result, size_of_text,
+};
+use crate::measure::placeholders::{PlaceholderSize, measure_placeholder};
+use crate::measure::{Looks, Measure};
+use std::alloc::AllocError;
+
+/// A text that waits until a definition that it uses is measured.
+#[derive(Drop)]
+pub(crate) struct Frame<'a> {
+    /// The name of that definition, and whether its placeholder captures.
+    name: &'a str,
+    is_capturing: bool,
+    /// The items after the placeholder.
+    items: Items<'a>,
+    /// The size of the items before it.
+    sum: PartialSize,
+}
+
+/// Measures texts over the same definitions. Each definition is measured once, unless it was nested
+/// too deeply before and more levels are left now.
+#[derive(Drop)]
+pub(crate) struct Measurer<'a> {
+    mode: MeasureMode<'a>,
+    pub(super) cache: MeasureCache<'a>,
+    /// The texts that wait, the innermost last. Between two calls there are none.
+    frames: Vec<Frame<'a>>,
+}
+
+/// Takes the next item of a text and counts it, or counts the end of the text.
+fn next_counted<'a>(
+    items: &mut Items<'a>,
+    looks: &mut Looks,
+) -> Result<Option<Item<'a>>, AllocError>
+    ensures { IfOk result (λ found. MatchOption found
+        ((items.old ≡ [])
+        × (looks.new ≡ record { pieces = looks.old.pieces; ends = counted (looks.old.ends + 1) }))
+        (λ item. (items.old ≡ item_view item ∷ items.new)
+        × (looks.new ≡ record {
+          pieces = counted
+              (looks.old.pieces + 1);
+          ends = looks.old.ends;
+        }))) }
+{
+    let found = items.next()?;
+    match found {
+        Some(_) => looks.pieces = looks.pieces.saturating_add(1),
+        None => looks.ends = looks.ends.saturating_add(1),
+    }
+    Ok(found)
+}
+
+impl<'a> Measurer<'a> {
+    /// Makes a measurer that remembers no definition.
+    pub fn new(mode: MeasureMode<'a>) -> Measurer<'a>
+        ensures mode { result.mode ≡ mode.entry }
+        ensures nothing { ShowsState result.cache nothing_measured }
+        ensures idle { IsIdle result }
+    {
+        Measurer {
+            mode,
+            cache: MeasureCache::new(mode.alloc),
+            frames: Vec::new(mode.alloc),
+        }
+    }
+
+    /// Returns the items of a text over the same definitions.
+    pub fn items_of(&self, text: &'a str) -> Items<'a>
+        ensures { result ≡ items_of (finite.get self.now.mode.grok.now) text.now }
+    {
+        Items::of_text(self.mode.alloc, self.mode.grok, text)
+    }
+
+    /// Measures a text with `levels` levels left: returns its size, or its first fault. A text that
+    /// it opens is measured first, while a frame keeps the rest of the one around it. On a fault
+    /// the open frames stay, so that the caller can remember the fault for their names.
+    pub(super) fn measure_text(
+        &mut self,
+        text: &'a str,
+        levels: usize,
+    ) -> Result<Result<PartialSize, Failure<'a>>, AllocError>
+        requires few { levels < 2 ^ 31 }
+        requires idle { IsIdle self.old }
+        ensures stops { IfOk result (λ r. (st : State) → ShowsState self.old.cache st →
+            StopsReading levels r self.new.frames.items self.new.cache (items_within self.old.mode.with_alias_only
+            (items_in self.old.mode.grok.now) levels
+            (items_in self.old.mode.grok.now text.now) st)) }
+        ensures ended { IfOk result (λ r. IfOk r (λ sum. self.new.frames.items ≡ [])) }
+        ensures reach { IfOk result (λ r. IfErr r (λ failure. failure.height ≤ levels + 1)) }
+        ensures low { IfOk result (λ r. AreLow levels self.new.frames.items) }
+        ensures few { IfOk result (λ r. length self.new.frames.items ≤ levels) }
+        ensures mode { IfOk result (λ r. self.new.mode ≡ self.old.mode) }
+    {
+        let mode = self.mode;
+        let mut items = Items::of_text(mode.alloc, mode.grok, text);
+        let mut sum = size_of_text("");
+        'items: loop {
+            match next_counted(&mut items, &mut self.cache.looks)? {
+                Some(Item::Text(text)) => sum = add(sum, size_of_text(text)),
+                Some(Item::Fault(fault)) => {
+                    return Ok(Err(fault_after(sum, Failure { fault, height: 0 })));
+                }
+                Some(Item::Placeholder(label, meaning)) => {
+                    let levels_left = levels - self.frames.len();
+                    match measure_placeholder(mode, &mut self.cache, label, meaning, levels_left)? {
+                        PlaceholderSize::Measured(Ok(one)) => sum = add(sum, one),
+                        PlaceholderSize::Measured(Err(failure)) => return Ok(Err(fault_after(
+                            sum, failure,
+                        ))),
+                        PlaceholderSize::Unread(stored) => {
+                            self.frames.push(Frame {
+                                name: label.name,
+                                is_capturing: label.is_capturing(mode.with_alias_only),
+                                items,
+                                sum,
+                            })?;
+                            items = Items::of_stored(mode.alloc, mode.grok, stored);
+                            sum = size_of_text("");
+                        }
+                    }
+                }
+                None => match self.frames.pop() {
+                    None => return Ok(Ok(sum)),
+                    Some(frame) => {
+                        self.cache.set_progress(frame.name, Progress::HasSize(sum))?;
+                        let inner = bracketed(frame.is_capturing, sum);
+                        sum = add(frame.sum, inner);
+                        items = frame.items;
+                    }
+                },
+            }
+        }
+    }
+
+    /// Removes all frames, and remembers the fault for each of the names that they wait for.
+    fn remember_fault(&mut self, levels: usize, mut failure: Failure<'a>) -> Result<(), AllocError>
+        requires levels { levels < 2 ^ 31 }
+        requires few { length self.old.frames.items ≤ levels }
+        requires low { AreLow levels self.old.frames.items }
+        requires reach { failure.height ≤ levels + 1 }
+        ensures remembers { OnOk result ((st : State) → ShowsState self.old.cache st → st.reach
+            ≡ failure.entry.height →
+            ShowsState self.new.cache (unwound levels self.old.frames.items (fault_view failure.entry.fault) st)) }
+        ensures idle { OnOk result (IsIdle self.new) }
+        ensures mode { OnOk result (self.new.mode ≡ self.old.mode) }
+    {
+        'frames: while let Some(frame) = self.frames.pop() {
+            let progress = progress_of_failure(failure, levels - self.frames.len());
+            self.cache.set_progress(frame.name, progress)?;
+            failure.height += 1;
+            failure = fault_after(frame.sum, failure);
+        }
+        Ok(())
+    }
+
+    /// Measures a text with `levels` levels left, where some definitions were measured before.
+    fn measure_within(
+        &mut self,
+        text: &'a str,
+        levels: usize,
+    ) -> Result<Result<PartialSize, Failure<'a>>, AllocError>
+        requires few { levels < 2 ^ 31 }
+        requires idle { IsIdle self.old }
+        ensures size { IfOk result (λ r. HasCorrectCache self.old →
+            result_view r ≡ shown_result (sizes self.old.mode.with_alias_only
+            (size_or_fault self.old.mode.with_alias_only (items_in self.old.mode.grok.now) levels)
+            (items_in self.old.mode.grok.now text.now))) }
+        ensures keeps { IfOk result
+            (λ r. HasCorrectCache self.old →
+            HasCorrectCache self.new) }
+        ensures idle { IfOk result (λ r. IsIdle self.new) }
+        ensures mode { IfOk result (λ r. self.new.mode ≡ self.old.mode) }
+    {
+        let answer = self.measure_text(text, levels)?;
+        match answer {
+            Ok(sum) => Ok(Ok(sum)),
+            Err(failure) => {
+                self.remember_fault(levels, failure)?;
+                Ok(Err(failure))
+            }
+        }
+    }
+
+    /// Measures a pattern, where some definitions were measured before.
+    pub fn measure_next(&mut self, pattern: &'a str) -> Result<Measure<'a>, AllocError>
+        requires { IsIdle self.old }
+        ensures answer { IfOk result
+            (λ measure. HasCorrectCache self.old →
+            measure_view measure ≡ measured_tree self.old.mode.with_alias_only
+            (tree_of self.old.mode.grok.now pattern.now)) }
+        ensures keeps { IfOk result
+            (λ measure. HasCorrectCache self.old →
+            HasCorrectCache self.new) }
+        ensures idle { IfOk result (λ measure. IsIdle self.new) }
+        ensures mode { IfOk result (λ measure. self.new.mode ≡ self.old.mode) }
+    {
+        let answer = self.measure_within(pattern, LEVELS)?;
+        Ok(measure_of_result(answer))
+    }
+
+    /// Returns the first structural fault of a stored definition, if `levels` levels are left for
+    /// it. What is remembered of its name is not measured again.
+    pub fn fault_of_definition(
+        &mut self,
+        name: &'a str,
+        stored: &'a Definition,
+        levels: usize,
+    ) -> Result<Option<Fault<'a>>, AllocError>
+        requires some { 0 < levels }
+        requires few { levels < 2 ^ 31 }
+        requires idle { IsIdle self.old }
+        ensures fault { IfOk result (λ fault.
+            HasCorrectCache self.old →
+            finite.get self.old.mode.grok.now name.now ≡ Some stored.now →
+            option_map fault_view fault ≡ first_structural
+            (inside (items_in self.old.mode.grok.now) levels stored.now)) }
+        ensures keeps { IfOk result
+            (λ fault. HasCorrectCache self.old →
+            HasCorrectCache self.new) }
+        ensures idle { IfOk result (λ fault. IsIdle self.new) }
+        ensures mode { IfOk result (λ fault. self.new.mode ≡ self.old.mode) }
+    {
+        if let Some(known) = self.cache.known(name, levels) {
+            return Ok(fault_of(known));
+        }
+        let answer = self.measure_within(stored.text(), levels - 1)?;
+        Ok(fault_of(answer))
+    }
+}

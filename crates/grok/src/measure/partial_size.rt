@@ -1,0 +1,167 @@
+//! Sizes of texts as far as they are known, and faults with their heights.
+ghost use Rattle.std.specs.Prelude.{◌≡◌, ℕ, ◌+◌, ◌<◌, ◌^◌, max, Option, Result, length, Some, option_map};
+ghost use Rattle.grok.specs.Tree.{Fault as ItemFault, inside};
+ghost use Rattle.grok.specs.Sizes.{Size, plus, in_brackets, length_of, digits_from, size_of_bytes};
+ghost use Rattle.grok.specs.FirstWrong.{fault_in};
+ghost use Rattle.grok.specs.Measured.{size_within, counted};
+ghost use Rattle.grok.specs.MeasureCache.{fit, shown, shown_result, result_view, measured_size, measure_view};
+ghost use Rattle.grok.specs.Items.{fault_view};
+
+use crate::errors::fault::Fault;
+use crate::generated_name::{NAMED_BYTES, UNNAMED_BYTES};
+use crate::measure::Measure;
+
+/// A size as far as it is known: the bytes without the numbers of the groups, the groups, and how
+/// many levels are nested. A number that passes the greatest `usize` is `None`.
+#[derive(Clone, Copy)]
+pub(super) struct PartialSize {
+    pub bytes: Option<usize>,
+    pub groups: Option<usize>,
+    pub height: usize,
+}
+
+/// A fault, and how many levels were nested up to it.
+#[derive(Clone, Copy)]
+pub(super) struct Failure<'a> {
+    pub fault: Fault<'a>,
+    pub height: usize,
+}
+
+/// Adds two numbers, if both are known and the sum fits.
+pub(super) fn add_fit(a: Option<usize>, b: Option<usize>) -> Option<usize>
+    ensures { (x y : ℕ) → a ≡ fit x → b ≡ fit y → result ≡ fit (x + y) }
+{
+    match (a, b) {
+        (Some(a), Some(b)) => a.checked_add(b),
+        _ => None,
+    }
+}
+
+/// Returns the size of one text after another.
+pub(super) fn add(a: PartialSize, b: PartialSize) -> PartialSize
+    ensures adds { (x y : Size) → a ≡ shown x → b ≡ shown y → result ≡ shown (plus x y) }
+    ensures height { result.height ≡ max a.height b.height }
+{
+    PartialSize {
+        bytes: add_fit(a.bytes, b.bytes),
+        groups: add_fit(a.groups, b.groups),
+        height: a.height.max(b.height),
+    }
+}
+
+/// Returns the size of regular text.
+pub(super) fn size_of_text(text: &str) -> PartialSize
+    ensures shown { result ≡ shown (size_of_bytes text.now) }
+    ensures height { result.height ≡ 0 }
+{
+    PartialSize {
+        bytes: Some(text.len()),
+        groups: Some(0),
+        height: 0,
+    }
+}
+
+/// Adds the brackets of a placeholder to the size of what is inside.
+pub(super) fn bracketed(is_capturing: bool, inner: PartialSize) -> PartialSize
+    requires { inner.height < 2 ^ 32 }
+    ensures height { result.height ≡ inner.height + 1 }
+    ensures brackets { (z : Size) → inner ≡ shown z →
+        result ≡ shown (in_brackets is_capturing z) }
+{
+    // Numbers are counted apart.
+    let (bytes, groups) = if is_capturing {
+        (NAMED_BYTES, 1)
+    } else {
+        (UNNAMED_BYTES, 0)
+    };
+    PartialSize {
+        bytes: add_fit(Some(bytes), inner.bytes),
+        groups: add_fit(Some(groups), inner.groups),
+        height: inner.height + 1,
+    }
+}
+
+/// Returns the number of decimal digits of 0, 1, .., count - 1 together.
+fn digits_of_numbers_below(count: usize) -> Option<usize>
+    ensures { result ≡ fit (digits_from 0 count) }
+{
+    let mut digits = Some(count);
+    let mut power: usize = 1;
+    // 10^19 is the greatest power of ten that a `usize` holds.
+    'powers: for _exponent in 0..19usize {
+        power *= 10;
+        digits = add_fit(digits, Some(count.saturating_sub(power)));
+    }
+    digits
+}
+
+/// Returns the length of a text of this size, with the numbers of its groups.
+#[tactic(auto, using(crate::proofs::Sizes::SumsFit::fits))]
+fn length_of_partial_size(sum: PartialSize) -> Option<usize>
+    ensures { (z : Size) → sum ≡ shown z → result ≡ fit (length_of z) }
+{
+    match sum.groups {
+        Some(groups) => add_fit(sum.bytes, digits_of_numbers_below(groups)),
+        None => None,
+    }
+}
+
+/// Returns the result for a pattern of this size.
+#[tactic(auto, using(crate::proofs::Sizes::SumsFit::fits))]
+fn measure_of_size<'a>(sum: PartialSize) -> Measure<'a>
+    ensures { (z : Size) → sum ≡ shown z →
+        measure_view result ≡ size_within (length_of z) z.groups z.height }
+{
+    match (length_of_partial_size(sum), sum.groups) {
+        (Some(length), Some(groups)) => Measure::Size {
+            length,
+            groups,
+            nesting: sum.height,
+        },
+        _ => Measure::TooLong,
+    }
+}
+
+/// Returns the result for a pattern of this size, or with this fault.
+pub(super) fn measure_of_result<'a>(answer: Result<PartialSize, Failure<'a>>) -> Measure<'a>
+    ensures { (r : Result Size ItemFault) → result_view answer.entry ≡ shown_result r →
+        measure_view result ≡ measured_size r }
+{
+    match answer {
+        Ok(sum) => measure_of_size(sum),
+        Err(failure) => Measure::Fault(failure.fault),
+    }
+}
+
+/// Returns the fault of a placeholder for which no level is left.
+pub(super) fn too_deep<'a>() -> Failure<'a>
+    ensures fault { result.fault ≡ Fault.TooDeep }
+    ensures reach { result.height ≡ 0 }
+{
+    Failure {
+        fault: Fault::TooDeep,
+        height: 0,
+    }
+}
+
+/// Returns a fault that comes after text of this size.
+pub(super) fn fault_after<'a>(sum: PartialSize, failure: Failure<'a>) -> Failure<'a>
+    ensures fault { result.fault ≡ failure.entry.fault }
+    ensures reach { result.height ≡ max sum.height failure.entry.height }
+{
+    Failure {
+        fault: failure.fault,
+        height: sum.height.max(failure.height),
+    }
+}
+
+/// Returns the fault, if there is one.
+pub(super) fn fault_of<'a>(answer: Result<PartialSize, Failure<'a>>) -> Option<Fault<'a>>
+    ensures { (r : Result Size ItemFault) → result_view answer.entry ≡ shown_result r →
+        option_map fault_view result ≡ fault_in r }
+{
+    match answer {
+        Ok(_) => None,
+        Err(failure) => Some(failure.fault),
+    }
+}

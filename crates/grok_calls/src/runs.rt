@@ -1,0 +1,21 @@
+//! Runs of the program's commands, without input.
+use anyhow::{Result, bail};
+use grok_commands::run;
+use std::io;
+
+pub(crate) fn call(rt: &HostRuntime, name: &str) -> Result<()> {
+    match name {
+        "wrong_words" => run_words(rt, &["match", "-a"]),
+        "no_words" => run_words(rt, &[]),
+        _ => bail!("no call has this name"),
+    }
+}
+
+/// Runs these words. Nothing is read, and what is written is thrown away.
+fn run_words(rt: &HostRuntime, words: &[&str]) -> Result<()> {
+    twice!(
+        rt,
+        run(rt.alloc(), words, &mut io::empty(), &mut io::sink())
+    );
+    Ok(())
+}

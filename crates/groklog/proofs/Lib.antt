@@ -1,0 +1,2 @@
+pub mod NamesAndBlanksEndAtBoundaries
+pub mod TextsAfterNames

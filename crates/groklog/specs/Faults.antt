@@ -1,0 +1,12 @@
+-- The exit status of each fault.
+use Rattle.std.specs.Prelude.{ℕ}
+use Rattle.groklog.specs.declared.fault.Fault.{Fault}
+use Rattle.groklog.specs.declared.fault.Fault.TheVariants.{Pattern, Usage, Memory, Read, Write}
+
+-- 1 for a pattern or a definition, 2 for the options, 3 for memory, reading and writing
+abbrev pub fault_status : Fault → ℕ
+fault_status (Pattern report) = 1
+fault_status (Usage report) = 2
+fault_status Memory = 3
+fault_status (Read report) = 3
+fault_status (Write report) = 3

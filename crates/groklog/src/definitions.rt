@@ -1,0 +1,157 @@
+//! Definitions as users write them: lines of a file, and the words after `-D`.
+ghost use Rattle.std.specs.Prelude.{◌≡◌, drop, option_map};
+ghost use Rattle.std.specs.List.{prefix_len, take_while};
+ghost use Rattle.grok.specs.Maps.{pair_texts};
+ghost use Rattle.grok.specs.Pieces.{is_name_byte};
+ghost use Rattle.groklog.specs.Definitions.{is_blank, without_blanks, definition_after, definition_of};
+
+use std::alloc::AllocError;
+use std::fmt;
+
+/// Returns whether a name may have this byte.
+fn is_name_byte(b: u8) -> bool
+    ensures { result ≡ is_name_byte b }
+{
+    b.is_ascii_alphanumeric() || b == b'_'
+}
+
+/// Returns whether the byte is a space or a tab.
+fn is_blank(b: u8) -> bool
+    ensures { result ≡ is_blank b }
+{
+    b == b' ' || b == b'\t'
+}
+
+/// Returns how many bytes at the start of a text belong to a name.
+fn name_len(text: &[u8]) -> usize
+    ensures { result ≡ prefix_len is_name_byte text.now }
+{
+    text.iter().take_while(|b| is_name_byte(**b)).count()
+}
+
+/// Returns how many blanks a text begins with.
+fn blanks_len(text: &[u8]) -> usize
+    ensures { result ≡ prefix_len is_blank text.now }
+{
+    text.iter().take_while(|b| is_blank(**b)).count()
+}
+
+/// Splits a text after the name that it begins with, which may be empty.
+#[tactic(auto, using(crate::proofs::NamesAndBlanksEndAtBoundaries::run_ends))]
+fn split_name(text: &str) -> (&str, &str)
+    ensures name { result.0.now ≡ take_while is_name_byte text.now }
+    ensures rest { result.1.now ≡ drop (prefix_len is_name_byte text.now) text.now }
+{
+    text.split_at(name_len(text.as_bytes()))
+}
+
+/// Returns the text without the blanks that it begins with.
+#[tactic(auto, using(crate::proofs::NamesAndBlanksEndAtBoundaries::run_ends))]
+fn skip_blanks(text: &str) -> &str
+    ensures { result.now ≡ without_blanks text.now }
+{
+    let (_, rest) = text.split_at(blanks_len(text.as_bytes()));
+    rest
+}
+
+/// Returns the definition after a name: what follows `=`, or what follows blanks.
+#[tactic(auto, using(crate::proofs::TextsAfterNames::texts_after_names))]
+fn definition_after(text: &str) -> Option<&str>
+    ensures { option_map (λ definition. definition.now) result ≡ definition_after text.now }
+{
+    let mut characters = text.chars();
+    match characters.next()? {
+        '=' => Some(characters.as_str()),
+        ' ' | '\t' => Some(skip_blanks(characters.as_str())),
+        _ => None,
+    }
+}
+
+/// Reads `NAME=DEF` or `NAME DEF`.
+pub fn read_definition(text: &str) -> Option<(&str, &str)>
+    ensures { option_map pair_texts result ≡ definition_of text.now }
+{
+    let (name, rest) = split_name(text);
+    if name.is_empty() {
+        return None;
+    }
+    let definition = definition_after(rest)?;
+    Some((name, definition))
+}
+
+/// Where a definition was given.
+#[derive(Clone, Copy)]
+pub enum Origin<'a> {
+    /// It is always there.
+    Default,
+    /// On this line of this file. Lines are counted from 1.
+    Line { file: &'a str, number: u64 },
+    /// In the word after `-D`.
+    Word,
+}
+
+impl fmt::Display for Origin<'_> {
+    fn fmt<W: fmt::Write>(&self, f: &mut fmt::Formatter<W>) -> fmt::Result {
+        match self {
+            Origin::Default => f.write_str("a default definition"),
+            Origin::Line { file, number } => write!(f, "{file}:{number}"),
+            Origin::Word => f.write_str("-D"),
+        }
+    }
+}
+
+/// A name, its definition, and where it was given.
+#[derive(Clone, Copy)]
+pub struct Definition<'a> {
+    pub name: &'a str,
+    pub text: &'a str,
+    pub origin: Origin<'a>,
+}
+
+/// Returns a line without the carriage return at its end.
+fn without_return(line: &str) -> &str {
+    line.strip_suffix('\r').unwrap_or(line)
+}
+
+/// Returns whether a line has no definition: a comment, or nothing but blanks.
+fn is_skipped(line: &str) -> bool {
+    let text = skip_blanks(line);
+    text.is_empty() || text.starts_with('#')
+}
+
+/// Adds the definitions of a file's text to those found. Returns the first line that is neither a
+/// definition nor skipped, if there is one, and where it is.
+///
+/// # Errors
+///
+/// If an allocation fails.
+pub fn read_file<'a>(
+    found: &mut Vec<Definition<'a>>,
+    file: &'a str,
+    text: &'a str,
+) -> Result<Option<(Origin<'a>, &'a str)>, AllocError> {
+    let mut number = 0u64;
+    for line in text.split('\n') {
+        number = number.saturating_add(1);
+        let line = without_return(line);
+        if is_skipped(line) {
+            continue;
+        }
+        let origin = Origin::Line { file, number };
+        match read_definition(skip_blanks(line)) {
+            Some((name, text)) => found.push(Definition { name, text, origin })?,
+            None => return Ok(Some((origin, line))),
+        }
+    }
+    Ok(None)
+}
+
+/// Reads the word `NAME=DEF` after `-D`.
+pub fn read_word(word: &str) -> Option<Definition<'_>>
+    ensures { option_map (λ definition. (definition.name.now, definition.text.now)) result
+        ≡ definition_of word.now }
+{
+    let (name, text) = read_definition(word)?;
+    let origin = Origin::Word;
+    Some(Definition { name, text, origin })
+}

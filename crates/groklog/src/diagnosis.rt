@@ -1,0 +1,289 @@
+//! What is wrong with a pattern that can't be compiled, where, and what to do.
+
+use crate::excerpt::excerpt;
+use crate::expansion::Expansion;
+use crate::fault::Report;
+use crate::library::Library;
+use crate::logstash::is_refused;
+use grok::parser::GrokPatternError;
+use grok::{Error, Fault, FaultLocation, Grok, RefusalReason};
+use std::alloc::{AllocError, Global};
+use std::ops::Range;
+use strsim::levenshtein;
+
+/// Names that need more edits than this aren't suggested.
+const MOST_EDITS: usize = 3;
+
+/// How many definitions that lead to a fault are named at most.
+const MOST_STEPS: usize = 8;
+
+/// What may stand in a placeholder.
+const PLACEHOLDERS: &str =
+    "write %{NAME}, %{NAME:alias} or %{NAME:alias:extract}, where a NAME has a-z A-Z 0-9 _, and an alias or extract a-z A-Z 0-9 _ - . [ ]";
+
+/// What to do about forms that only Logstash's engine knows.
+const FROM_LOGSTASH: &str =
+    "use --from-logstash, which rewrites lookarounds, atomic groups and \\h, and reports each change";
+
+/// Returns the known name that needs the fewest edits, if it needs few.
+fn nearest_name(alloc: Global, grok: &Grok, name: &str) -> Result<Option<String>, AllocError> {
+    let mut nearest = None;
+    let mut fewest = MOST_EDITS;
+    for known in grok.names() {
+        let edits = levenshtein(alloc, name, known)?;
+        if edits <= fewest && edits < name.len() {
+            fewest = edits;
+            nearest = Some(String::from_str(alloc, known)?);
+        }
+    }
+    Ok(nearest)
+}
+
+/// Returns what to do about a name without a definition.
+fn advice_for_name(alloc: Global, grok: &Grok, name: &str) -> Result<String, AllocError> {
+    match nearest_name(alloc, grok, name)? {
+        Some(nearest) => format!(in alloc;
+            "write {nearest} if you mean that, or define {name} by -d FILE or -D {name}=DEF"
+        ),
+        None => format!(in alloc; "define {name} by -d FILE or -D {name}=DEF"),
+    }
+}
+
+/// Returns the words for a text: the pattern, or the last definition of a path, with where it was given
+/// and the definitions that lead to it.
+fn place_of(alloc: Global, library: &Library<'_>, path: &[&str]) -> Result<String, AllocError> {
+    let Some((name, through)) = path.split_last() else {
+        return String::from_str(alloc, "the pattern");
+    };
+    let mut place = format!(in alloc; "the definition {name}")?;
+    if let Some(source) = library.source(name) {
+        let origin = format!(in alloc; " ({})", source.origin)?;
+        place.push_str(origin.as_str())?;
+    }
+    for (number, step) in through.iter().take(MOST_STEPS).enumerate() {
+        place.push_str(if number == 0 { ", used by " } else { " > " })?;
+        place.push_str(step)?;
+    }
+    if through.len() > MOST_STEPS {
+        place.push_str(" > ...")?;
+    }
+    Ok(place)
+}
+
+/// Returns how many bytes at the start of a text belong to a name.
+fn name_len(text: &str) -> usize {
+    text.bytes()
+        .take_while(|b| b.is_ascii_alphanumeric() || *b == b'_')
+        .count()
+}
+
+/// Returns how many bytes at the start of a text belong to aliases and extracts, with their colons.
+fn words_len(text: &str) -> usize {
+    text.bytes()
+        .take_while(|b| {
+            b.is_ascii_alphanumeric() || matches!(*b, b'_' | b'-' | b'.' | b'[' | b']' | b':')
+        })
+        .count()
+}
+
+/// Returns where the words of a malformed placeholder end: the byte that can't stand there, or the
+/// length of the placeholder.
+fn words_end(piece: &str) -> usize {
+    let end = name_len(piece.get(2..).unwrap_or("")).saturating_add(2);
+    let rest = piece.get(end..).unwrap_or("");
+    if rest.starts_with(':') {
+        end.saturating_add(words_len(rest))
+    } else {
+        end
+    }
+}
+
+/// Returns what is wrong with a placeholder that has no name, no end, or too many parts.
+fn incomplete(piece: &str) -> &'static str {
+    if words_end(piece) >= piece.len() {
+        "this placeholder isn't closed by }"
+    } else if name_len(piece.get(2..).unwrap_or("")) == 0 {
+        "this placeholder has no name"
+    } else {
+        "this placeholder has more than a name, an alias and an extract"
+    }
+}
+
+/// Returns what is wrong with a malformed placeholder, in words, and the part of it that is wrong.
+fn malformed(
+    alloc: Global,
+    fault: GrokPatternError,
+    piece: &str,
+) -> Result<(String, Range<usize>), AllocError> {
+    let end = match piece.find('}') {
+        Some(end) => end.saturating_add(1),
+        None => piece.len(),
+    };
+    let what = match fault {
+        GrokPatternError::InvalidCharacter(c) => {
+            let at = words_end(piece);
+            let what = format!(in alloc; "a placeholder can't have {c:?} here")?;
+            return Ok((what, at..at.saturating_add(c.len_utf8())));
+        }
+        GrokPatternError::InvalidPattern => incomplete(piece),
+        GrokPatternError::InvalidPatternDefinition => {
+            "a part of this placeholder is empty, or its definition has a { or no end"
+        }
+    };
+    Ok((String::from_str(alloc, what)?, 0..end))
+}
+
+/// Returns a range that lies so many bytes further on.
+fn moved(range: Range<usize>, by: usize) -> Range<usize> {
+    range.start.saturating_add(by)..range.end.saturating_add(by)
+}
+
+/// Returns the report of a structural fault, without its place.
+fn structural_report(
+    alloc: Global,
+    library: &Library<'_>,
+    location: &FaultLocation<'_>,
+) -> Result<(Report, Range<usize>), AllocError> {
+    let range = location.range.start..location.range.end;
+    match location.fault {
+        Fault::Malformed(fault) => {
+            let piece = location.text.get(range.start..).unwrap_or("");
+            let (what, part) = malformed(alloc, fault, piece)?;
+            let report = Report::new(alloc, what.as_str(), "", PLACEHOLDERS)?;
+            Ok((report, moved(part, range.start)))
+        }
+        Fault::Missing(name) => {
+            let what = format!(in alloc; "there is no definition of {name}")?;
+            let advice = advice_for_name(alloc, &library.grok, name)?;
+            Ok((
+                Report::new(alloc, what.as_str(), "", advice.as_str())?,
+                range,
+            ))
+        }
+        Fault::TooDeep => {
+            let what = "placeholders are nested more than 1,023 levels deep";
+            let advice = "look for a definition that uses itself";
+            Ok((Report::new(alloc, what, "", advice)?, range))
+        }
+    }
+}
+
+/// Returns the report of a pattern whose first fault is a structural one, or `None` if it has none.
+fn located_report(
+    alloc: Global,
+    library: &Library<'_>,
+    pattern: &str,
+    error: &Error,
+) -> Result<Option<Report>, AllocError> {
+    let Some(location) = library.grok.locate(pattern)? else {
+        return Ok(None);
+    };
+    match location.fault.to_error(alloc) {
+        Ok(found) if found == *error => {}
+        _ => return Ok(None),
+    }
+    let (mut report, part) = structural_report(alloc, library, &location)?;
+    report.place = place_of(alloc, library, location.path.as_slice())?;
+    report.excerpt = excerpt(alloc, location.text, part)?;
+    Ok(Some(report))
+}
+
+/// Returns what to do about a text that the engine refuses.
+fn advice_for_refusal(alloc: Global, text: &str) -> Result<&'static str, AllocError> {
+    Ok(if is_refused(alloc, text)? {
+        FROM_LOGSTASH
+    } else {
+        "write it as Rust's crate regex has it, where backreferences, among others, are missing"
+    })
+}
+
+/// Returns the report of a text that the engine can't read.
+fn syntax_report<'x>(
+    alloc: Global,
+    library: &'x Library<'_>,
+    pattern: &'x str,
+    expanded: &'x str,
+    error: &regex_syntax::Error,
+) -> Result<Report, AllocError> {
+    let what = format!(in alloc; "the engine refuses this: {}", error.kind.message())?;
+    let mut expansion = Expansion::new(alloc, library, pattern, expanded)?;
+    let Some(origin) = expansion.locate(error.span.start..error.span.end)? else {
+        let advice = advice_for_refusal(alloc, pattern)?;
+        return Report::new(alloc, what.as_str(), "the pattern", advice);
+    };
+    let advice = advice_for_refusal(alloc, origin.text)?;
+    let place = place_of(alloc, library, origin.path.as_slice())?;
+    let mut report = Report::new(alloc, what.as_str(), place.as_str(), advice)?;
+    report.excerpt = excerpt(alloc, origin.text, origin.range)?;
+    Ok(report)
+}
+
+/// Returns the report of a pattern that the engine can't hold.
+fn too_large(alloc: Global) -> Result<Report, AllocError> {
+    Report::new(
+        alloc,
+        "the pattern is too large for the engine",
+        "",
+        "write fewer or smaller repetitions such as {1,1000}, or \\w and \\d for ASCII only: (?-u:\\w)",
+    )
+}
+
+/// Returns the report of a pattern whose expanded text the engine refuses.
+fn refusal_report(
+    alloc: Global,
+    library: &Library<'_>,
+    pattern: &str,
+    with_alias_only: bool,
+) -> Result<Report, AllocError> {
+    match library.grok.why_refused(pattern, with_alias_only) {
+        Ok(Some(refusal)) => match refusal.reason {
+            RefusalReason::Syntax(error) => {
+                syntax_report(alloc, library, pattern, refusal.text.as_str(), &error)
+            }
+            RefusalReason::TooBig => too_large(alloc),
+        },
+        // The same text was refused before.
+        Ok(None) => too_large(alloc),
+        // Compiling the pattern got as far as the engine, so only memory can have run out.
+        Err(_) => Err(AllocError),
+    }
+}
+
+/// Returns the report of a pattern that can't be compiled for this reason.
+///
+/// # Errors
+///
+/// If an allocation fails.
+pub fn report_of(
+    alloc: Global,
+    library: &Library<'_>,
+    pattern: &str,
+    with_alias_only: bool,
+    error: &Error,
+) -> Result<Report, AllocError> {
+    if matches!(error, Error::RegexCompilationFailed(_)) {
+        return refusal_report(alloc, library, pattern, with_alias_only);
+    }
+    if let Some(report) = located_report(alloc, library, pattern, error)? {
+        return Ok(report);
+    }
+    match error {
+        Error::CompiledPatternIsEmpty(_) => Report::new(
+            alloc,
+            "the pattern is empty",
+            "",
+            "write a regular expression, with placeholders such as %{USERNAME:user}",
+        ),
+        // What is left are two equal keys.
+        Error::GenericCompilationFailure(words) => Report::new(
+            alloc,
+            words.as_str(),
+            "the pattern",
+            "give one of the two placeholders another alias",
+        ),
+        error => {
+            let what = error.to_string(alloc)?;
+            Report::new(alloc, what.as_str(), "the pattern", "")
+        }
+    }
+}

@@ -1,0 +1,62 @@
+//! Shows a part of a text: the text around it, and carets under it.
+
+use std::alloc::{AllocError, Global};
+use std::ops::Range;
+
+/// How many characters are shown before a part, and how many after it.
+const CONTEXT: usize = 30;
+
+/// How many carets stand under a part at most.
+const MOST_CARETS: usize = 40;
+
+/// Returns what is shown for a character. One that moves the cursor would misplace the carets.
+fn shown(c: char) -> char {
+    if c.is_control() { ' ' } else { c }
+}
+
+/// Returns how many characters of a text begin before this byte.
+fn chars_before(text: &str, end: usize) -> usize {
+    text.char_indices().take_while(|(at, _)| *at < end).count()
+}
+
+/// Appends so many copies of a character.
+fn push_many(line: &mut String, c: char, count: usize) -> Result<(), AllocError> {
+    for _ in 0..count {
+        line.push(c)?;
+    }
+    Ok(())
+}
+
+/// Appends so many characters of a text, from one of them on.
+fn push_part(line: &mut String, text: &str, first: usize, count: usize) -> Result<(), AllocError> {
+    for c in text.chars().skip(first).take(count) {
+        line.push(shown(c))?;
+    }
+    Ok(())
+}
+
+/// Returns a line that shows this byte range of a text and what is around it, and a line that has carets
+/// under that range.
+///
+/// # Errors
+///
+/// If an allocation fails.
+pub fn excerpt(alloc: Global, text: &str, part: Range<usize>) -> Result<String, AllocError> {
+    let before = chars_before(text, part.start);
+    let carets = chars_before(text, part.end)
+        .saturating_sub(before)
+        .clamp(1, MOST_CARETS);
+    let first = before.saturating_sub(CONTEXT);
+    let lead = before.saturating_sub(first);
+    let count = lead.saturating_add(carets).saturating_add(CONTEXT);
+    let (cut, dots) = if first > 0 { ("...", 3) } else { ("", 0) };
+    let mut lines = String::from_str(alloc, cut)?;
+    push_part(&mut lines, text, first, count)?;
+    if chars_before(text, text.len()) > first.saturating_add(count) {
+        lines.push_str("...")?;
+    }
+    lines.push_str("\n    ")?;
+    push_many(&mut lines, ' ', lead.saturating_add(dots))?;
+    push_many(&mut lines, '^', carets)?;
+    Ok(lines)
+}

@@ -1,0 +1,253 @@
+//! Reads a pattern beside the text that it expands to: which definition each part of that text is from.
+
+use crate::library::Library;
+use grok::parser::{GrokComponent, GrokSplit, grok_split};
+use std::alloc::{AllocError, Global};
+use std::ops::Range;
+
+/// A text that is being read: the pattern, or the definition of a placeholder.
+#[derive(Drop)]
+struct Frame<'a> {
+    /// The name of the placeholder; empty for the pattern itself.
+    name: &'a str,
+    text: &'a str,
+    pieces: GrokSplit<'a>,
+    /// The names and texts that placeholders of this text have defined so far.
+    inline: Vec<(&'a str, &'a str)>,
+}
+
+/// A placeholder, by its parts. A part that is missing is empty.
+#[derive(Clone, Copy)]
+pub struct Placeholder<'a> {
+    pub name: &'a str,
+    pub alias: &'a str,
+    definition: &'a str,
+    /// Whether it became a named group.
+    pub is_capturing: bool,
+}
+
+impl<'a> Placeholder<'a> {
+    /// Returns the key that it asks for: its alias, or its name if it has none.
+    pub fn key(&self) -> &'a str {
+        if self.alias.is_empty() {
+            self.name
+        } else {
+            self.alias
+        }
+    }
+}
+
+/// A step of reading.
+#[derive(Clone, Copy)]
+pub enum Step<'a> {
+    /// A part without placeholders, which begins at this byte of its text.
+    Text { begin: usize },
+    /// The begin of a placeholder's group.
+    Open(Placeholder<'a>),
+    /// The end of a placeholder's group.
+    Close,
+}
+
+/// Where a byte of the expanded text is from.
+#[derive(Drop)]
+pub struct Origin<'a> {
+    /// The names of the placeholders that lead from the pattern to the text, outermost first.
+    pub path: Vec<&'a str>,
+    pub text: &'a str,
+    /// The part of that text.
+    pub range: Range<usize>,
+}
+
+/// Reads a pattern and its expanded text side by side.
+#[derive(Drop)]
+pub struct Expansion<'a, 'd> {
+    alloc: Global,
+    library: &'a Library<'d>,
+    expanded: &'a str,
+    /// Where the next step begins in the expanded text.
+    at: usize,
+    frames: Vec<Frame<'a>>,
+}
+
+/// Returns the length of the group's head that a text begins with, and whether the group has a name.
+fn group_head(text: &str) -> (usize, bool) {
+    if text.starts_with("(?:") {
+        return (3, false);
+    }
+    match text.find('>') {
+        Some(end) => (end.saturating_add(1), true),
+        None => (text.len(), true),
+    }
+}
+
+impl<'a> Frame<'a> {
+    fn new(alloc: Global, name: &'a str, text: &'a str) -> Frame<'a> {
+        Frame {
+            name,
+            text,
+            pieces: grok_split(text),
+            inline: Vec::new(alloc),
+        }
+    }
+
+    /// Returns what a name means in this text.
+    fn meaning(&self, library: &'a Library<'_>, name: &str) -> &'a str {
+        let defined = self.inline.iter().rev().find(|(known, _)| *known == name);
+        match (defined, library.source(name)) {
+            (Some((_, text)), _) => text,
+            (None, Some(source)) => source.text.as_str(),
+            // The pattern was expanded, so the name is known.
+            (None, None) => "",
+        }
+    }
+}
+
+impl<'a, 'd> Expansion<'a, 'd> {
+    /// Begins to read a pattern that has no fault, and the text that it expands to.
+    ///
+    /// # Errors
+    ///
+    /// If an allocation fails.
+    pub fn new(
+        alloc: Global,
+        library: &'a Library<'d>,
+        pattern: &'a str,
+        expanded: &'a str,
+    ) -> Result<Expansion<'a, 'd>, AllocError> {
+        let mut frames = Vec::new(alloc);
+        frames.push(Frame::new(alloc, "", pattern))?;
+        Ok(Expansion {
+            alloc,
+            library,
+            expanded,
+            at: 0,
+            frames,
+        })
+    }
+
+    /// Skips so many bytes of the expanded text.
+    fn skip(&mut self, count: usize) {
+        self.at = self.at.saturating_add(count);
+    }
+
+    /// Returns the expanded text that is left.
+    fn rest(&self) -> &'a str {
+        self.expanded.get(self.at..).unwrap_or("")
+    }
+
+    /// Begins the group of a placeholder in this text.
+    fn open(
+        &mut self,
+        mut frame: Frame<'a>,
+        mut placeholder: Placeholder<'a>,
+    ) -> Result<Step<'a>, AllocError> {
+        let name = placeholder.name;
+        if !placeholder.definition.is_empty() {
+            frame.inline.push((name, placeholder.definition))?;
+        }
+        let text = frame.meaning(self.library, name);
+        self.frames.push(frame)?;
+        self.frames.push(Frame::new(self.alloc, name, text))?;
+        let (head, is_named) = group_head(self.rest());
+        self.skip(head);
+        placeholder.is_capturing = is_named;
+        Ok(Step::Open(placeholder))
+    }
+
+    /// Reads the next piece of the innermost text, or its end. Returns `None` at the end of the pattern.
+    ///
+    /// # Errors
+    ///
+    /// If an allocation fails.
+    pub fn next(&mut self) -> Result<Option<Step<'a>>, AllocError> {
+        let Some(mut frame) = self.frames.pop() else {
+            return Ok(None);
+        };
+        match frame.pieces.next() {
+            Some(GrokComponent::RegularExpression { range, string }) => {
+                self.frames.push(frame)?;
+                self.skip(string.len());
+                Ok(Some(Step::Text { begin: range.start }))
+            }
+            Some(
+                GrokComponent::GrokPattern {
+                    name,
+                    alias,
+                    definition,
+                    ..
+                },
+            ) => {
+                let is_capturing = false;
+                Ok(Some(self.open(
+                    frame,
+                    Placeholder {
+                        name,
+                        alias,
+                        definition,
+                        is_capturing,
+                    },
+                )?))
+            }
+            Some(GrokComponent::PatternError(_)) | None => {
+                self.skip(1);
+                Ok(if self.frames.is_empty() {
+                    None
+                } else {
+                    Some(Step::Close)
+                })
+            }
+        }
+    }
+
+    /// Returns the names of the texts that are being read, outermost first.
+    fn path(&self) -> Result<Vec<&'a str>, AllocError> {
+        let mut path = Vec::new(self.alloc);
+        for frame in self.frames.iter().skip(1) {
+            path.push(frame.name)?;
+        }
+        Ok(path)
+    }
+
+    /// Returns the part of the innermost text, or the whole of it.
+    fn origin(&self, range: Option<Range<usize>>) -> Result<Option<Origin<'a>>, AllocError> {
+        let path = self.path()?;
+        Ok(match self.frames.last() {
+            None => None,
+            Some(frame) => Some(Origin {
+                path,
+                text: frame.text,
+                range: range.unwrap_or(0..frame.text.len()),
+            }),
+        })
+    }
+
+    /// Returns where a part of the expanded text is from. The brackets of a placeholder's group belong
+    /// to the whole definition of that placeholder.
+    ///
+    /// # Errors
+    ///
+    /// If an allocation fails.
+    pub fn locate(&mut self, part: Range<usize>) -> Result<Option<Origin<'a>>, AllocError> {
+        // Each group takes four bytes at least, and is opened and closed.
+        for _ in 0..self.expanded.len().saturating_add(2) {
+            let before = self.at;
+            let closing = self.origin(None)?;
+            let Some(step) = self.next()? else {
+                return Ok(closing);
+            };
+            if self.at <= part.start {
+                continue;
+            }
+            return match step {
+                Step::Text { begin } => {
+                    let start = begin.saturating_add(part.start.saturating_sub(before));
+                    let len = part.end.min(self.at).saturating_sub(part.start);
+                    self.origin(Some(start..start.saturating_add(len)))
+                }
+                Step::Open(_) => self.origin(None),
+                Step::Close => Ok(closing),
+            };
+        }
+        Ok(None)
+    }
+}

@@ -1,0 +1,127 @@
+//! Shows what patterns mean, without reading lines.
+
+use crate::expansion::{Expansion, Step};
+use crate::library::Library;
+use grok::{Measure, Pattern};
+use regex::Regex;
+use std::alloc::{AllocError, Global};
+use std::collections::BTreeMap;
+
+/// Returns the key of a placeholder that asks for this one, as so many have done before it.
+fn numbered(alloc: Global, key: &str, before: u64) -> Result<String, AllocError> {
+    if before == 0 {
+        return String::from_str(alloc, key);
+    }
+    format!(in alloc; "{key}[{before}]")
+}
+
+/// Returns the keys of the placeholders that became named groups, in the order of their numbers.
+fn keys_of<'x>(
+    alloc: Global,
+    library: &'x Library<'_>,
+    text: &'x str,
+    expanded: &'x str,
+) -> Result<Vec<String>, AllocError> {
+    let mut keys = Vec::new(alloc);
+    let mut uses = BTreeMap::new(alloc);
+    let mut expansion = Expansion::new(alloc, library, text, expanded)?;
+    // Each group takes four bytes at least, and is opened and closed.
+    for _ in 0..expanded.len().saturating_add(2) {
+        let Some(step) = expansion.next()? else {
+            break;
+        };
+        if let Step::Open(placeholder) = step
+            && placeholder.is_capturing
+        {
+            let key = placeholder.key();
+            let before = uses.get(key).copied().unwrap_or(0u64);
+            keys.push(numbered(alloc, key, before)?)?;
+            uses.insert(key, before.saturating_add(1))?;
+        }
+    }
+    Ok(keys)
+}
+
+/// Returns the number in the name `_n_NUMBER` of a placeholder's group.
+fn number_of(group: &str) -> Option<usize> {
+    group.strip_prefix("_n_")?.parse().ok()
+}
+
+/// Appends the line of a key.
+fn push_key(
+    alloc: Global,
+    lines: &mut String,
+    pattern: &Pattern,
+    key: &str,
+    group: usize,
+) -> Result<(), AllocError> {
+    let line = match pattern.get_extract(key) {
+        Some(extract) => format!(in alloc; "  {key}: group {group}, extract {extract}\n")?,
+        None => format!(in alloc; "  {key}: group {group}\n")?,
+    };
+    lines.push_str(line.as_str())
+}
+
+/// Appends a line for each named group, with its key.
+fn push_keys(
+    alloc: Global,
+    lines: &mut String,
+    pattern: &Pattern,
+    keys: &[String],
+) -> Result<(), AllocError> {
+    let Ok(regex) = Regex::new(alloc, pattern.text()) else {
+        return Err(AllocError);
+    };
+    for (group, name) in regex.capture_names().iter().enumerate() {
+        let Some(name) = name else {
+            continue;
+        };
+        let name = name.as_str();
+        let key = match number_of(name) {
+            Some(number) => keys.get(number).map(|key| key.as_str()).unwrap_or(name),
+            None => name,
+        };
+        push_key(alloc, lines, pattern, key, group)?;
+    }
+    Ok(())
+}
+
+/// Returns the line of the size of a pattern.
+fn size_line(
+    alloc: Global,
+    library: &Library<'_>,
+    text: &str,
+    with_alias_only: bool,
+) -> Result<String, AllocError> {
+    match library.grok.measure(text, with_alias_only)? {
+        Measure::Size {
+            length,
+            groups,
+            nesting,
+        } => format!(in alloc; "size: length {length}, groups {groups}, nesting {nesting}\n"),
+        // It was compiled, so it has a size.
+        _ => Ok(String::new(alloc)),
+    }
+}
+
+/// Returns lines that explain a pattern: its text, what that expands to, its size, and its keys.
+///
+/// # Errors
+///
+/// If an allocation fails.
+pub fn explain(
+    alloc: Global,
+    library: &Library<'_>,
+    text: &str,
+    pattern: &Pattern,
+    with_alias_only: bool,
+) -> Result<String, AllocError> {
+    let expanded = pattern.text();
+    let mut lines = format!(in alloc; "pattern: {text}\nexpands to: {expanded}\n")?;
+    let size = size_line(alloc, library, text, with_alias_only)?;
+    lines.push_str(size.as_str())?;
+    let keys = keys_of(alloc, library, text, expanded)?;
+    lines.push_str("keys:\n")?;
+    push_keys(alloc, &mut lines, pattern, keys.as_slice())?;
+    Ok(lines)
+}

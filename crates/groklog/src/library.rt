@@ -1,0 +1,158 @@
+//! The library that patterns are compiled with: the default definitions, those of files, and those of
+//! the words after `-D`.
+
+use crate::definitions::{Definition, Origin, read_file, read_word};
+use crate::excerpt::excerpt;
+use crate::fault::{Fault, Report};
+use crate::logstash::{Rewritten, rewrite};
+use grok::{Grok, patterns};
+use std::alloc::{AllocError, Global};
+use std::collections::BTreeMap;
+
+/// A file of definitions, as it was read.
+#[derive(Drop)]
+pub struct DefinitionFile<'a> {
+    pub name: &'a str,
+    pub text: String,
+}
+
+/// A definition as it is stored, and where it was given.
+#[derive(Drop)]
+pub struct Source<'a> {
+    pub text: String,
+    pub origin: Origin<'a>,
+}
+
+/// Definitions, and where each of them was given.
+#[derive(Drop)]
+pub struct Library<'a> {
+    pub grok: Grok,
+    sources: BTreeMap<&'a str, Source<'a>>,
+    /// Whether definitions and patterns are rewritten that were made for Logstash.
+    is_from_logstash: bool,
+    /// What was changed in each of them, with its place, ready to be shown.
+    pub changes: Vec<String>,
+}
+
+/// Returns the fault of a line or a word that is no definition.
+fn no_definition(alloc: Global, origin: Origin<'_>, line: &str) -> Result<Fault, AllocError> {
+    let advice = "write NAME=DEF or NAME DEF, where a NAME has a-z A-Z 0-9 _";
+    let place = format!(in alloc; "{origin}")?;
+    let mut report = Report::new(alloc, "this is no definition", place.as_str(), advice)?;
+    report.excerpt = excerpt(alloc, line, 0..line.len())?;
+    Ok(Fault::Pattern(report))
+}
+
+/// Adds the definitions of a file.
+fn add_file<'a>(
+    alloc: Global,
+    found: &mut Vec<Definition<'a>>,
+    file: &'a DefinitionFile<'a>,
+) -> Result<(), Fault> {
+    match read_file(found, file.name, file.text.as_str())? {
+        None => Ok(()),
+        Some((origin, line)) => Err(no_definition(alloc, origin, line)?),
+    }
+}
+
+/// Adds the definition of a word after `-D`.
+fn add_word<'a>(
+    alloc: Global,
+    found: &mut Vec<Definition<'a>>,
+    word: &'a str,
+) -> Result<(), Fault> {
+    match read_word(word) {
+        Some(definition) => Ok(found.push(definition)?),
+        None => Err(no_definition(alloc, Origin::Word, word)?),
+    }
+}
+
+/// Returns the definitions of the files, and after them those of the words.
+fn collect<'a>(
+    alloc: Global,
+    files: &'a [DefinitionFile<'a>],
+    words: &[&'a str],
+) -> Result<Vec<Definition<'a>>, Fault> {
+    let mut found = Vec::new(alloc);
+    for file in files {
+        add_file(alloc, &mut found, file)?;
+    }
+    for word in words {
+        add_word(alloc, &mut found, word)?;
+    }
+    Ok(found)
+}
+
+impl<'a> Library<'a> {
+    /// Makes a library of the default definitions.
+    fn with_default_definitions(
+        alloc: Global,
+        is_from_logstash: bool,
+    ) -> Result<Library<'a>, AllocError> {
+        let mut sources = BTreeMap::new(alloc);
+        for (name, text) in patterns() {
+            let text = String::from_str(alloc, text)?;
+            let origin = Origin::Default;
+            sources.insert(*name, Source { text, origin })?;
+        }
+        Ok(Library {
+            grok: Grok::default(alloc)?,
+            sources,
+            is_from_logstash,
+            changes: Vec::new(alloc),
+        })
+    }
+
+    /// Makes the library of the default definitions, those of the files, and those of the words. A
+    /// later definition of a name replaces an earlier one.
+    ///
+    /// # Errors
+    ///
+    /// A line or a word that is no definition, or a failed allocation.
+    pub fn new(
+        alloc: Global,
+        files: &'a [DefinitionFile<'a>],
+        words: &[&'a str],
+        is_from_logstash: bool,
+    ) -> Result<Library<'a>, Fault> {
+        let definitions = collect(alloc, files, words)?;
+        let mut library = Library::with_default_definitions(alloc, is_from_logstash)?;
+        for definition in &definitions {
+            library.set(alloc, *definition)?;
+        }
+        Ok(library)
+    }
+
+    /// Stores a definition.
+    fn set(&mut self, alloc: Global, definition: Definition<'a>) -> Result<(), AllocError> {
+        let Definition { name, text, origin } = definition;
+        let place = format!(in alloc; "the definition {name} ({origin})")?;
+        let text = self.adapt(alloc, text, place.as_str())?;
+        self.grok.add_pattern(name, text.as_str())?;
+        self.sources.insert(name, Source { text, origin })?;
+        Ok(())
+    }
+
+    /// Returns a text as it is compiled: rewritten if it was made for Logstash. What is changed is
+    /// noted under this place.
+    ///
+    /// # Errors
+    ///
+    /// If an allocation fails.
+    pub fn adapt(&mut self, alloc: Global, text: &str, place: &str) -> Result<String, AllocError> {
+        if !self.is_from_logstash {
+            return String::from_str(alloc, text);
+        }
+        let Rewritten { text, changes } = rewrite(alloc, text)?;
+        for change in &changes {
+            let note = format!(in alloc; "in {place}, {change}")?;
+            self.changes.push(note)?;
+        }
+        Ok(text)
+    }
+
+    /// Returns the definition of a name, and where it was given.
+    pub fn source(&self, name: &str) -> Option<&Source<'a>> {
+        self.sources.get(name)
+    }
+}

@@ -1,0 +1,272 @@
+//! The options of the program.
+
+use crate::fault::{Fault, Report};
+use clap::error::ErrorKind;
+use clap::{Arg, ArgAction, ArgMatches, Command, Error};
+use groklog_answers::Lines;
+use std::alloc::{AllocError, Global};
+
+/// The program's own words of help.
+const ABOUT: &str = "Reads lines of logs by grok patterns and writes what they found.";
+
+/// How the program is called.
+const USAGE: &str =
+    "groklog [OPTIONS] PATTERN [FILE]...\n       groklog [OPTIONS] -e PATTERN... [FILE]...";
+
+/// Examples at the end of the help.
+const EXAMPLES: &str =
+    "A pattern is a regular expression with placeholders: %{NAME}, %{NAME:key} or %{NAME:key:int}.\n\
+    Standard input is read if no file is named, and for the file -.\n\n\
+    Examples:\n  \
+    groklog '%{USERNAME:user} logged in' auth.log\n  \
+    groklog -d patterns.txt --typed '%{COMMONAPACHELOG}' access.log | jq .response\n  \
+    groklog --typed -D 'NUM=\\d+' '%{NUM:n:int}' counts.log\n\n\
+    Exit status: 0, 1 for a fault of a pattern or a definition, 2 for wrong options, 3 if memory, reading or writing fails.";
+
+/// What the words of the command line ask for.
+#[derive(Drop)]
+pub struct Options<'a> {
+    pub patterns: Vec<&'a str>,
+    pub files: Vec<&'a str>,
+    pub definition_files: Vec<&'a str>,
+    /// The words after `-D`.
+    pub definitions: Vec<&'a str>,
+    pub lines: Lines,
+    pub keep: Option<&'a str>,
+    pub tag: Option<&'a str>,
+    pub are_pairs: bool,
+    pub is_typed: bool,
+    /// Whether placeholders without an alias give values too.
+    pub is_all: bool,
+    pub is_explained: bool,
+    pub is_from_logstash: bool,
+}
+
+/// An option with one value.
+fn with_value<'a>(alloc: Global, id: &'a str, value: &'a str, help: &'a str) -> Arg<'a> {
+    Arg::new(alloc, id)
+        .long(id)
+        .value_name(value)
+        .help(help)
+        .action(ArgAction::Set)
+}
+
+/// An option that may come several times, each time with a value.
+fn repeated<'a>(alloc: Global, id: &'a str, short: char, value: &'a str, help: &'a str) -> Arg<'a> {
+    Arg::new(alloc, id)
+        .short(short)
+        .value_name(value)
+        .help(help)
+        .action(ArgAction::Append)
+        .allow_hyphen_values(true)
+}
+
+/// An option without a value.
+fn flag<'a>(alloc: Global, id: &'a str, help: &'a str) -> Arg<'a> {
+    Arg::new(alloc, id)
+        .long(id)
+        .help(help)
+        .action(ArgAction::SetTrue)
+}
+
+/// Adds the options that name patterns and definitions.
+fn with_sources<'a>(alloc: Global, command: Command<'a>) -> Result<Command<'a>, AllocError> {
+    let words = Arg::new(alloc, "words")
+        .value_name("PATTERN")
+        .help("The pattern, unless -e gives one, and then the files")
+        .num_args(0..)
+        .action(ArgAction::Append);
+    command
+        .arg(words)?
+        .arg(repeated(
+            alloc,
+            "pattern",
+            'e',
+            "PATTERN",
+            "A pattern; the first of several that matches a line gives the answer",
+        )
+        .long("pattern"))?
+        .arg(repeated(
+            alloc,
+            "definitions",
+            'd',
+            "FILE",
+            "Definitions: lines NAME=DEF, or NAME DEF as Logstash has them",
+        )
+        .long("definitions"))?
+        .arg(repeated(
+            alloc,
+            "define",
+            'D',
+            "NAME=DEF",
+            "A definition; it replaces one of a file",
+        ))?
+        .arg(flag(
+            alloc,
+            "from-logstash",
+            "Rewrite what the engine doesn't know in definitions made for Logstash, and report each change",
+        ))
+}
+
+/// Adds the options that say what is written.
+fn with_output<'a>(alloc: Global, command: Command<'a>) -> Result<Command<'a>, AllocError> {
+    command
+        .arg(flag(
+            alloc,
+            "all",
+            "Also write placeholders without an alias, under their name",
+        ))?
+        .arg(with_value(
+            alloc,
+            "keep",
+            "KEY",
+            "Also write the line itself, under this key",
+        ))?
+        .arg(with_value(
+            alloc,
+            "tag",
+            "KEY",
+            "Also write the pattern that matched, under this key",
+        ))?
+        .arg(flag(alloc, "matched", "Only lines that match").conflicts_with("unmatched")?)?
+        .arg(flag(alloc, "unmatched", "Only lines that don't match"))?
+        .arg(flag(
+            alloc,
+            "typed",
+            "Write values with the extract int or float as numbers",
+        ))?
+        .arg(flag(alloc, "pairs", "Write lines KEY=VALUE in place of JSON"))?
+        .arg(flag(
+            alloc,
+            "explain",
+            "Explain the pattern, or its first fault, and read no lines",
+        ))
+}
+
+/// Makes the description of the command line.
+fn describe<'a>(alloc: Global) -> Result<Command<'a>, AllocError> {
+    let command = Command::new(alloc, "groklog")
+        .version("1.0.0")
+        .about(ABOUT)
+        .override_usage(USAGE)
+        .after_help(EXAMPLES);
+    let command = with_sources(alloc, command)?;
+    with_output(alloc, command)
+}
+
+/// Returns the values of an option, in the order of the words.
+fn values_of<'a>(
+    alloc: Global,
+    matches: &ArgMatches<'a>,
+    id: &str,
+) -> Result<Vec<&'a str>, AllocError> {
+    match matches.get_strs(id) {
+        Some(values) => Vec::from_slice(alloc, values),
+        None => Ok(Vec::new(alloc)),
+    }
+}
+
+/// Returns which lines the words choose.
+fn chosen_lines(matches: &ArgMatches<'_>) -> Lines {
+    if matches.get_flag("matched") {
+        Lines::Matched
+    } else if matches.get_flag("unmatched") {
+        Lines::Unmatched
+    } else {
+        Lines::All
+    }
+}
+
+/// Returns the patterns and the files: the first word is the pattern, unless an option gave one.
+fn patterns_and_files<'a>(
+    alloc: Global,
+    matches: &ArgMatches<'a>,
+) -> Result<(Vec<&'a str>, Vec<&'a str>), AllocError> {
+    let patterns = values_of(alloc, matches, "pattern")?;
+    let words = values_of(alloc, matches, "words")?;
+    if !patterns.is_empty() {
+        return Ok((patterns, words));
+    }
+    match words.as_slice().split_first() {
+        Some((pattern, files)) => Ok((
+            Vec::from_slice(alloc, &[*pattern])?,
+            Vec::from_slice(alloc, files)?,
+        )),
+        None => Ok((patterns, words)),
+    }
+}
+
+/// Reads the words of the command line, of which the first is the program's name.
+///
+/// # Errors
+///
+/// If the words are no command line of the program, ask for its help or its version, or if an
+/// allocation fails.
+pub fn read_options<'a>(alloc: Global, words: &'a [String]) -> Result<Options<'a>, Error> {
+    let mut command = describe(alloc)?;
+    let matches = command.try_get_matches_from_mut(words)?;
+    let (patterns, files) = patterns_and_files(alloc, &matches)?;
+    if patterns.is_empty() {
+        return Err(command.error(ErrorKind::MissingRequiredArgument, "there is no pattern")?);
+    }
+    Ok(Options {
+        patterns,
+        files,
+        definition_files: values_of(alloc, &matches, "definitions")?,
+        definitions: values_of(alloc, &matches, "define")?,
+        lines: chosen_lines(&matches),
+        keep: matches.get_str("keep"),
+        tag: matches.get_str("tag"),
+        are_pairs: matches.get_flag("pairs"),
+        is_typed: matches.get_flag("typed"),
+        is_all: matches.get_flag("all"),
+        is_explained: matches.get_flag("explain"),
+        is_from_logstash: matches.get_flag("from-logstash"),
+    })
+}
+
+/// Returns the fault of a key that both `--tag` and `--keep` name.
+///
+/// # Errors
+///
+/// If an allocation fails.
+pub fn repeated_key(alloc: Global, options: &Options<'_>) -> Result<Option<Fault>, AllocError> {
+    match (options.tag, options.keep) {
+        (Some(tag), Some(keep)) if tag == keep => {
+            let what = format!(in alloc; "--tag and --keep have the same key {tag}")?;
+            let advice = "name another key after one of them";
+            Ok(Some(Fault::Usage(Report::new(alloc, what.as_str(), "", advice)?)))
+        }
+        _ => Ok(None),
+    }
+}
+
+/// Returns whether clap's error is the help or the version that the words ask for.
+pub fn is_answer(error: &Error) -> bool {
+    matches!(
+        error.kind(),
+        ErrorKind::DisplayHelp | ErrorKind::DisplayVersion
+    )
+}
+
+/// Returns the fault of words that clap can't follow.
+///
+/// # Errors
+///
+/// If an allocation fails.
+pub fn usage_fault(alloc: Global, error: &Error) -> Result<Fault, AllocError> {
+    if error.kind() == ErrorKind::OutOfMemory {
+        return Ok(Fault::Memory);
+    }
+    let text = error.to_string(alloc)?;
+    let text = text
+        .as_str()
+        .strip_prefix("error: ")
+        .unwrap_or(text.as_str());
+    let (what, rest) = text.split_once("\n\n").unwrap_or((text, ""));
+    let advice = match rest.trim_start().strip_prefix("tip: ") {
+        Some(tip) => tip.split('\n').next().unwrap_or(tip),
+        None => "groklog --help",
+    };
+    Ok(Fault::Usage(Report::new(alloc, what.trim_end(), "", advice)?))
+}

@@ -1,0 +1,288 @@
+//! A run over files, or over standard input.
+
+use crate::compiled::{compile_all, taken_key};
+use crate::explain::explain;
+use crate::fault::{Fault, Report};
+use crate::library::{DefinitionFile, Library};
+use crate::options::{Options, repeated_key};
+use crate::watched::{Watched, shows_progress};
+use grok::Pattern;
+use grok_lines::{LinesError, answer_lines};
+use groklog_answers::{Layout, LogAnswers, NamedPattern, OutputFormat};
+use std::alloc::{AllocError, Global};
+use std::fs::{self, File};
+use std::io::{self, ErrorKind, Read, Write};
+
+/// What came of answering an input.
+#[derive(Clone, Copy, PartialEq, Eq)]
+enum Answered {
+    /// All its lines were answered.
+    All,
+    /// The reader of the answers has enough of them.
+    Enough,
+}
+
+/// Returns the fault of a file that can't be opened or read.
+fn file_fault(alloc: Global, file: &str, kind: ErrorKind) -> Result<Fault, AllocError> {
+    let (what, advice) = match kind {
+        ErrorKind::OutOfMemory => return Ok(Fault::Memory),
+        ErrorKind::NotFound => (
+            format!(in alloc; "there is no file {file}")?,
+            "another name",
+        ),
+        ErrorKind::InvalidData => (format!(in alloc; "{file} isn't UTF-8")?, ""),
+        kind => (format!(in alloc; "can't read {file}: {kind}")?, ""),
+    };
+    Ok(Fault::Read(Report::new(alloc, what.as_str(), "", advice)?))
+}
+
+/// Returns the fault of an output that can't be written, or nothing if its reader has enough.
+fn write_fault(alloc: Global, error: &io::Error) -> Result<Option<Fault>, AllocError> {
+    if error.kind() == ErrorKind::BrokenPipe {
+        return Ok(None);
+    }
+    let what = format!(in alloc; "can't write the answers: {error}")?;
+    Ok(Some(Fault::Write(Report::new(alloc, what.as_str(), "", "")?)))
+}
+
+/// Reads a file of definitions.
+fn read_definitions<'a>(rt: &HostRuntime, name: &'a str) -> Result<DefinitionFile<'a>, Fault> {
+    match fs::read_to_string(rt, name) {
+        Ok(text) => Ok(DefinitionFile { name, text }),
+        Err(error) => Err(file_fault(rt.alloc(), name, error.kind())?),
+    }
+}
+
+/// Reads the files of definitions.
+fn read_all_definitions<'a>(
+    rt: &HostRuntime,
+    names: &[&'a str],
+) -> Result<Vec<DefinitionFile<'a>>, Fault> {
+    let mut files = Vec::new(rt.alloc());
+    for name in names {
+        files.push(read_definitions(rt, name)?)?;
+    }
+    Ok(files)
+}
+
+/// Returns the patterns as they are compiled.
+fn adapt_patterns(
+    alloc: Global,
+    library: &mut Library<'_>,
+    texts: &[&str],
+) -> Result<Vec<String>, AllocError> {
+    let mut adapted = Vec::new(alloc);
+    for text in texts {
+        adapted.push(library.adapt(alloc, text, "the pattern")?)?;
+    }
+    Ok(adapted)
+}
+
+/// Shows these notes on standard error.
+fn show_notes(rt: &HostRuntime, notes: &[String]) {
+    for note in notes {
+        // A note that can't be shown ends nothing.
+        let _ = eprintln!(rt; "groklog: {note}");
+    }
+}
+
+/// Returns a note for each key of a pattern whose extract `--typed` doesn't know.
+fn notes_of_extracts(alloc: Global, pattern: &Pattern) -> Result<Vec<String>, AllocError> {
+    let mut notes = Vec::new(alloc);
+    for key in pattern.capture_names() {
+        if let Some(extract) = pattern.get_extract(key)
+            && extract != "int"
+            && extract != "float"
+        {
+            notes.push(format!(in alloc;
+                "the value of {key} is written as a text: --typed knows the extracts int and float, and not {extract}"
+            )?)?;
+        }
+    }
+    Ok(notes)
+}
+
+/// Pairs each pattern with its text.
+fn with_texts<'p>(
+    alloc: Global,
+    texts: &[&'p str],
+    patterns: &'p [Pattern],
+) -> Result<Vec<NamedPattern<'p>>, AllocError> {
+    let mut named = Vec::new(alloc);
+    for (tag, pattern) in texts.iter().zip(patterns) {
+        named.push(NamedPattern { tag, pattern })?;
+    }
+    Ok(named)
+}
+
+/// Returns what the options say of the output.
+fn layout_of<'a>(options: &Options<'a>) -> Layout<'a> {
+    Layout {
+        lines: options.lines,
+        format: if options.are_pairs {
+            OutputFormat::Pairs
+        } else {
+            OutputFormat::Json
+        },
+        keep: options.keep,
+        tag: options.tag,
+        typed: options.is_typed,
+    }
+}
+
+/// Checks that no key of an option is another one's, or a pattern's.
+fn check_keys(alloc: Global, options: &Options<'_>, patterns: &[Pattern]) -> Result<(), Fault> {
+    if let Some(fault) = repeated_key(alloc, options)? {
+        return Err(fault);
+    }
+    if let Some(fault) = taken_key(alloc, patterns, "--tag", options.tag)? {
+        return Err(fault);
+    }
+    if let Some(fault) = taken_key(alloc, patterns, "--keep", options.keep)? {
+        return Err(fault);
+    }
+    Ok(())
+}
+
+/// Returns the fault of an input whose answering ended early, or nothing if the reader of the answers
+/// has enough. Where reading failed, `failure` says why.
+fn lines_fault(
+    alloc: Global,
+    name: &str,
+    failure: Option<ErrorKind>,
+    error: &LinesError,
+) -> Result<Option<Fault>, AllocError> {
+    match error {
+        LinesError::Memory => Ok(Some(Fault::Memory)),
+        LinesError::Read => {
+            let kind = failure.unwrap_or(ErrorKind::Other);
+            Ok(Some(file_fault(alloc, name, kind)?))
+        }
+        LinesError::Write(error) => write_fault(alloc, error),
+    }
+}
+
+/// Answers each line of an input.
+fn answer_input<R: Read>(
+    rt: &HostRuntime,
+    answers: &mut LogAnswers<'_>,
+    input: &mut Watched<'_, R>,
+    name: &str,
+) -> Result<Answered, Fault> {
+    let answered = answer_lines(rt.alloc(), answers, input, &mut io::writer(rt));
+    let failure = input.finish();
+    match answered {
+        Ok(()) => Ok(Answered::All),
+        Err(error) => match lines_fault(rt.alloc(), name, failure, &error)? {
+            None => Ok(Answered::Enough),
+            Some(fault) => Err(fault),
+        },
+    }
+}
+
+/// Watches a file, and shows its progress if that is wanted.
+fn watch<'a>(rt: &'a HostRuntime, file: File, name: &'a str, shows: bool) -> Watched<'a, File> {
+    let size = match file.metadata() {
+        Ok(metadata) => metadata.len(),
+        Err(_) => 0,
+    };
+    let watched = Watched::new(file);
+    if shows && size > 0 {
+        watched.with_progress(rt, name, size)
+    } else {
+        watched
+    }
+}
+
+/// Answers each line of a file, where `-` is standard input.
+fn answer_file(
+    rt: &HostRuntime,
+    answers: &mut LogAnswers<'_>,
+    name: &str,
+    shows: bool,
+) -> Result<Answered, Fault> {
+    if name == "-" {
+        return answer_input(rt, answers, &mut Watched::new(rt.stdin()), "standard input");
+    }
+    match File::open(rt, name) {
+        Ok(file) => answer_input(rt, answers, &mut watch(rt, file, name, shows), name),
+        Err(error) => Err(file_fault(rt.alloc(), name, error.kind())?),
+    }
+}
+
+/// Answers each line of each file, or of standard input if there is none.
+fn answer_files(
+    rt: &HostRuntime,
+    answers: &mut LogAnswers<'_>,
+    files: &[&str],
+) -> Result<(), Fault> {
+    if files.is_empty() {
+        answer_file(rt, answers, "-", false)?;
+        return Ok(());
+    }
+    let shows = shows_progress(rt);
+    for file in files {
+        if answer_file(rt, answers, file, shows)? == Answered::Enough {
+            break;
+        }
+    }
+    Ok(())
+}
+
+/// Writes a text to standard output.
+pub fn write_output(rt: &HostRuntime, text: &str) -> Result<(), Fault> {
+    let mut output = io::writer(rt);
+    if let Err(error) = output.write_all(text.as_bytes())
+        && let Some(fault) = write_fault(rt.alloc(), &error)?
+    {
+        return Err(fault);
+    }
+    Ok(())
+}
+
+/// Explains each pattern.
+fn explain_all(
+    rt: &HostRuntime,
+    library: &Library<'_>,
+    texts: &[String],
+    patterns: &[Pattern],
+    with_alias_only: bool,
+) -> Result<(), Fault> {
+    for (text, pattern) in texts.iter().zip(patterns) {
+        let lines = explain(rt.alloc(), library, text.as_str(), pattern, with_alias_only)?;
+        write_output(rt, lines.as_str())?;
+    }
+    Ok(())
+}
+
+/// Does what the options ask for.
+///
+/// # Errors
+///
+/// The first fault of a definition, a pattern or a key, before any line is read. After that a failed
+/// allocation, and a file or an output that fails.
+pub fn run(rt: &HostRuntime, options: &Options<'_>) -> Result<(), Fault> {
+    let alloc = rt.alloc();
+    let files = read_all_definitions(rt, &options.definition_files)?;
+    let mut library = Library::new(
+        alloc,
+        &files,
+        &options.definitions,
+        options.is_from_logstash,
+    )?;
+    let texts = adapt_patterns(alloc, &mut library, &options.patterns)?;
+    show_notes(rt, &library.changes);
+    let patterns = compile_all(alloc, &library, &texts, !options.is_all)?;
+    check_keys(alloc, options, &patterns)?;
+    if options.is_typed {
+        for pattern in &patterns {
+            show_notes(rt, &notes_of_extracts(alloc, pattern)?);
+        }
+    }
+    if options.is_explained {
+        return explain_all(rt, &library, &texts, &patterns, !options.is_all);
+    }
+    let named = with_texts(alloc, &options.patterns, &patterns)?;
+    let mut answers = LogAnswers::new(alloc, &named, layout_of(options))?;
+    answer_files(rt, &mut answers, &options.files)
+}

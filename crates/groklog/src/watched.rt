@@ -1,0 +1,147 @@
+//! An input that is watched while it is read: why a read failed, and a line of progress on a terminal.
+
+use memchr::memchr_iter;
+use std::fs;
+use std::io::{self, ErrorKind, Read};
+use std::time::{Duration, Instant};
+
+/// How many seconds a file has to take before its progress is shown, and how long a line of progress stands.
+const WAIT_SECONDS: u64 = 1;
+
+/// Where standard output and standard error lead on Linux.
+const OUTPUT: &str = "/proc/self/fd/1";
+
+const ERRORS: &str = "/proc/self/fd/2";
+
+/// Returns whether this open file is a terminal, as far as its name says.
+fn is_terminal(rt: &HostRuntime, link: &str) -> bool {
+    match fs::read_link(rt, link) {
+        Ok(target) => {
+            let name = target.as_str();
+            name.starts_with("/dev/pts/") || name.starts_with("/dev/tty")
+        }
+        Err(_) => false,
+    }
+}
+
+/// Returns whether progress is shown: standard error is a terminal, and the answers don't go there.
+pub fn shows_progress(rt: &HostRuntime) -> bool {
+    is_terminal(rt, ERRORS) && !is_terminal(rt, OUTPUT)
+}
+
+/// How far reading has come.
+#[derive(Drop)]
+struct Progress<'a> {
+    rt: &'a HostRuntime,
+    name: &'a str,
+    /// How many bytes the file has.
+    size: u64,
+    begun: Instant,
+    shown: Option<Instant>,
+    bytes: u64,
+    lines: u64,
+}
+
+/// An input that is watched.
+#[derive(Drop)]
+pub struct Watched<'a, R> {
+    input: R,
+    progress: Option<Progress<'a>>,
+    /// Why the last read failed.
+    failure: Option<ErrorKind>,
+}
+
+impl<'a> Progress<'a> {
+    /// Counts what was read, and shows a line of progress once a second.
+    fn count(&mut self, block: &[u8]) {
+        self.bytes = self.bytes.saturating_add(block.len() as u64);
+        let ended = memchr_iter(b'\n', block).count();
+        self.lines = self.lines.saturating_add(ended as u64);
+        let Ok(now) = Instant::now(self.rt) else {
+            return;
+        };
+        let last = self.shown.unwrap_or(self.begun);
+        if now.duration_since(last).as_secs() >= WAIT_SECONDS {
+            self.shown = Some(now);
+            self.show(now.duration_since(self.begun));
+        }
+    }
+
+    /// Shows a line of progress in place of the one before.
+    fn show(&self, passed: Duration) {
+        let seconds = passed.as_secs().max(1);
+        let rate = self.lines / seconds;
+        // Nothing depends on the line of progress.
+        let _ = eprint!(self.rt;
+            "\r\x1b[Kgroklog: {}: {} of {} MB, {rate} lines a second",
+            self.name,
+            self.bytes / 1_000_000,
+            self.size / 1_000_000
+        );
+    }
+
+    /// Takes the line of progress away.
+    fn end(&self) {
+        if self.shown.is_some() {
+            let _ = eprint!(self.rt; "\r\x1b[K");
+        }
+    }
+}
+
+impl<'a, R> Watched<'a, R> {
+    /// Watches an input for failures alone.
+    pub fn new(input: R) -> Watched<'a, R> {
+        Watched {
+            input,
+            progress: None,
+            failure: None,
+        }
+    }
+
+    /// Shows the progress of reading a file of this name and size.
+    pub fn with_progress(
+        mut self,
+        rt: &'a HostRuntime,
+        name: &'a str,
+        size: u64,
+    ) -> Watched<'a, R> {
+        self.progress = match Instant::now(rt) {
+            Ok(begun) => Some(Progress {
+                rt,
+                name,
+                size,
+                begun,
+                shown: None,
+                bytes: 0,
+                lines: 0,
+            }),
+            Err(_) => None,
+        };
+        self
+    }
+
+    /// Takes the line of progress away, and returns why the last read failed.
+    pub fn finish(&self) -> Option<ErrorKind> {
+        if let Some(progress) = &self.progress {
+            progress.end();
+        }
+        self.failure
+    }
+}
+
+impl<'a, R: Read> Read for Watched<'a, R> {
+    fn read(&mut self, buf: &mut [u8]) -> io::Result<usize> {
+        match self.input.read(buf) {
+            Ok(count) => {
+                if let Some(progress) = &mut self.progress {
+                    progress.count(buf.get(..count).unwrap_or(&[]));
+                }
+                Ok(count)
+            }
+            Err(error) => {
+                self.failure = Some(error.kind());
+                Err(error)
+            }
+        }
+    }
+}

@@ -1,0 +1,84 @@
+-- The laws of which pattern answers, and of which lines are answered.
+use Rattle.std.proofs.Common.{◌≡◌, ◌≢◌, ◌⊎◌, inl, inr, ℕ, List, [], ◌∷◌, ◌++◌, Bool, true, false, Option, Some, None, if◌then◌else◌, codes, refl, flat_map}
+use Rattle.std.specs.Option.{option_or}
+use Rattle.std.specs.Str.{is_utf8}
+use Rattle.std.specs.Str.Lossy.{utf8_lossy}
+use Rattle.groklog_answers.specs.Layouts.{LayoutValue}
+use Rattle.groklog_answers.specs.Patterns.{PatternText, MatchText, match_of, first_match}
+use Rattle.groklog_answers.specs.Objects.{match_members, unmatched_members, object_text}
+use Rattle.groklog_answers.specs.PairTexts.{pair_line, optional_line}
+use Rattle.groklog_answers.specs.LogAnswers.{match_text, unmatched_text, match_answer, unmatched_answer, answer_by, log_answer}
+use Rattle.groklog_answers.specs.AnswerLaws.{FirstThatMatchesAnswers, NoneThatMatchesIsNoMatch, with_lines, Share, EachLineIsAnswered, EachAnswerIsOfOneKind}
+use Rattle.groklog_answers.specs.declared.layout.Lines.{Lines}
+use Rattle.groklog_answers.specs.declared.layout.Lines.TheVariants.{All, Matched, Unmatched}
+use Rattle.groklog_answers.specs.declared.layout.OutputFormat.{OutputFormat}
+use Rattle.groklog_answers.specs.declared.layout.OutputFormat.TheVariants.{Json, Pairs}
+
+pub first_that_matches_answers : FirstThatMatchesAnswers
+first_that_matches_answers [] after pattern line found none is = rw is refl
+first_that_matches_answers (other ∷ before) after pattern line found none is =
+    rw none.0 (first_that_matches_answers before after pattern line found none.1 is)
+
+pub none_that_matches_is_no_match : NoneThatMatchesIsNoMatch
+none_that_matches_is_no_match [] line none = refl
+none_that_matches_is_no_match (pattern ∷ patterns) line none = rw none.0 (none_that_matches_is_no_match patterns line none.1)
+
+-- ---- which lines are answered
+
+-- an answer that is written is written in the same way, whichever lines are answered
+match_is_same : (format : OutputFormat) (a b : Lines) (layout : LayoutValue) (found : MatchText) (line : List ℕ)
+    → match_text format (with_lines a layout) found line ≡ match_text format (with_lines b layout) found line
+match_is_same Json a b layout found line = refl
+match_is_same Pairs a b layout found line = refl
+
+unmatched_is_same : (format : OutputFormat) (a b : Lines) (layout : LayoutValue) (line : List ℕ)
+    → unmatched_text format (with_lines a layout) line ≡ unmatched_text format (with_lines b layout) line
+unmatched_is_same Json a b layout line = refl
+unmatched_is_same Pairs a b layout line = refl
+
+shared_by : (layout : LayoutValue) (found : Option MatchText) (line : List ℕ)
+    → Share (answer_by (with_lines Matched layout) found line) (answer_by (with_lines Unmatched layout) found line) (answer_by (with_lines All layout) found line)
+shared_by layout None line = inr (refl, unmatched_is_same layout.format Unmatched All layout line)
+shared_by layout (Some found) line = inl (match_is_same layout.format Matched All layout found line, refl)
+
+shared : (b : Bool) (layout : LayoutValue) (found : Option MatchText) (line lossy : List ℕ)
+    → Share (if b then answer_by (with_lines Matched layout) found line else unmatched_answer Matched (with_lines Matched layout) lossy)
+    (if b then answer_by (with_lines Unmatched layout) found line else unmatched_answer Unmatched (with_lines Unmatched layout) lossy)
+    (if b then answer_by (with_lines All layout) found line else unmatched_answer All (with_lines All layout) lossy)
+shared true layout found line lossy = shared_by layout found line
+shared false layout found line lossy = inr (refl, unmatched_is_same layout.format Unmatched All layout lossy)
+
+pub each_answer_is_of_one_kind : EachAnswerIsOfOneKind
+each_answer_is_of_one_kind layout patterns line = shared (is_utf8 line) layout (first_match patterns line) line (utf8_lossy line)
+
+-- ---- with `All` each line has an answer
+
+-- a list whose end isn't empty isn't empty
+filled : (a b : List ℕ) → b ≢ [] → a ++ b ≢ []
+filled [] b h e = h e
+filled (x ∷ a) b h e = cc
+
+feed : codes "\n" ≢ []
+feed e = cc
+
+match_is_written : (format : OutputFormat) (layout : LayoutValue) (found : MatchText) (line : List ℕ) → match_text format layout found line ≢ []
+match_is_written Json layout found line = filled (object_text (match_members layout found line)) (codes "\n") feed
+match_is_written Pairs layout found line =
+    filled (optional_line layout.tag found.tag) _
+    (filled (flat_map pair_line found.pairs) _ (filled (optional_line layout.keep line) (codes "\n") feed))
+
+unmatched_is_written : (format : OutputFormat) (layout : LayoutValue) (line : List ℕ) → unmatched_text format layout line ≢ []
+unmatched_is_written Json layout line = filled (object_text (unmatched_members layout line)) (codes "\n") feed
+unmatched_is_written Pairs layout line = filled (optional_line layout.keep line) (codes "\n") feed
+
+written_by : (layout : LayoutValue) (found : Option MatchText) (line : List ℕ) → answer_by (with_lines All layout) found line ≢ []
+written_by layout None line = unmatched_is_written layout.format (with_lines All layout) line
+written_by layout (Some found) line = match_is_written layout.format (with_lines All layout) found line
+
+written : (b : Bool) (layout : LayoutValue) (found : Option MatchText) (line lossy : List ℕ)
+    → (if b then answer_by (with_lines All layout) found line else unmatched_answer All (with_lines All layout) lossy) ≢ []
+written true layout found line lossy = written_by layout found line
+written false layout found line lossy = unmatched_is_written layout.format (with_lines All layout) lossy
+
+pub each_line_is_answered : EachLineIsAnswered
+each_line_is_answered layout patterns line = written (is_utf8 line) layout (first_match patterns line) line (utf8_lossy line)

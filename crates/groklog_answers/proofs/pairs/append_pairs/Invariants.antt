@@ -1,0 +1,9 @@
+use Rattle.std.proofs.Common.{◌≡◌, ◌++◌, flat_map}
+use Rattle.grok.specs.Answers.{walk}
+use Rattle.grok.specs.BorrowedMatches.{borrowed_keys, borrowed_captures}
+use Rattle.groklog_answers.specs.PairTexts.{pair_line}
+use Rattle.groklog_answers.proofs.pairs.append_pairs.Given as goal
+
+abbrev pub invariant-pairs : goal.invariant-pairs
+invariant-pairs l = l.text.items ++ flat_map pair_line l.key-iterator
+    ≡ l.fn.text.items ++ flat_map pair_line (walk (borrowed_keys l.fn.matches) (borrowed_captures l.fn.matches))

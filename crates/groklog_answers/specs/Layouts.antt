@@ -1,0 +1,24 @@
+-- Which lines are answered, and how an answer is written.
+use Rattle.std.specs.Prelude.{ℕ, List, Bool, Option, option_map}
+use Rattle.groklog_answers.specs.declared.layout.Lines.{Lines}
+use Rattle.groklog_answers.specs.declared.layout.OutputFormat.{OutputFormat}
+use Rattle.groklog_answers.specs.declared.layout.Layout.{Layout}
+
+-- what contracts see of a `Layout`
+pub record LayoutValue : Type 0 where
+  pub lines : Lines
+  pub format : OutputFormat
+  -- the key of the line itself, if it is kept
+  pub keep : Option (List ℕ)
+  -- the key of the tag, if it is written
+  pub tag : Option (List ℕ)
+  pub typed : Bool
+
+abbrev pub layout_value : Layout → LayoutValue
+layout_value layout = record {
+  lines = layout.lines;
+  format = layout.format;
+  keep = option_map (λ name. name.now) layout.keep;
+  tag = option_map (λ name. name.now) layout.tag;
+  typed = layout.typed;
+}

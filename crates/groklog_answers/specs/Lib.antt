@@ -1,0 +1,13 @@
+pub mod Layouts
+pub mod Values
+pub mod Patterns
+pub mod Objects
+pub mod PairTexts
+pub mod LogAnswers
+pub mod Views
+pub mod AnswerLaws
+-- THE WORDS FOR CALLERS: each word that a clause of a public call uses.
+pub use Rattle.groklog_answers.specs.Layouts.{LayoutValue, layout_value}
+pub use Rattle.groklog_answers.specs.Patterns.{PatternText, MatchText, match_of, first_match}
+pub use Rattle.groklog_answers.specs.LogAnswers.{log_answer}
+pub use Rattle.groklog_answers.specs.Views.{pattern_text, patterns_of, layout_of}

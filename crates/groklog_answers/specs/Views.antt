@@ -1,0 +1,51 @@
+-- What contracts see of patterns, of their matches, and of what answers the lines of a log.
+use Rattle.std.specs.Prelude.{ℕ, List, Option, length, map}
+use Rattle.grok.specs.Strings.{regex_pattern, regex_names}
+use Rattle.grok.specs.Engines.{engine_regex}
+use Rattle.grok.specs.RegexFinds.{captures_in}
+use Rattle.grok.specs.Answers.{walk}
+use Rattle.grok.specs.BorrowedMatches.{borrowed_keys, borrowed_captures}
+use Rattle.grok.specs.declared.engine.regex_engine.RegexEngine.{RegexEngine}
+use Rattle.grok.specs.declared.matches.borrowed.MatchesRef.{MatchesRef}
+use Rattle.groklog_answers.specs.Layouts.{LayoutValue, layout_value}
+use Rattle.groklog_answers.specs.Patterns.{PatternText, MatchText}
+use Rattle.groklog_answers.specs.declared.log_answers.NamedPattern.{NamedPattern}
+use Rattle.groklog_answers.specs.declared.log_answers.Search.{Search}
+use Rattle.groklog_answers.specs.declared.log_answers.LogAnswers.{LogAnswers}
+
+-- what `regex` captures in each line
+abbrev pub finds_of : RegexEngine → List ℕ → Option (List (Option (List ℕ)))
+finds_of engine = let regex = engine_regex engine in captures_in (regex_pattern regex) (length (regex_names regex))
+
+abbrev pub pattern_text : NamedPattern → PatternText
+pattern_text named = record {
+  tag = named.tag.now;
+  finds = finds_of named.pattern.now.engine;
+  keys = named.pattern.now.keys;
+  extracts = named.pattern.now.extracts;
+}
+
+-- a match of this pattern
+abbrev pub match_text_of : NamedPattern → MatchesRef → MatchText
+match_text_of named matches = record {
+  tag = named.tag.now;
+  extracts = named.pattern.now.extracts;
+  pairs = walk (borrowed_keys matches) (borrowed_captures matches);
+}
+
+-- a pattern as its matcher searches for it
+abbrev pub searched : Search → PatternText
+searched search = record {
+  tag = search.named.tag.now;
+  finds = finds_of search.matcher.engine;
+  keys = search.matcher.keys;
+  extracts = search.named.pattern.now.extracts;
+}
+
+-- the patterns by which lines are answered, in order
+abbrev pub patterns_of : LogAnswers → List PatternText
+patterns_of answers = map searched answers.searches.items
+
+-- the layout of the answers
+abbrev pub layout_of : LogAnswers → LayoutValue
+layout_of answers = layout_value answers.layout

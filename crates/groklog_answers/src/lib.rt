@@ -1,0 +1,23 @@
+//! What is written for each line of a log.
+//!
+//! [`LogAnswers`] searches each line for its patterns, in order, and answers by the first one that
+//! matches. A [`Layout`] says which lines are answered, and how. `grok_lines` reads the lines:
+//!
+//! ```text
+//! let patterns = [NamedPattern { tag: "%{IP:client}", pattern: &pattern }];
+//! let mut answers = LogAnswers::new(alloc, &patterns, layout)?;
+//! answer_lines(alloc, &mut answers, &mut input, &mut output)?;
+//! ```
+#![tactic(auto)]
+
+pub mod laws;
+mod layout;
+mod log_answers;
+mod object;
+mod pairs;
+#[cfg(test)]
+mod tests;
+mod values;
+
+pub use layout::{Layout, Lines, OutputFormat};
+pub use log_answers::{LogAnswers, NamedPattern};

@@ -1,0 +1,222 @@
+//! The answer to a line, by the first pattern that matches.
+ghost use Rattle.std.specs.Prelude.{◌≡◌, ◌++◌, OnOk, OnErr, IfOk, map, true, false};
+ghost use Rattle.std.specs.Option.{is_some};
+ghost use Rattle.std.specs.Str.Lossy.{utf8_lossy};
+ghost use Rattle.groklog_answers.specs.Layouts.{layout_value};
+ghost use Rattle.groklog_answers.specs.Patterns.{match_of, first_match};
+ghost use Rattle.groklog_answers.specs.LogAnswers.{match_answer, unmatched_answer, answer_by};
+ghost use Rattle.groklog_answers.specs.Views.{pattern_text, match_text_of, searched, patterns_of, layout_of};
+
+use crate::layout::{Layout, Lines, OutputFormat};
+use crate::object::{write_match, write_unmatched};
+use crate::pairs::{append_match, append_unmatched};
+use grok::{Matcher, MatchesRef, Pattern};
+use grok_lines::LineAnswers;
+use std::alloc::{AllocError, Global};
+use std::mem;
+
+/// A pattern with its tag, a text that names it, such as the one that it was compiled from.
+#[derive(Clone, Copy)]
+pub struct NamedPattern<'p> {
+    pub tag: &'p str,
+    pub pattern: &'p Pattern,
+}
+
+/// A pattern with the matcher that searches lines for it.
+struct Search<'p> {
+    named: NamedPattern<'p>,
+    matcher: Matcher<'p>,
+}
+
+// By hand, since a list of these has no proof with a derived one.
+impl Drop for Search<'_> {
+    fn drop(self) {
+        let Search {
+            named: _,
+            matcher: _matcher,
+        } = self;
+    }
+}
+
+/// Answers each line by the first of some patterns that matches it.
+#[derive(Drop)]
+pub struct LogAnswers<'p> {
+    alloc: Global,
+    layout: Layout<'p>,
+    searches: Vec<Search<'p>>,
+    /// Where the answer to a line is put together. What it holds from the line before is lost.
+    answer: Vec<u8>,
+}
+
+impl Layout<'_> {
+    /// Appends the answer to a line in which nothing matches.
+    fn append_unmatched(
+        self,
+        alloc: Global,
+        answer: &mut Vec<u8>,
+        line: &str,
+    ) -> Result<(), AllocError>
+        ensures { OnOk result (answer.new.items ≡ answer.old.items
+            ++ unmatched_answer self.entry.lines (layout_value self.entry) line.now) }
+    {
+        match (self.lines, self.format) {
+            (Lines::Matched, _) => Ok(()),
+            (_, OutputFormat::Pairs) => append_unmatched(answer, self, line),
+            (_, OutputFormat::Json) => {
+                let text = mem::replace(answer, Vec::new(alloc));
+                *answer = write_unmatched(text, self, line)?;
+                Ok(answer.push(b'\n')?)
+            }
+        }
+    }
+
+    /// Appends the answer to a match of this pattern.
+    fn append_match(
+        self,
+        alloc: Global,
+        answer: &mut Vec<u8>,
+        named: NamedPattern<'_>,
+        line: &str,
+        matches: MatchesRef<'_>,
+    ) -> Result<(), AllocError>
+        ensures { OnOk result (answer.new.items ≡ answer.old.items ++ match_answer self.entry.lines
+            (layout_value self.entry) (match_text_of named.entry matches.entry) line.now) }
+    {
+        match (self.lines, self.format) {
+            (Lines::Unmatched, _) => Ok(()),
+            (_, OutputFormat::Pairs) => append_match(answer, self, named, line, matches),
+            (_, OutputFormat::Json) => {
+                let text = mem::replace(answer, Vec::new(alloc));
+                *answer = write_match(text, self, named, line, matches)?;
+                Ok(answer.push(b'\n')?)
+            }
+        }
+    }
+}
+
+impl<'p> Search<'p> {
+    /// Appends the answer to the match of this pattern in the line, and returns whether there is one.
+    #[inline(always)]
+    fn append_answer(
+        &mut self,
+        alloc: Global,
+        layout: Layout<'_>,
+        answer: &mut Vec<u8>,
+        line: &str,
+    ) -> Result<bool, AllocError>
+        ensures is_match { IfOk result (λ is_match. is_match ≡ is_some (match_of (searched self.old) line.now)) }
+        ensures matched { IfOk result (λ is_match. is_match ≡ true → answer.new.items
+            ≡ answer.old.items ++ answer_by (layout_value layout.entry) (match_of (searched self.old) line.now) line.now) }
+        ensures unmatched { IfOk result (λ is_match. is_match ≡ false → answer.new.items ≡ answer.old.items) }
+        ensures same { searched self.new ≡ searched self.old }
+    {
+        let named = self.named;
+        match self.matcher.find(line)? {
+            None => Ok(false),
+            Some(matches) => {
+                layout.append_match(alloc, answer, named, line, matches)?;
+                Ok(true)
+            }
+        }
+    }
+}
+
+/// Appends the answer to the first match that one of these has in the line, and returns whether there is one.
+#[inline(always)]
+fn append_first_match(
+    searches: &mut [Search<'_>],
+    alloc: Global,
+    layout: Layout<'_>,
+    answer: &mut Vec<u8>,
+    line: &str,
+) -> Result<bool, AllocError>
+    ensures is_match { IfOk result (λ is_match. is_match
+        ≡ is_some (first_match (map searched searches.old) line.now)) }
+    ensures matched { IfOk result (λ is_match. is_match ≡ true → answer.new.items ≡ answer.old.items
+        ++ answer_by (layout_value layout.entry) (first_match (map searched searches.old) line.now) line.now) }
+    ensures unmatched { IfOk result (λ is_match. is_match ≡ false → answer.new.items ≡ answer.old.items) }
+    ensures same { map searched searches.new ≡ map searched searches.old }
+{
+    'searches: for i in 0..searches.len() {
+        if searches[i].append_answer(alloc, layout, answer, line)? {
+            return Ok(true);
+        }
+    }
+    Ok(false)
+}
+
+impl<'p> LogAnswers<'p> {
+    /// Makes what answers lines by these patterns, tried in their order.
+    ///
+    /// # Errors
+    ///
+    /// If an allocation fails.
+    pub fn new(
+        alloc: Global,
+        patterns: &'p [NamedPattern<'p>],
+        layout: Layout<'p>,
+    ) -> Result<LogAnswers<'p>, AllocError>
+        ensures patterns { IfOk result (λ answers. patterns_of answers ≡ map pattern_text patterns.now) }
+        ensures layout { IfOk result (λ answers. layout_of answers ≡ layout_value layout.entry) }
+    {
+        let mut searches = Vec::new(alloc);
+        'patterns: for named in patterns {
+            let matcher = named.pattern.matcher()?;
+            searches.push(Search {
+                named: *named,
+                matcher,
+            })?;
+        }
+        Ok(LogAnswers {
+            alloc,
+            layout,
+            searches,
+            answer: Vec::new(alloc),
+        })
+    }
+}
+
+impl LogAnswers<'_> {
+    /// Appends the answer to a line that isn't UTF-8.
+    #[inline(never)]
+    fn answer_broken(&mut self, text: &mut Vec<u8>, line: &[u8]) -> Result<(), AllocError>
+        ensures ok { OnOk result (text.new.items ≡ text.old.items ++ unmatched_answer
+            (layout_of self.old).lines (layout_of self.old) (utf8_lossy line.now)) }
+        ensures memory { OnErr result (text.new.items ≡ text.old.items) }
+        ensures layout { layout_of self.new ≡ layout_of self.old }
+        ensures patterns { patterns_of self.new ≡ patterns_of self.old }
+    {
+        let lossy = String::from_utf8_lossy(self.alloc, line)?;
+        let mut answer = Vec::new(self.alloc);
+        self.layout
+            .append_unmatched(self.alloc, &mut answer, &lossy)?;
+        text.extend_from_slice(&answer)
+    }
+}
+
+impl LineAnswers for LogAnswers<'_> {
+    ghost use Rattle.groklog_answers.specs.LogAnswers.{log_answer};
+    ghost use Rattle.groklog_answers.specs.Views.{patterns_of, layout_of};
+
+    ghost answer = { λ answers. log_answer (layout_of answers) (patterns_of answers) };
+
+    #[inline(never)]
+    #[tactic(auto, using(crate::proofs::Utf8Lines::text_of_line, crate::proofs::Utf8Lines::no_text_of_line))]
+    fn answer_line(&mut self, text: &mut Vec<u8>, line: &[u8]) -> Result<(), AllocError> {
+        match str::from_utf8(line) {
+            Ok(line) => self.answer_str(text, line),
+            Err(_) => self.answer_broken(text, line),
+        }
+    }
+
+    #[inline(always)]
+    #[tactic(auto, using(crate::proofs::Utf8Lines::text_of_line))]
+    fn answer_str(&mut self, text: &mut Vec<u8>, line: &str) -> Result<(), AllocError> {
+        self.answer.clear();
+        let (alloc, layout) = (self.alloc, self.layout);
+        if !append_first_match(&mut self.searches, alloc, layout, &mut self.answer, line)? {
+            layout.append_unmatched(alloc, &mut self.answer, line)?;
+        }
+        text.extend_from_slice(&self.answer)
+    }
+}

@@ -1,0 +1,77 @@
+//! The lines `KEY=VALUE` of a line.
+ghost use Rattle.std.specs.Prelude.{◌≡◌, ◌++◌, OnOk, option_map, flat_map};
+ghost use Rattle.grok.specs.Answers.{walk};
+ghost use Rattle.grok.specs.BorrowedMatches.{borrowed_keys, borrowed_captures};
+ghost use Rattle.groklog_answers.specs.Layouts.{layout_value};
+ghost use Rattle.groklog_answers.specs.PairTexts.{pair_line, optional_line, match_lines, unmatched_lines};
+ghost use Rattle.groklog_answers.specs.Views.{match_text_of};
+
+use crate::layout::Layout;
+use crate::log_answers::NamedPattern;
+use grok::MatchesRef;
+use std::alloc::AllocError;
+
+/// Appends `KEY=VALUE` and a line feed.
+fn append_pair(text: &mut Vec<u8>, key: &str, value: &str) -> Result<(), AllocError>
+    ensures { OnOk result (text.new.items ≡ text.old.items ++ pair_line (key.now, value.now)) }
+{
+    text.extend_from_slice(key.as_bytes())?;
+    text.push(b'=')?;
+    text.extend_from_slice(value.as_bytes())?;
+    text.push(b'\n')?;
+    Ok(())
+}
+
+/// Appends the line whose key is optional, if it has one.
+fn append_optional(text: &mut Vec<u8>, name: Option<&str>, value: &str) -> Result<(), AllocError>
+    ensures { OnOk result (text.new.items ≡ text.old.items
+        ++ optional_line (option_map (λ name. name.now) name.entry) value.now) }
+{
+    match name {
+        Some(name) => append_pair(text, name, value),
+        None => Ok(()),
+    }
+}
+
+/// Appends the pairs of a match.
+fn append_pairs(text: &mut Vec<u8>, matches: MatchesRef<'_>) -> Result<(), AllocError>
+    ensures { OnOk result (text.new.items ≡ text.old.items
+        ++ flat_map pair_line (walk (borrowed_keys matches.entry) (borrowed_captures matches.entry))) }
+{
+    'pairs: for (key, value) in matches.iter() {
+        append_pair(text, key, value)?;
+    }
+    Ok(())
+}
+
+/// Appends the lines of a match in this line, and an empty line.
+pub fn append_match(
+    text: &mut Vec<u8>,
+    layout: Layout<'_>,
+    named: NamedPattern<'_>,
+    line: &str,
+    matches: MatchesRef<'_>,
+) -> Result<(), AllocError>
+    ensures { OnOk result (text.new.items ≡ text.old.items ++ match_lines
+        (layout_value layout.entry) (match_text_of named.entry matches.entry) line.now) }
+{
+    append_optional(text, layout.tag, named.tag)?;
+    append_pairs(text, matches)?;
+    append_optional(text, layout.keep, line)?;
+    text.push(b'\n')?;
+    Ok(())
+}
+
+/// Appends the lines of a line in which nothing matches, and an empty line.
+pub fn append_unmatched(
+    text: &mut Vec<u8>,
+    layout: Layout<'_>,
+    line: &str,
+) -> Result<(), AllocError>
+    ensures { OnOk result (text.new.items ≡ text.old.items
+        ++ unmatched_lines (layout_value layout.entry) line.now) }
+{
+    append_optional(text, layout.keep, line)?;
+    text.push(b'\n')?;
+    Ok(())
+}
