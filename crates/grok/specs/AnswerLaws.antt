@@ -1,4 +1,4 @@
--- THE LAWS of key tables and of values.
+-- The laws of key tables, and of the values of keys.
 use Rattle.std.specs.Prelude.{◌≡◌, ◌≢◌, ◌↔◌, ℕ, ◌<◌, List, Option, Some, Contains, filter, is_some, length, slice_get, slice_index_or, [], MatchOption}
 use Rattle.std.specs.List.Sorted.{IsStrictlySortedBy}
 use Rattle.std.specs.Map.{keys_of}
@@ -12,28 +12,28 @@ use Rattle.grok.specs.Answers.{answer_of, walk}
 abbrev pub Rises : Entries → Type 0
 Rises table = IsStrictlySortedBy (slice_cmp nat_cmp) (keys_of table)
 
--- a walk has the keys of the table that have a value, in the order of the table
+-- A walk has exactly those keys of the table that have a value, in the order of the table.
 abbrev pub WalksHaveTheAnsweredKeys : Type 0
 WalksHaveTheAnsweredKeys = (table : Entries) (captures : List (Option (List ℕ))) → Rises table
     → keys_of (walk table captures) ≡ filter (λ key. is_some (answer_of table captures key)) (keys_of table)
 
--- a key has a value exactly if the walk has a pair with that key, and then it is the value of the pair
+-- A key has a value exactly if the walk has a pair with that key, and the value is the text in that pair.
 abbrev pub AnswersAreThoseOfTheWalk : Type 0
 AnswersAreThoseOfTheWalk = (table : Entries) (captures : List (Option (List ℕ))) → Rises table
     → (key text : List ℕ)
     → (answer_of table captures key ≡ Some text) ↔ Contains (walk table captures) (key, text)
 
--- the generated name of number k means the key of number k
+-- The generated name of number k means the key of number k: if the first key is `user`, `_n_0` means `user`.
 abbrev pub GeneratedNamesMeanTheirKeys : Type 0
 GeneratedNamesMeanTheirKeys = (keys : List (List ℕ)) (number : ℕ) → number < length keys
     → meant_key keys (generated number) ≡ slice_index_or keys number []
 
--- any other name means itself
+-- Any other name of a group means itself.
 abbrev pub OtherNamesMeanThemselves : Type 0
 OtherNamesMeanThemselves = (keys : List (List ℕ)) (name : List ℕ)
     → ((number : ℕ) → number < length keys → name ≢ generated number) → meant_key keys name ≡ name
 
--- the name of a group means the key
+-- The name of this group means this key.
 abbrev pub NameMeans : List (List ℕ) → List (Option (List ℕ)) → List ℕ → ℕ → Type 0
 NameMeans keys names key group = (name : List ℕ) × (slice_get names group ≡ Some (Some name))
     × (meant_key keys name ≡ key)

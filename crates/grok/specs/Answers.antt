@@ -7,6 +7,7 @@ use Rattle.grok.specs.KeyTable.{Entries, group_in}
 
 -- ---- patterns
 
+-- a pattern: its engine, its keys and its extracts
 pub record PatternValue (E : Type 0) : Type 0 where
   pub engine : E
   -- the key table: each key with its group, in byte order
@@ -14,24 +15,27 @@ pub record PatternValue (E : Type 0) : Type 0 where
   -- the extract of each key that has one
   pub extracts : Texts
 
+-- How a pattern's value is coded, which contracts with a generic engine need.
 abbrev pub pattern_code : {E : Type 0} → Coded E → Coded (PatternValue E)
 pattern_code {E} engine =
     code_by (E × (Entries × Texts))
     (coded× engine (coded× (coded_list (coded× (coded_list coded_ℕ) coded_ℕ)) texts_code))
     (λ p. (p.engine, (p.keys, p.extracts))) (λ t. record { engine = t.0; keys = t.1.0; extracts = t.1.1 }) (λ _. refl)
 
--- the extracts of a map from keys to texts
+-- the texts of a map, by their keys
 abbrev pub extract_texts : {A : Type 0} → List (String A × String A) → Texts
 extract_texts entries = finite.from_entries (map (λ entry.
     (string_bytes entry.0, string_bytes entry.1)) entries)
 
 -- ---- matches
 
+-- a match: its pattern, and what the groups captured
 pub record MatchesValue (E : Type 0) : Type 0 where
   pub pattern : PatternValue E
   -- the text of each group that took part, from group 0 on
   pub captures : List (Option (List ℕ))
 
+-- how a match's value is coded
 abbrev pub matches_code : {E : Type 0} → Coded E → Coded (MatchesValue E)
 matches_code {E} engine =
     code_by (PatternValue E × List (Option (List ℕ))) (coded× (pattern_code engine)
@@ -52,6 +56,7 @@ answer_of table captures key = option_and_then (capture_at captures) (group_in t
 abbrev pub pair_of : List (Option (List ℕ)) → List ℕ × ℕ → Option (List ℕ × List ℕ)
 pair_of captures entry = option_map (λ text. (entry.0, text)) (capture_at captures entry.1)
 
--- THE WALK: the keys with their values, in the order of the table, without keys whose group took no part
+-- THE WALK of a match: the keys that have a value, with those values, in the order of the table. A key whose
+-- group took no part in the match is left out.
 abbrev pub walk : Entries → List (Option (List ℕ)) → List (List ℕ × List ℕ)
 walk table captures = filter_map (pair_of captures) table

@@ -4,22 +4,23 @@ use Rattle.std.specs.Str.{bytes_eq}
 use Rattle.grok.specs.Tree.{is_absent, Label, Event}
 use Rattle.grok.specs.Keys.{key_after, capturing, TreeFault, first_fault_after}
 
--- capturing placeholders in reading order, put onto earlier ones
+-- Puts later capturing placeholders, given in reading order, in front of the earlier ones: `onto [b, a] [c, d]`
+-- is `[d, c, b, a]`.
 abbrev pub onto : List Label → List Label → List Label
 onto before [] = before
 onto before (label ∷ labels) = onto (label ∷ before) labels
 
--- their keys, the latest first
+-- the keys of these placeholders, the latest first
 abbrev pub taken_of : List Label → List (List ℕ)
 taken_of [] = []
 taken_of (label ∷ before) = key_after before label ∷ taken_of before
 
--- their keys in reading order
+-- the keys of these placeholders in reading order
 abbrev pub in_order : List Label → List (List ℕ)
 in_order [] = []
 in_order (label ∷ before) = in_order before ++ key_after before label ∷ []
 
--- the extract of a key among them
+-- the extract of a key: that of the latest of these placeholders that has the key and an extract
 abbrev pub extract_before : List Label → List ℕ → Option (List ℕ)
 extract_before [] key = None
 extract_before (label ∷ before) key = if bytes_eq (key_after before label) key
@@ -29,6 +30,6 @@ extract_before (label ∷ before) key = if bytes_eq (key_after before label) key
 abbrev pub faults : Bool → List Label → List Event → Option TreeFault
 faults alias_only before events = first_fault_after alias_only before (taken_of before) events
 
--- the capturing placeholders after more events
+-- these capturing placeholders, and in front of them those of the next events
 abbrev pub after : Bool → List Label → List Event → List Label
 after alias_only before events = onto before (capturing alias_only events)

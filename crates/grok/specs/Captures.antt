@@ -6,6 +6,7 @@ use Rattle.std.specs.Borrow.{Bor}
 abbrev pub name_texts : {A : Type 0} → List (Option (String A)) → List (Option (List ℕ))
 name_texts names = map (option_map string_bytes) names
 
+-- the bytes of a borrowed text
 abbrev pub text_of : Bor (List ℕ) → List ℕ
 text_of part = part.now
 
@@ -13,11 +14,11 @@ text_of part = part.now
 abbrev pub capture_texts : List (Option (Bor (List ℕ))) → List (Option (List ℕ))
 capture_texts captures = map (option_map text_of) captures
 
--- the part is a range of the line
+-- the part is the text of the line in some byte range
 abbrev pub IsSliceOf : List ℕ → List ℕ → Type 0
 IsSliceOf line part = (start : ℕ) × (end : ℕ) × (start ≤ end) × (end ≤ length line)
     × (part ≡ slice_range line start end)
 
--- each text that is there is a range of the line
+-- the text of each group that took part is the text of the line in some byte range
 abbrev pub AreSlicesOf : List ℕ → List (Option (List ℕ)) → Type 0
 AreSlicesOf line texts = All (λ text. IfSome text (IsSliceOf line)) texts

@@ -15,27 +15,31 @@ use Rattle.grok.specs.declared.errors.error.Error.{Error}
 
 -- ---- errors of faults
 
--- a generic failure with this message, which is left open if there is none
+-- A `GenericCompilationFailure` with this message. If the message isn't specified, it may be any.
 abbrev pub FailsWith : Option (List ℕ) → ErrorValue → Type 0
 FailsWith words (GenericCompilationFailure said) = IfSome words (λ known. said ≡ known)
 FailsWith words error = ⊥
 
+-- This is the error for a structural fault. The message for a malformed placeholder is what Debug shows of its
+-- fault.
 abbrev pub IsFaultError : Fault → ErrorValue → Type 0
 IsFaultError (MalformedPiece fault) error = FailsWith (fault_words fault) error
 IsFaultError (Missing name) error = error ≡ DefinitionNotFound name
 IsFaultError TooDeep error = error ≡ RecursionTooDeep
 
+-- This is the error for a fault. The message for a clash names the key: `Alias a[1] already exists`.
 abbrev pub IsErrorOf : TreeFault → ErrorValue → Type 0
 IsErrorOf (Structural fault) error = IsFaultError fault error
 IsErrorOf (Clash key) error = error ≡ GenericCompilationFailure (codes "Alias "
     ++ (key ++ codes " already exists"))
 
--- the error if the engine is not built: running out of memory stays that, and a refusal contains the text
+-- The error if an engine isn't built from this text: `Memory` if an allocation failed, and otherwise an error
+-- that contains the text.
 abbrev pub error_of_refusal : Refusal → List ℕ → ErrorValue
 error_of_refusal refusal.Memory text = Memory
 error_of_refusal refusal.Refused text = RegexCompilationFailed (codes "Regex compilation failed:\n" ++ text)
 
--- the error of the first fault
+-- the tree has a fault, and this is the error for the first one
 pub record IsFirstError (alias_only : Bool) (tree : List Event) (error : ErrorValue) : Type 0 where
   pub tree_fault : TreeFault
   pub first : first_fault alias_only tree ≡ Some tree_fault
@@ -43,7 +47,8 @@ pub record IsFirstError (alias_only : Bool) (tree : List Event) (error : ErrorVa
 
 -- ---- patterns
 
--- the engine was built from this text, its named groups have these keys, and these are the extracts
+-- The engine was built from this text. The key table is the one for these keys and the engine's group names,
+-- and the extracts are these.
 pub record IsBuilt {E : Type 0} (source_of : E → List ℕ) (group_names : E
     → List (Option (List ℕ))) (source : List ℕ) (given : List (List ℕ)) (extract : List ℕ
     → Option (List ℕ)) (pattern : PatternValue E) : Type 0 where
@@ -51,7 +56,7 @@ pub record IsBuilt {E : Type 0} (source_of : E → List ℕ) (group_names : E
   pub keys : IsKeyTable given (group_names pattern.engine) pattern.keys
   pub extracts : (key : List ℕ) → finite.get pattern.extracts key ≡ extract key
 
--- the engine may refuse the text, and the error reports this and contains the text
+-- the engine may refuse the text, and this is the error for that refusal
 pub data IsRefusal (may_refuse : List ℕ → Type 0) (text : List ℕ) : ErrorValue → Type 0 where
   Refused : may_refuse text → IsRefusal may_refuse text (error_of_refusal refusal.Refused text)
 
@@ -63,7 +68,7 @@ pub record Expansion : Type 0 where
   pub pattern : List ℕ
   pub tree : List Event
 
--- the pattern over these definitions
+-- a pattern with these definitions
 abbrev pub expansion_of : Texts → Bool → List ℕ → Expansion
 expansion_of texts alias_only pattern = record { alias_only = alias_only; pattern = pattern; tree = tree (finite.get texts) pattern }
 
@@ -71,14 +76,15 @@ expansion_of texts alias_only pattern = record { alias_only = alias_only; patter
 abbrev pub Fits : Expansion → Type 0
 Fits e = length (expanded e.alias_only e.tree) < 2 ^ 64
 
--- no fault and no clash, and the text fits
+-- The pattern has no fault, and its expanded text isn't longer than the greatest `usize`.
 pub record CanBuild (e : Expansion) : Type 0 where
   pub clean : first_fault e.alias_only e.tree ≡ None
   pub fits : Fits e
 
--- WHEN EACH ERROR COMES: the empty pattern's for the empty pattern, and for no other; the error of the first
--- fault, unless that is a clash in a text that doesn't fit; the refusal only of a text that the engine may
--- refuse; and out of memory, which is also the error of a text that doesn't fit
+-- WHEN EACH ERROR IS RETURNED. The empty pattern has an error of its own. Any other pattern has the error of
+-- its first fault. (If that is a clash and the tree is clean, the text must also fit a `usize`.) If there is no
+-- fault, the engine's refusal is returned, but only for a text that the engine may refuse. `Memory` is allowed
+-- for any pattern but the empty one, and it is the only error for a text without a fault that doesn't fit.
 pub data IsCompileError (may_refuse : List ℕ → Type 0) (e : Expansion) : ErrorValue → Type 0 where
   Empty : e.pattern ≡ [] → IsCompileError may_refuse e (CompiledPatternIsEmpty [])
   First : (error : ErrorValue) → e.pattern ≢ [] → IsFirstError e.alias_only e.tree error
@@ -88,8 +94,8 @@ pub data IsCompileError (may_refuse : List ℕ → Type 0) (e : Expansion) : Err
       → IsCompileError may_refuse e error
   NoMemory : e.pattern ≢ [] → IsCompileError may_refuse e Memory
 
--- THE PATTERN: built from the text of a tree without a fault, with the keys of its capturing placeholders and
--- their extracts
+-- THE COMPILED PATTERN. It is built from the expanded text of a pattern without a fault, and has the keys of
+-- its capturing placeholders and their extracts.
 pub record IsPatternOf {E : Type 0} (source_of : E → List ℕ) (group_names : E → List (Option (List ℕ)))
     (e : Expansion) (pattern : PatternValue E) : Type 0 where
   pub some : e.pattern ≢ []
@@ -98,6 +104,7 @@ pub record IsPatternOf {E : Type 0} (source_of : E → List ℕ) (group_names : 
       (keys (capturing e.alias_only e.tree))
       (extract_of e.alias_only e.tree) pattern
 
+-- THE RESULT OF COMPILING: the compiled pattern, or one of the errors above.
 abbrev pub Compiles : {E : Type 0} → (E → List ℕ) → (E → List (Option (List ℕ))) → (List ℕ → Type 0)
     → Expansion
     → Result (PatternValue E) Error → Type 0

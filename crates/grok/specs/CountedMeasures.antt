@@ -6,8 +6,8 @@ use Rattle.grok.specs.Maps.{Texts}
 use Rattle.grok.specs.Measured.{tree_of, IsClean, measured_tree, counted, reached_pieces, reached_texts}
 use Rattle.grok.specs.MeasureCache.{reading_of, measure_view}
 
--- THE RESULT of measuring a pattern over these definitions, and the pieces and ends of texts that were read for
--- it: none is read twice, a pattern without a fault is read to its end, and nothing is read after a fault.
+-- THE RESULT of measuring a pattern with these definitions, and how many pieces and ends of texts were read for
+-- it. No text is read twice, a pattern without a fault is read to its end, and nothing is read after a fault.
 pub record IsCountedMeasure (texts : Texts) (alias_only : Bool) (pattern : List ℕ) (measure : Measure)
     (looks : Looks) : Type 0 where
   pub answer : measure_view measure ≡ measured_tree alias_only (tree_of texts pattern)

@@ -1,6 +1,7 @@
 -- The default definitions.
 use Rattle.std.specs.Prelude.{ℕ, List, [], ◌∷◌, codes}
 
+-- each with its name, in the order in which `patterns` returns them
 abbrev pub default_definitions : List (List ℕ × List ℕ)
 default_definitions =
     (codes "USERNAME", codes "[a-zA-Z0-9._-]+")

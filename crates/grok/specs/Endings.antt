@@ -5,7 +5,7 @@ use Rattle.grok.specs.Keys.{ends_digits, ends_number, ends_in_number}
 use Rattle.grok.specs.declared.expand.numbered.Ending.{Ending}
 use Rattle.grok.specs.declared.expand.numbered.Ending.TheVariants.{Other, Bracket, Number, Closed}
 
--- a key ends in a number in brackets if `rest` follows bytes with this ending
+-- whether a key ends in a number in brackets, if the bytes before `rest` have this ending
 abbrev pub ends_after : Ending → List ℕ → Bool
 ends_after Other rest = ends_in_number rest
 ends_after Bracket rest = ends_number rest || ends_in_number rest

@@ -1,4 +1,4 @@
--- The value that `regex` built, of an engine over it.
+-- The regex in an engine over `regex`.
 use Rattle.regex.specs.declared.string.regex.Regex.{Regex}
 use Rattle.grok.specs.declared.engine.regex_engine.RegexEngine.{RegexEngine}
 

@@ -12,6 +12,7 @@ pub data ErrorValue : Type 0 where
   GenericCompilationFailure : (words : List ℕ) → ErrorValue
   Memory : ErrorValue
 
+-- what contracts see of an error
 abbrev pub error_value : Error → ErrorValue
 error_value rust.RecursionTooDeep = RecursionTooDeep
 error_value (rust.CompiledPatternIsEmpty pattern) = CompiledPatternIsEmpty (string_bytes pattern)

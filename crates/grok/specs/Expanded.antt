@@ -4,8 +4,8 @@ use Rattle.grok.specs.Tree.{Event, Text, Open, Close, FaultEvent}
 use Rattle.grok.specs.Keys.{is_capturing, capturing}
 use Rattle.grok.specs.GeneratedNames.{named_head, unnamed_head}
 
--- The text of these events after `count` capturing placeholders. Each further one writes the head of a
--- group with its number, and each other placeholder the head of a group without a name.
+-- The text of these events after `count` capturing placeholders. A capturing placeholder begins a group with
+-- its number, such as `(?<_n_0>`, and any other placeholder begins a group without a name, `(?:`.
 abbrev pub text_after : Bool → ℕ → List Event → List ℕ
 text_after alias_only count [] = []
 text_after alias_only count (Text text ∷ events) = text ++ text_after alias_only count events
@@ -24,7 +24,8 @@ expanded alias_only tree = text_after alias_only 0 tree
 abbrev pub groups : Bool → List Event → ℕ
 groups alias_only tree = length (capturing alias_only tree)
 
--- the greatest nesting of an open, with those that are open already, and 0 if there is none
+-- The greatest nesting that these events reach, in levels, if `depth` placeholders are open before them. It is
+-- 0 if no placeholder is opened.
 abbrev pub nesting_after : ℕ → List Event → ℕ
 nesting_after depth [] = 0
 nesting_after depth (Text text ∷ events) = nesting_after depth events
@@ -32,5 +33,6 @@ nesting_after depth (Close ∷ events) = nesting_after (depth - 1) events
 nesting_after depth (FaultEvent fault ∷ events) = nesting_after depth events
 nesting_after depth (Open label meaning ∷ events) = max (suc depth) (nesting_after (suc depth) events)
 
+-- the greatest nesting of a whole tree, in levels
 abbrev pub nesting : List Event → ℕ
 nesting tree = nesting_after 0 tree

@@ -7,11 +7,11 @@ use Rattle.grok.specs.Compiled.{Expansion, CanBuild, IsCompileError}
 use Rattle.grok.specs.declared.expand.write.ExpandedPattern.{ExpandedPattern}
 use Rattle.grok.specs.declared.errors.error.Error.{Error}
 
--- no engine refuses any text
+-- an engine that refuses no text
 abbrev pub NeverRefuses : List ℕ → Type 0
 NeverRefuses text = ⊥
 
--- the error is one of compiling for an engine that refuses nothing
+-- the error is one that compiling returns for an engine that refuses nothing
 abbrev pub IsExpansionError : Expansion → Error → Type 0
 IsExpansionError e error = IsCompileError NeverRefuses e (error_value error)
 
@@ -22,5 +22,6 @@ pub record IsExpansionOf (e : Expansion) (found : ExpandedPattern) : Type 0 wher
   pub text : string_bytes found.text ≡ expanded e.alias_only e.tree
   pub keys : HasKeys e.alias_only e.tree found.keys
 
+-- THE RESULT OF EXPANDING: the text and the keys, or the error
 abbrev pub Expands : Expansion → Result ExpandedPattern Error → Type 0
 Expands e r = MatchResult r (IsExpansionOf e) (IsExpansionError e)

@@ -7,18 +7,19 @@ use Rattle.grok.specs.Tree.{Definitions, Fault, TooDeep, Label, Meaning, Stored,
 
 -- ---- byte ranges
 
--- where a piece of the text ends; a malformed piece is the last one, and takes the rest of the text
+-- The byte position where a piece of the text ends. A malformed piece is the last one, and takes the rest of
+-- the text.
 abbrev pub end_of : List ℕ → Piece → ℕ
 end_of text (Regular s e part) = e
 end_of text (Placeholder s e part parts) = e
 end_of text (Malformed fault) = length text
 
--- where the last of these pieces ends, which begin at this byte and lie side by side
+-- The byte position where the last of these pieces ends. They lie side by side, and the first begins at `from`.
 abbrev pub end_of_all : List ℕ → ℕ → List Piece → ℕ
 end_of_all text from [] = from
 end_of_all text from (piece ∷ pieces) = end_of_all text (end_of text piece) pieces
 
--- A piece of the text stands at this byte range and stands for this item. These are the items of the pieces
+-- At this byte range the text has a piece, and its item is this one. `before` has the items of the pieces
 -- before it.
 pub record StandsAt (stored : Definitions) (text : List ℕ) (before : List Item) (from to : ℕ)
     (item : Item) : Type 0 where
@@ -44,10 +45,11 @@ pub data IsOwnFault : ℕ → Item → Fault → Type 0 where
   Broken : (levels : ℕ) (fault : Fault) → IsOwnFault levels (FaultItem fault) fault
   Deep : (label : Label) (meaning : Meaning) → IsOwnFault zero (PlaceholderItem label meaning) TooDeep
 
--- THE PLACE of a text's first fault, if this many levels are left in the text: a path, the text that it leads to,
--- and a byte range of that text. No piece before it has a fault. Either it is a piece of the text itself, or the
--- path begins with the name of a placeholder of the text, and the rest of the path leads to the place of the
--- first fault of that name's stored definition.
+-- WHERE A TEXT'S FIRST FAULT STANDS, if this many levels are left in the text. `path` leads from the text to
+-- the text `faulty`, which has the fault at this byte range, and no piece before it has a fault. There are two
+-- cases. Either the faulty piece is one of the text itself. Or it is inside a placeholder of the text: then the
+-- path begins with the name of that placeholder, and its rest leads from the definition of that name to the
+-- fault.
 pub data IsFaultAt (stored : Definitions) : (levels : ℕ) (text : List ℕ) (path : List (List ℕ))
     (faulty : List ℕ) (from to : ℕ) (fault : Fault) → Type 0 where
   Here : (levels : ℕ) (text : List ℕ) (before : List Item) (from to : ℕ) (item : Item) (fault : Fault)

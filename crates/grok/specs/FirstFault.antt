@@ -1,11 +1,11 @@
--- The first fault and the extracts of a tree, by cutting the list of its events, or of its capturing
--- placeholders, at the right position.
+-- Another way to say what the first fault and the extract of a key are: the list of events, or of capturing
+-- placeholders, can be cut at the right position.
 use Rattle.std.specs.Prelude.{◌≡◌, ℕ, Bool, true, false, List, [], ◌∷◌, ◌++◌, Some, None}
 use Rattle.grok.specs.Tree.{is_absent, Label, Meaning, Fault, Event, Open, FaultEvent}
 use Rattle.grok.specs.Keys.{is_capturing, capturing, key_after, keys, TreeFault, Structural, Clash, is_among, first_fault, extract_of}
 
--- This event, which comes after these others, is a fault: it is a structural fault, or a capturing
--- placeholder whose key is that of an earlier one.
+-- This event is a fault after the events before it: it is a structural fault, or a capturing placeholder that
+-- would get the key of an earlier one.
 pub data IsFaultAfter (alias_only : Bool) (before : List Event) : Event → TreeFault → Type 0 where
   Breaks : (fault : Fault) → IsFaultAfter alias_only before (FaultEvent fault) (Structural fault)
   Meets : (label : Label) (meaning : Meaning) → is_capturing alias_only label ≡ true
@@ -13,13 +13,13 @@ pub data IsFaultAfter (alias_only : Bool) (before : List Event) : Event → Tree
       → IsFaultAfter alias_only before (Open label meaning)
       (Clash (key_after (capturing alias_only before) label))
 
--- wherever the events are cut, the next event is no fault
+-- none of these events is a fault after those before it
 abbrev pub HasNoFault : Bool → List Event → Type 0
 HasNoFault alias_only events =
     (before : List Event) (event : Event) (after : List Event) (tree_fault : TreeFault)
     → events ≡ before ++ event ∷ after → IsFaultAfter alias_only before event tree_fault → ⊥
 
--- the events can be cut before this fault, and none of those before the cut is a fault
+-- one of the events is this fault, and none of the events before it is a fault
 pub record HasFirstFault (alias_only : Bool) (events : List Event) (tree_fault : TreeFault) : Type 0 where
   pub before : List Event
   pub event : Event
@@ -28,7 +28,7 @@ pub record HasFirstFault (alias_only : Bool) (events : List Event) (tree_fault :
   pub none : HasNoFault alias_only before
   pub is : IsFaultAfter alias_only before event tree_fault
 
--- what `first_fault` is
+-- `first_fault` finds exactly the fault that is described above
 pub record FindsFirstFault (alias_only : Bool) (tree : List Event) : Type 0 where
   pub some : (tree_fault : TreeFault) → first_fault alias_only tree ≡ Some tree_fault
       → HasFirstFault alias_only tree tree_fault
@@ -37,20 +37,21 @@ pub record FindsFirstFault (alias_only : Bool) (tree : List Event) : Type 0 wher
   pub none : first_fault alias_only tree ≡ None → HasNoFault alias_only tree
   pub clean : HasNoFault alias_only tree → first_fault alias_only tree ≡ None
 
+-- THE LAW: this holds of every tree.
 abbrev pub FirstFaultIsFirst : Type 0
 FirstFaultIsFirst = (alias_only : Bool) (tree : List Event) → FindsFirstFault alias_only tree
 
 -- ---- extracts
 
--- of the capturing placeholders after these others, none with this key has an extract
+-- none of these capturing placeholders, which come after the earlier ones, has this key and an extract
 abbrev pub HasNoExtract : List Label → List Label → List ℕ → Type 0
 HasNoExtract earlier labels key =
     (before : List Label) (label : Label) (after : List Label)
     → labels ≡ before ++ label ∷ after → key_after (earlier ++ before) label ≡ key
     → is_absent label.extract ≡ true
 
--- a capturing placeholder has this key and this extract, which is not empty, and no later one with this key
--- has an extract
+-- A capturing placeholder has this key and this extract, which isn't empty. No later one with this key has an
+-- extract.
 pub record HasLastExtract (labels : List Label) (key : List ℕ) (extract : List ℕ) : Type 0 where
   pub before : List Label
   pub label : Label
@@ -61,7 +62,7 @@ pub record HasLastExtract (labels : List Label) (key : List ℕ) (extract : List
   pub some : is_absent extract ≡ false
   pub last : HasNoExtract (before ++ label ∷ []) after key
 
--- what `extract_of` is
+-- `extract_of` finds exactly the extract that is described above
 pub record FindsLastExtract (alias_only : Bool) (tree : List Event) (key : List ℕ) : Type 0 where
   pub some : (extract : List ℕ) → extract_of alias_only tree key ≡ Some extract
       → HasLastExtract (capturing alias_only tree) key extract
@@ -70,5 +71,6 @@ pub record FindsLastExtract (alias_only : Bool) (tree : List Event) (key : List 
   pub none : extract_of alias_only tree key ≡ None → HasNoExtract [] (capturing alias_only tree) key
   pub nothing : HasNoExtract [] (capturing alias_only tree) key → extract_of alias_only tree key ≡ None
 
+-- THE LAW: this holds of every tree and key.
 abbrev pub ExtractIsLast : Type 0
 ExtractIsLast = (alias_only : Bool) (tree : List Event) (key : List ℕ) → FindsLastExtract alias_only tree key

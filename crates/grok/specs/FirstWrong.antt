@@ -1,4 +1,4 @@
--- What reading a text up to its first piece with a fault finds.
+-- The first piece of a text that has a fault, and what is wrong with it.
 use Rattle.std.specs.Prelude.{◌≡◌, ◌<◌, ℕ, suc, List, Option, Some, None, Result, Ok, Err}
 use Rattle.grok.specs.Tree.{Definitions, Fault, Label, Inline, Stored, Item, TextItem, FaultItem, PlaceholderItem, items_of, inside, first_structural}
 use Rattle.grok.specs.Sizes.{Size}
@@ -8,12 +8,13 @@ use Rattle.grok.specs.declared.locate.Wrong.{Wrong}
 use Rattle.grok.specs.declared.locate.Wrong.TheVariants as wrong
 use Rattle.grok.specs.declared.locate.FirstWrong.{FirstWrong}
 
--- the fault of what was measured, if it has one
+-- the fault that measuring returned, if it returned one
 abbrev pub fault_in : Result Size Fault → Option Fault
 fault_in (Ok size) = None
 fault_in (Err fault) = Some fault
 
--- An inline definition has no fault if a level is left for it, and a stored definition is the one of its name.
+-- What is true of every item of a text: an inline definition has no fault if a level is left for it, and a
+-- stored definition is the one of the placeholder's name.
 abbrev pub IsResolvedItem : Definitions → Item → Type 0
 IsResolvedItem stored (TextItem text) = Unit {0}
 IsResolvedItem stored (FaultItem fault) = Unit {0}
@@ -36,7 +37,7 @@ abbrev pub IsWrong : Definitions → ℕ → Item → Wrong → Type 0
 IsWrong stored levels item (wrong.Here fault) = IsOwnFault levels item (fault_view fault)
 IsWrong stored levels item (wrong.Inside name definition) = IsFaultInside stored levels item name.now definition.now
 
--- the first piece of the text that has a fault stands in this range
+-- The text has a piece with a fault at this byte range, and no piece before it has a fault.
 pub record IsFirstWrong (stored : Definitions) (levels : ℕ) (text : List ℕ) (first : FirstWrong) : Type 0 where
   pub before : List Item
   pub item : Item

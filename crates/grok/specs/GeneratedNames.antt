@@ -6,19 +6,19 @@ use Rattle.grok.specs.Numeral.{numeral}
 abbrev pub name_start : List ℕ
 name_start = codes "_n_"
 
--- the generated name of the placeholder with this number
+-- the generated name of the group with this number, such as `_n_0`
 abbrev pub generated : ℕ → List ℕ
 generated number = name_start ++ numeral number
 
--- the head of the group with that name
+-- the start of the group with that name, such as `(?<_n_0>`
 abbrev pub named_head : ℕ → List ℕ
 named_head number = codes "(?<" ++ generated number ++ codes ">"
 
--- the head of a group without a name
+-- the start of a group without a name
 abbrev pub unnamed_head : List ℕ
 unnamed_head = codes "(?:"
 
--- the bytes of a head and the bracket that closes it, without the number
+-- how many bytes a group has besides its contents and its number
 abbrev pub bracket_bytes : Bool → ℕ
 bracket_bytes is_named = if is_named then length (codes "(?<" ++ name_start ++ codes ">)")
     else length (unnamed_head ++ codes ")")

@@ -6,10 +6,11 @@ use Rattle.grok.specs.declared.matches.groups.Located.{Located}
 use Rattle.grok.specs.declared.matches.groups.GroupTexts.{GroupTexts}
 use Rattle.grok.specs.declared.matches.groups.GroupTexts.TheVariants as variant
 
--- the text of each group, from group 0 on, where it took part
+-- the text of each group that took part, from group 0 on
 abbrev pub texts_in_line : Located → List (Option (List ℕ))
 texts_in_line located = located_texts located.line.now located.locations.now
 
+-- the same, however the texts of the groups are kept
 abbrev pub group_texts : GroupTexts → List (Option (List ℕ))
 group_texts (variant.Listed captures) = capture_texts captures.now
 group_texts (variant.Located located) = texts_in_line located

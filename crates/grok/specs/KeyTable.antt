@@ -9,37 +9,38 @@ use Rattle.grok.specs.GeneratedNames.{generated}
 
 -- ---- names
 
--- The key that a name means: the key of number k if it is the generated name of k, and otherwise the name
--- itself. `keys` are those from this number on.
+-- The key that a group's name means: the key of number k if the name is `_n_k`, and otherwise the name itself.
+-- `keys` has the keys from number `number` on.
 abbrev pub meant_from : ℕ → List (List ℕ) → List ℕ → List ℕ
 meant_from number [] name = name
 meant_from number (key ∷ keys) name = if bytes_eq name (generated number) then key
     else meant_from (suc number) keys name
 
+-- the same, where the first of the keys has number 0
 abbrev pub meant_key : List (List ℕ) → List ℕ → List ℕ
 meant_key keys name = meant_from 0 keys name
 
 -- ---- groups
 
--- the groups whose name means the key, in rising order; the first of these names is that of this group
+-- The groups whose name means the key, in rising order. The first of the names is that of `group`.
 abbrev pub groups_from : List (List ℕ) → List ℕ → ℕ → List (Option (List ℕ)) → List ℕ
 groups_from keys key group [] = []
 groups_from keys key group (None ∷ names) = groups_from keys key (suc group) names
 groups_from keys key group (Some name ∷ names) = if bytes_eq (meant_key keys name) key
     then group ∷ groups_from keys key (suc group) names else groups_from keys key (suc group) names
 
--- the last of a list, or what was found before
+-- the last element of a list, or `found` if the list is empty
 abbrev pub last_or : Option ℕ → List ℕ → Option ℕ
 last_or found [] = found
 last_or found (group ∷ groups) = last_or (Some group) groups
 
--- the group of a key: the greatest whose name means it
+-- the group of a key: the greatest one whose name means the key
 abbrev pub group_of : List (List ℕ) → List (Option (List ℕ)) → List ℕ → Option ℕ
 group_of keys names key = last_or None (groups_from keys key 0 names)
 
 -- ---- tables
 
--- keys with their groups
+-- a list of keys with their groups
 abbrev pub Entries : Type 0
 Entries = List (List ℕ × ℕ)
 
@@ -47,8 +48,8 @@ Entries = List (List ℕ × ℕ)
 abbrev pub group_in : Entries → List ℕ → Option ℕ
 group_in table key = lookup (bytes_eq key) table
 
--- THE KEY TABLE of these numbered keys and these names of groups: each key that some name means is in it
--- once, in byte order, with its group.
+-- THE KEY TABLE for these keys, numbered from 0, and these names of groups. Each key that some name means is in
+-- it once, in byte order, with its group.
 pub record IsKeyTable (keys : List (List ℕ)) (names : List (Option (List ℕ))) (table : Entries) : Type 0 where
   pub sorted : IsStrictlySortedBy (slice_cmp nat_cmp) (keys_of table)
   pub groups : (key : List ℕ) → group_in table key ≡ group_of keys names key

@@ -28,7 +28,7 @@ capturing alias_only (Open label meaning ∷ events) =
 abbrev pub base_key : Label → List ℕ
 base_key label = if is_absent label.alias then label.name else label.alias
 
--- how many of these have this base key
+-- how many of these placeholders have this base key
 abbrev pub how_often : List Label → List ℕ → ℕ
 how_often before key = count_by (λ earlier. bytes_eq (base_key earlier) key) before
 
@@ -41,11 +41,12 @@ numbered key (suc count) = key ++ codes "[" ++ numeral (suc count) ++ codes "]"
 abbrev pub key_after : List Label → Label → List ℕ
 key_after before label = numbered (base_key label) (how_often before (base_key label))
 
--- the keys of capturing placeholders that come after others, of which the nearest stands first
+-- The keys of capturing placeholders that come after those of `before`. In `before` the latest is the first.
 abbrev pub keys_after : List Label → List Label → List (List ℕ)
 keys_after before [] = []
 keys_after before (label ∷ labels) = key_after before label ∷ keys_after (label ∷ before) labels
 
+-- THE KEYS of capturing placeholders: `A` and `A[1]` for `%{A}%{A}`
 abbrev pub keys : List Label → List (List ℕ)
 keys labels = keys_after [] labels
 
@@ -56,12 +57,13 @@ pub data TreeFault : Type 0 where
   Structural : (fault : Fault) → TreeFault
   Clash : (key : List ℕ) → TreeFault
 
+-- whether the key is one of these
 abbrev pub is_among : List ℕ → List (List ℕ) → Bool
 is_among key [] = false
 is_among key (other ∷ others) = if bytes_eq other key then true else is_among key others
 
--- The first fault of events that come after capturing placeholders. `before` are these, the nearest first,
--- and `taken` are their keys.
+-- The first fault of events that come after the capturing placeholders `before`, the latest of which is the
+-- first. `taken` has their keys.
 abbrev pub first_fault_after : Bool → List Label → List (List ℕ) → List Event → Option TreeFault
 first_fault_after alias_only before taken [] = None
 first_fault_after alias_only before taken (Text text ∷ events) = first_fault_after alias_only before taken events
@@ -74,15 +76,15 @@ first_fault_after alias_only before taken (Open label meaning ∷ events) =
     else first_fault_after alias_only (label ∷ before) (key_after before label ∷ taken) events)
     else first_fault_after alias_only before taken events
 
--- THE FIRST FAULT in reading order. At one and the same placeholder a missing definition comes first, then
--- a clash, and then the depth.
+-- THE FIRST FAULT in reading order. If one placeholder has several, a missing definition comes first, then a
+-- clash, and then a nesting that is too deep.
 abbrev pub first_fault : Bool → List Event → Option TreeFault
 first_fault alias_only tree = first_fault_after alias_only [] [] tree
 
 -- ---- extracts
 
--- the extract of a key: that of the last of these placeholders that has the key and a nonempty extract, or
--- what was found before
+-- The extract of the last of these placeholders that has the key and an extract, or `found` if there is none.
+-- `before` has the capturing placeholders before them, the latest first.
 abbrev pub extract_after : List Label → List ℕ → List Label → Option (List ℕ) → Option (List ℕ)
 extract_after before key [] found = found
 extract_after before key (label ∷ labels) found =
@@ -90,27 +92,29 @@ extract_after before key (label ∷ labels) found =
     (if bytes_eq (key_after before label) key && not (is_absent label.extract) then Some label.extract
     else found)
 
+-- THE EXTRACT OF A KEY: that of the last capturing placeholder of the tree that has the key and an extract
 abbrev pub extract_of : Bool → List Event → List ℕ → Option (List ℕ)
 extract_of alias_only tree key = extract_after [] key (capturing alias_only tree) None
 
 -- ---- which placeholders can clash
 
--- digits, and then a `]` at the end
+-- whether a key is digits and then a `]` at its end
 abbrev pub ends_digits : List ℕ → Bool
 ends_digits [] = false
 ends_digits (c ∷ cs) = if c == close_bracket then is_absent cs else is_ascii_digit c && ends_digits cs
 
--- a decimal number from 1 up, and then a `]` at the end
+-- whether a key is a decimal number from 1 up and then a `]` at its end
 abbrev pub ends_number : List ℕ → Bool
 ends_number [] = false
 ends_number (c ∷ cs) = not (c == digit_zero) && (is_ascii_digit c && ends_digits cs)
 
--- the key ends as a numbered one does: in `[`, a decimal number from 1 up, and `]`
+-- Whether a key ends as numbered keys do: in `[`, a decimal number from 1 up without leading zeros, and `]`.
+-- `x[10]` does, and `x[01]` doesn't.
 abbrev pub ends_in_number : List ℕ → Bool
 ends_in_number [] = false
 ends_in_number (c ∷ cs) = (c == open_bracket && ends_number cs) || ends_in_number cs
 
--- a placeholder whose alias ends so is among the events
+-- whether one of these events opens a placeholder whose alias ends so
 abbrev pub has_numbered_alias : List Event → Bool
 has_numbered_alias [] = false
 has_numbered_alias (Text text ∷ events) = has_numbered_alias events
@@ -124,19 +128,19 @@ abbrev pub AreDistinct : List (List ℕ) → Type 0
 AreDistinct [] = Unit {0}
 AreDistinct (key ∷ keys) = (is_among key keys ≡ false) × AreDistinct keys
 
--- THE LAWS: a key ends so exactly if it is a numbered one. If no alias that ends so is reached, the first
--- fault is a structural one. If the first fault is not a clash, no two capturing placeholders before it have
--- the same key; without a fault, no two of the whole tree.
+-- THE LAWS of keys. A key ends in a number in brackets exactly if it is `numbered` with a count from 1 up.
 abbrev pub EndsInNumberWhereNumbered : Type 0
 EndsInNumberWhereNumbered = (key : List ℕ) → (ends_in_number key ≡ true)
     ↔ ((front : List ℕ) × (count : ℕ) × (key ≡ numbered front (suc count)))
 
+-- If no alias that ends in a number in brackets is reached, the first fault is a structural one.
 abbrev pub ClashNeedsNumber : Type 0
 ClashNeedsNumber = (alias_only : Bool) (stored : Definitions) (pattern : List ℕ)
     → has_numbered_alias (reached (tree stored pattern)) ≡ false
     → first_fault alias_only (tree stored pattern) ≡ option_map Structural
     (first_structural (tree stored pattern))
 
+-- If the first fault isn't a clash, no two capturing placeholders that are reached have the same key.
 abbrev pub KeysAreDistinct : Type 0
 KeysAreDistinct = (alias_only : Bool) (tree : List Event)
     → ((key : List ℕ) → first_fault alias_only tree ≡ Some (Clash key) → ⊥)

@@ -68,7 +68,7 @@ pub use Rattle.grok.specs.MeasureCache.{measure_view}
 pub use Rattle.grok.specs.CountedMeasures.{IsCountedMeasure}
 -- where the first structural fault stands
 pub use Rattle.grok.specs.FaultPlaces.{IsFaultAt, path_view}
--- errors, and what compiling answers
+-- errors, and what compiling returns
 pub use Rattle.grok.specs.Items.{fault_view}
 pub use Rattle.grok.specs.Errors.{ErrorValue, error_value, error_text}
 pub use Rattle.grok.specs.Compiled.{Expansion, expansion_of, Compiles, IsPatternOf, IsCompileError, IsFaultError}

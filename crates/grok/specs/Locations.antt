@@ -2,13 +2,13 @@
 use Rattle.std.specs.Prelude.{ℕ, ◌≤◌, List, Option, All, map, option_map, slice_range, IsCharBoundary}
 use Rattle.std.specs.Option.{ForSome}
 
--- a start and an end in bytes, both at character boundaries of the line
+-- the range begins and ends at character boundaries of the line
 pub record IsLocationIn (line : List ℕ) (location : ℕ × ℕ) : Type 0 where
   pub ordered : location.0 ≤ location.1
   pub begins : IsCharBoundary line location.0
   pub ends : IsCharBoundary line location.1
 
--- the range of each group that took part is one of the line
+-- each group that took part has a range of the line
 abbrev pub AreLocationsIn : List ℕ → List (Option (ℕ × ℕ)) → Type 0
 AreLocationsIn line locations = All (λ location. ForSome location (IsLocationIn line)) locations
 

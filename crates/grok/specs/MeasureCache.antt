@@ -1,4 +1,4 @@
--- What the code remembers while it measures, compared with the definitions of MeasuredOnce.
+-- What the code remembers while it measures, and how that corresponds to the definitions of MeasuredOnce.
 use Rattle.std.specs.Prelude.{◌≡◌, ℕ, suc, ◌-◌, ◌^◌, ◌<◌, ◌≤◌, max, Bool, true, false, List, [], ◌∷◌, if◌then◌else◌, nat_lt, Option, Some, None, Result, Ok, Err, MatchResult}
 use Rattle.std.specs.Option.{option_map}
 use Rattle.std.specs.Str.{bytes_eq}
@@ -27,37 +27,41 @@ use Rattle.grok.specs.MeasuredOnce as kept
 use Rattle.grok.specs.MeasuredOnce.{State, Reading, InProgress, HasSize, HasFault, NeedsMoreThan, known_result, failed_progress, by_progress, labelled, with_progress, with_reach, measure_within}
 use Rattle.grok.specs.Measured.{Measured, Faulty, Sized, TooLong, size_within, counted}
 
--- the items of a text over these definitions
+-- the items of a text, resolved by these definitions
 abbrev pub items_in : Texts → List ℕ → List tree.Item
 items_in texts text = tree.items_of (finite.get texts) text
 
--- What is read for a pattern, up to the first fault: its items in order and, when a definition is used for the
+-- What is read for a pattern, up to the first fault: its items in order, and where a definition is used for the
 -- first time, the items of that definition.
 abbrev pub reading_of : Texts → Bool → List ℕ → State
 reading_of texts alias_only pattern = (measure_within tree.deepest alias_only (items_in texts) pattern).1
 
--- a number, if it fits a `usize`
+-- the number, or none if it doesn't fit a `usize`
 abbrev pub fit : ℕ → Option ℕ
 fit n = if nat_lt n (2 ^ 64) then Some n else None
 
+-- a size as the code keeps it
 abbrev pub shown : Size → PartialSize
 shown size = record { bytes = fit size.bytes; groups = fit size.groups; height = size.height }
 
+-- a size or fault as the code keeps it
 abbrev pub shown_result : Result Size tree.Fault → Result PartialSize tree.Fault
 shown_result (Ok size) = Ok (shown size)
 shown_result (Err fault) = Err fault
 
+-- what contracts see of a size or fault that the code returns
 abbrev pub result_view : Result PartialSize Failure → Result PartialSize tree.Fault
 result_view (Ok sum) = Ok sum
 result_view (Err failure) = Err (fault_view failure.fault)
 
--- the progress of a name, with its size as the code keeps it
+-- the progress of a definition, with its size as the code keeps it
 abbrev pub shown_progress : kept.Progress Size → kept.Progress PartialSize
 shown_progress InProgress = InProgress
 shown_progress (HasSize size) = HasSize (shown size)
 shown_progress (HasFault fault height) = HasFault fault height
 shown_progress (NeedsMoreThan levels) = NeedsMoreThan levels
 
+-- what contracts see of the progress that the code keeps
 abbrev pub progress_view : Progress → kept.Progress PartialSize
 progress_view progress.InProgress = InProgress
 progress_view (progress.HasSize sum) = HasSize sum
@@ -68,7 +72,7 @@ progress_view (progress.NeedsMoreThan levels) = NeedsMoreThan levels
 abbrev pub progress_of : BTreeMap (Bor (List ℕ)) Progress → List ℕ → Option Progress
 progress_of by_name name = get_by (λ (key : Bor (List ℕ)). slice_cmp nat_cmp name key.now) by_name
 
--- The definition was measured, or is being measured, and is not measured again, however many levels are left.
+-- The definition was measured or is being measured, and won't be measured again, however many levels are left.
 abbrev pub is_kept : Option Progress → Bool
 is_kept None = false
 is_kept (Some progress.InProgress) = true
@@ -76,7 +80,7 @@ is_kept (Some (progress.HasSize sum)) = true
 is_kept (Some (progress.HasFault failure)) = true
 is_kept (Some (progress.NeedsMoreThan levels)) = false
 
--- the code's cache holds what this state says
+-- the code's cache remembers what this state says
 pub record ShowsState (cache : MeasureCache) (st : State) : Type 0 where
   pub by_name : (name : List ℕ) → option_map progress_view (progress_of cache.by_name name)
       ≡ option_map shown_progress (st.by_name name)
@@ -84,7 +88,7 @@ pub record ShowsState (cache : MeasureCache) (st : State) : Type 0 where
   pub ends : cache.looks.ends ≡ counted st.ends
   pub numbered_alias : cache.has_numbered_alias ≡ st.numbered_alias
 
--- after a fault, the height is that of the text up to the fault
+-- after a fault, its height is the nesting that the state has before the fault
 abbrev pub HasReach : Result PartialSize Failure → State → Type 0
 HasReach (Ok sum) st = Unit {0}
 HasReach (Err failure) st = st.reach ≡ failure.height
@@ -106,7 +110,7 @@ pub record RemembersReading (r : Result PartialSize Failure) (st : State) (answe
   pub reach : HasReach r answer.1
   pub stays : answer.1 ≡ with_reach st answer.1.reach
 
--- with `levels` levels left, the definition has to be measured first
+-- with `levels` levels left, nothing that is remembered says the definition's size or fault
 abbrev pub IsUnknown : List ℕ → ℕ → MeasureCache → Type 0
 IsUnknown name levels cache = (st : State) → ShowsState cache st → (fresh : Reading)
     → by_progress (st.by_name name) levels st fresh ≡ fresh
@@ -116,7 +120,7 @@ abbrev pub HasProgress : List ℕ → Progress → MeasureCache → MeasureCache
 HasProgress name progress before after = (other : List ℕ) → progress_of after.by_name other
     ≡ (if bytes_eq name other then Some progress else progress_of before.by_name other)
 
--- measuring a definition has begun: it was not measured before, and is in progress now
+-- measuring this definition has begun: it had to be measured with `levels` levels left, and is in progress now
 pub record HasBegun (name : List ℕ) (levels : ℕ) (before after : MeasureCache) : Type 0 where
   pub unkept : is_kept (progress_of before.by_name name) ≡ false
   pub unknown : IsUnknown name levels before
@@ -136,18 +140,21 @@ pub record MustBeMeasured (levels : ℕ) (label : Label) (meaning : tree.Meaning
   pub shows : (st : State) → ShowsState before st → ShowsState after (with_progress
       (labelled (label_view label) st) label.name.now InProgress)
 
+-- the size or fault of the placeholder is such, or the definition that has to be measured first is such
 abbrev pub MatchPlaceholderSize : PlaceholderSize → (Result PartialSize Failure → Type 0) → (List ℕ → Type 0) → Type 0
 MatchPlaceholderSize (entry.Measured r) Is Opens = Is r
 MatchPlaceholderSize (entry.Unread stored) Is Opens = Opens stored.now
 
+-- if the size or fault of the placeholder is known, it is such
 abbrev pub IfMeasured : PlaceholderSize → (Result PartialSize Failure → Type 0) → Type 0
 IfMeasured (entry.Measured r) Is = Is r
 IfMeasured (entry.Unread stored) Is = Unit {0}
 
 -- ---- from one pattern to the next
 
--- A fault also ends the texts that wait in frames; the innermost frame is the last. Each name is remembered with
--- this fault, and the height grows by one level, or to that of the text before it.
+-- A fault also ends the texts that wait in frames, the innermost of which is the last. The fault is remembered
+-- for the name of each frame. From frame to frame its height grows by one level, or to that of the text before
+-- the placeholder.
 abbrev pub unwound : ℕ → List Frame → tree.Fault → State → State
 unwound levels [] fault st = st
 unwound levels (frame ∷ frames) fault st =
@@ -155,7 +162,7 @@ unwound levels (frame ∷ frames) fault st =
     with_reach (with_progress inner frame.name.now (failed_progress fault levels inner.reach))
     (max frame.sum.height (suc inner.reach))
 
--- no frame has a text that is nested deeper than this
+-- in no frame the text before the placeholder is nested deeper than this
 abbrev pub AreLow : ℕ → List Frame → Type 0
 AreLow most [] = Unit {0}
 AreLow most (frame ∷ frames) = (frame.sum.height ≤ most) × AreLow most frames
@@ -170,17 +177,18 @@ pub record StopsReading (levels : ℕ) (r : Result PartialSize Failure) (frames 
   pub leaves : MatchResult r (λ sum. answer.1 ≡ now) (λ failure. answer.1
       ≡ unwound levels frames (fault_view failure.fault) now)
 
--- what is remembered of this definition is its size or fault
+-- what is remembered of this definition is really its size or fault
 abbrev pub HoldsOfText : Bool → (List ℕ → List tree.Item) → kept.Progress Size → List ℕ → Type 0
 HoldsOfText alias_only resolve progress text = (levels : ℕ) (r : Result Size tree.Fault) → known_result progress levels ≡ Some r
     → size_or_fault alias_only resolve levels text ≡ r
 
--- all that is remembered is right, and nothing is in progress
+-- everything that is remembered is right, and no definition is in progress
 pub record IsCorrect (texts : Texts) (alias_only : Bool) (st : State) : Type 0 where
   pub none_begun : (name : List ℕ) → st.by_name name ≡ Some InProgress → ⊥
   pub says : (name : List ℕ) (progress : kept.Progress Size) (text : List ℕ) → st.by_name name ≡ Some progress
       → finite.get texts name ≡ Some text → HoldsOfText alias_only (items_in texts) progress text
 
+-- everything that the code's cache remembers is right
 pub record ShowsCorrectState (texts : Texts) (alias_only : Bool) (cache : MeasureCache) : Type 0 where
   pub st : State
   pub shows : ShowsState cache st
@@ -190,7 +198,7 @@ pub record ShowsCorrectState (texts : Texts) (alias_only : Bool) (cache : Measur
 abbrev pub IsIdle : Measurer → Type 0
 IsIdle measurer = measurer.frames.items ≡ []
 
--- all that the measurer remembers is right
+-- everything that the measurer remembers is right
 abbrev pub HasCorrectCache : Measurer → Type 0
 HasCorrectCache measurer = ShowsCorrectState measurer.mode.grok.now measurer.mode.with_alias_only measurer.cache
 

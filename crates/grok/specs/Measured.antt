@@ -1,4 +1,4 @@
--- What measuring a pattern returns, defined on its tree, and how much of the definitions is read for it.
+-- What measuring a pattern returns, defined by its tree, and how many pieces and texts it can reach.
 use Rattle.std.specs.Prelude.{◌≡◌, ℕ, ◌+◌, ◌-◌, ◌^◌, min, Bool, true, false, List, [], ◌∷◌, length, if◌then◌else◌, nat_lt, Option, Some, None}
 use Rattle.std.specs.Str.{bytes_eq}
 use Rattle.std.specs.FinMap as finite
@@ -7,36 +7,40 @@ use Rattle.grok.specs.Maps.{Texts}
 use Rattle.grok.specs.Tree.{Fault, Inline, Stored, Event, Text, Open, Close, FaultEvent, tree, first_structural, reached}
 use Rattle.grok.specs.Expanded.{expanded, groups, nesting}
 
--- the tree of a pattern over these definitions
+-- the tree of a pattern with these definitions
 abbrev pub tree_of : Texts → List ℕ → List Event
 tree_of texts pattern = tree (finite.get texts) pattern
 
+-- the tree has no structural fault
 abbrev pub IsClean : List Event → Type 0
 IsClean tree = first_structural tree ≡ None
 
 -- ---- the result
 
+-- The result of measuring: the first structural fault, the size of the expanded text, or that the text is
+-- longer than the greatest `usize`. The length is in bytes, and the nesting in levels.
 pub data Measured : Type 0 where
   Faulty : (fault : Fault) → Measured
   Sized : (length groups nesting : ℕ) → Measured
   TooLong : Measured
 
--- the size of a clean tree, if its text is no longer than the greatest `usize`
+-- the size of a clean tree, or that its text is too long
 abbrev pub size_within : ℕ → ℕ → ℕ → Measured
 size_within length groups nesting = if nat_lt length (2 ^ 64) then Sized length groups nesting else TooLong
 
--- the first structural fault, or else the size of the expanded text
+-- the fault if there is one, and otherwise this size
 abbrev pub fault_or : Option Fault → Measured → Measured
 fault_or (Some fault) size = Faulty fault
 fault_or None size = size
 
+-- THE RESULT OF MEASURING: the first structural fault, or else the size of the expanded text
 abbrev pub measured_tree : Bool → List Event → Measured
 measured_tree alias_only tree = fault_or (first_structural tree)
     (size_within (length (expanded alias_only tree)) (groups alias_only tree) (nesting tree))
 
 -- ---- what is read
 
--- whether the events open this name for its stored definition
+-- whether one of these events opens a placeholder that stands for the stored definition of this name
 abbrev pub reaches : List ℕ → List Event → Bool
 reaches name [] = false
 reaches name (Text text ∷ events) = reaches name events
@@ -46,24 +50,25 @@ reaches name (Open label (Inline text) ∷ events) = reaches name events
 reaches name (Open label (Stored text) ∷ events) = if bytes_eq label.name name then true
     else reaches name events
 
--- the total weight of the chosen ones of these named texts
+-- the weights of the chosen texts together; a text is chosen by its name
 abbrev pub weighed : (List ℕ → ℕ) → (List ℕ → Bool) → List (List ℕ × List ℕ) → ℕ
 weighed weight is_chosen [] = 0
 weighed weight is_chosen (entry ∷ entries) = (if is_chosen entry.0 then weight entry.1
     else 0) + weighed weight is_chosen entries
 
--- the weight of the pattern, and of each stored text whose name is reached, counted once
+-- the weight of the pattern and of each stored definition that it reaches together, each counted once
 abbrev pub reached_weight : (List ℕ → ℕ) → Texts → List ℕ → ℕ
 reached_weight weight texts pattern = weight pattern + weighed weight
     (λ name. reaches name (reached (tree_of texts pattern))) (finite.entries texts)
 
--- THE PIECES of all these texts, and THE NUMBER OF TEXTS
+-- how many pieces the pattern and the definitions that it reaches have together
 abbrev pub reached_pieces : Texts → List ℕ → ℕ
 reached_pieces texts pattern = reached_weight (λ text. length (pieces text)) texts pattern
 
+-- how many texts these are, with that of the pattern
 abbrev pub reached_texts : Texts → List ℕ → ℕ
 reached_texts texts pattern = reached_weight (λ text. 1) texts pattern
 
--- the greatest number that a counter shows
+-- what a counter of the code shows after `n` steps: it stays at the greatest `u64`
 abbrev pub counted : ℕ → ℕ
 counted n = min n (2 ^ 64 - 1)

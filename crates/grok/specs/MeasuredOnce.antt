@@ -1,12 +1,13 @@
--- Measuring a pattern, where each definition is measured once and its size or fault is remembered.
+-- Measuring a pattern in a way that measures each definition once and remembers its size or fault.
 use Rattle.std.specs.Prelude.{ℕ, zero, suc, ◌+◌, max, Bool, false, ◌||◌, List, [], ◌∷◌, if◌then◌else◌, nat_lt, Option, Some, None, Result, Ok, Err}
 use Rattle.std.specs.Str.{bytes_eq}
 use Rattle.grok.specs.Tree.{Fault, MalformedPiece, Missing, TooDeep, Label, Inline, Stored, Item, TextItem, FaultItem, PlaceholderItem}
 use Rattle.grok.specs.Keys.{ends_in_number}
 use Rattle.grok.specs.Sizes.{Size, no_size, size_of_bytes, both, wrapped}
 
--- How far measuring a definition has come: it is in progress; it has this size; it has this first fault if more
--- levels than the height are left, and is nested too deeply otherwise; or it needs more than this many levels.
+-- How far measuring a definition has come. It is in progress. Or it has this size. Or it has this first fault
+-- if more levels than the height are left, and is nested too deeply otherwise. Or it needs more than this many
+-- levels.
 pub data Progress (S : Type 0) : Type 0 where
   InProgress : Progress S
   HasSize : (size : S) → Progress S
@@ -20,22 +21,24 @@ known_result (HasSize size) levels = Some (if nat_lt size.height levels then Ok 
 known_result (HasFault fault height) levels = Some (if nat_lt height levels then Err fault else Err TooDeep)
 known_result (NeedsMoreThan most) levels = if nat_lt most levels then None else Some (Err TooDeep)
 
--- how many levels are nested before the fault, with `levels` levels left; 0 if it is nested too deeply
+-- The nesting before the remembered fault, in levels, if `levels` levels are left. It is 0 if the fault is that
+-- this is nested too deeply.
 abbrev pub reach_within : Progress Size → ℕ → ℕ
 reach_within InProgress levels = 0
 reach_within (HasSize size) levels = 0
 reach_within (HasFault fault height) levels = if nat_lt height levels then height else 0
 reach_within (NeedsMoreThan most) levels = 0
 
--- what is remembered of a definition that was measured with `levels` levels left, where `reach` levels are nested
--- before this fault
+-- What is remembered of a definition that has this fault. It was measured with `levels` levels left, and the
+-- nesting before the fault is `reach` levels.
 abbrev pub failed_progress : {S : Type 0} → Fault → ℕ → ℕ → Progress S
 failed_progress (MalformedPiece fault) levels reach = HasFault (MalformedPiece fault) reach
 failed_progress (Missing name) levels reach = HasFault (Missing name) reach
 failed_progress TooDeep levels reach = NeedsMoreThan levels
 
--- What measuring remembers: the progress of each name, how many pieces and ends of texts were read, whether an
--- alias was read that ends in a number in brackets, and, after a fault, how many levels were nested before it.
+-- What measuring remembers: the progress of each definition by its name, how many pieces and ends of texts were
+-- read, whether an alias was read that ends in a number in brackets, and, after a fault, the nesting before it
+-- in levels.
 pub record State : Type 0 where
   pub by_name : List ℕ → Option (Progress Size)
   pub looks : ℕ
@@ -43,13 +46,15 @@ pub record State : Type 0 where
   pub numbered_alias : Bool
   pub reach : ℕ
 
+-- the progress of each name, after this name got this progress
 abbrev pub updated : (List ℕ → Option (Progress Size)) → List ℕ → Progress Size → List ℕ → Option (Progress Size)
 updated by_name name progress other = if bytes_eq name other then Some progress else by_name other
 
+-- the same, where this name has this progress
 abbrev pub with_progress : State → List ℕ → Progress Size → State
 with_progress st name progress = record { by_name = updated st.by_name name progress; looks = st.looks; ends = st.ends; numbered_alias = st.numbered_alias; reach = st.reach }
 
--- `reach` levels are nested before the fault
+-- the same, where the nesting before the fault is `reach` levels
 abbrev pub with_reach : State → ℕ → State
 with_reach st reach = record { by_name = st.by_name; looks = st.looks; ends = st.ends; numbered_alias = st.numbered_alias; reach = reach }
 
@@ -61,6 +66,7 @@ piece_read st = record { by_name = st.by_name; looks = st.looks + 1; ends = st.e
 abbrev pub labelled : Label → State → State
 labelled label st = record { by_name = st.by_name; looks = st.looks; ends = st.ends; numbered_alias = ends_in_number label.alias || st.numbered_alias; reach = st.reach }
 
+-- a piece was read that is a placeholder with this label
 abbrev pub placeholder_read : Label → State → State
 placeholder_read label st = labelled label (piece_read st)
 
@@ -68,7 +74,7 @@ placeholder_read label st = labelled label (piece_read st)
 abbrev pub ended : State → State
 ended st = record { by_name = st.by_name; looks = st.looks; ends = st.ends + 1; numbered_alias = st.numbered_alias; reach = st.reach }
 
--- one level more, that of the placeholder around the text
+-- the same, with one more level before the fault: that of the placeholder around the text
 abbrev pub deeper : State → State
 deeper st = with_reach st (suc st.reach)
 
@@ -77,10 +83,12 @@ abbrev pub inlined : ℕ → List ℕ → Result Size Fault
 inlined zero text = Err TooDeep
 inlined (suc levels) text = Ok (size_of_bytes text)
 
+-- a size or fault, and what is remembered after it was found
 abbrev pub Reading : Type 0
 Reading = Result Size Fault × State
 
--- the result of one item, followed by that of the rest; the nesting before a fault counts that of the item
+-- The result of one item, combined with that of the items after it. If one of those has a fault, the nesting
+-- before it is at least that of this item.
 abbrev pub then_rest : Result Size Fault → State → (State → Reading) → Reading
 then_rest (Err fault) st rest = (Err fault, st)
 then_rest (Ok size) st rest = let more = rest st in (
@@ -89,7 +97,7 @@ then_rest (Ok size) st rest = let more = rest st in (
       (max size.height more.1.reach),
 )
 
--- the result of a placeholder from that of its text
+-- the result of a placeholder, given that of its definition
 abbrev pub enclosed : Bool → Label → Reading → Reading
 enclosed alias_only label inner = (wrapped alias_only label inner.0, deeper inner.1)
 
@@ -111,17 +119,18 @@ items_reading alias_only visit inline (item ∷ items) st =
     let first = item_reading alias_only visit inline item (piece_read st) in
     then_rest first.0 first.1 (items_reading alias_only visit inline items)
 
--- a definition was measured with `levels` levels left, its own among them, and is remembered
+-- the same, after the result is remembered for this name, whose definition was measured with `levels` levels
+-- left, its own among them
 abbrev pub finish : List ℕ → ℕ → Reading → Reading
 finish name levels (Ok size, st) = (Ok size, with_progress st name (HasSize size))
 finish name levels (Err fault, st) = (Err fault, with_progress st name (failed_progress fault levels st.reach))
 
--- the result that is remembered, or else that of measuring
+-- the result that is remembered, or else `fresh`, that of measuring now
 abbrev pub by_result : Option (Result Size Fault) → State → Reading → Reading
 by_result None st fresh = fresh
 by_result (Some r) st fresh = (r, st)
 
--- the same, from the progress of the name
+-- the same, given the progress of the name
 abbrev pub by_progress : Option (Progress Size) → ℕ → State → Reading → Reading
 by_progress None levels st fresh = fresh
 by_progress (Some progress) levels st fresh = by_result (known_result progress levels)
@@ -150,6 +159,7 @@ abbrev pub stored_within : Bool → (List ℕ → List Item) → ℕ → Label �
 stored_within alias_only resolve levels label text st =
     enclosed alias_only label (visit alias_only resolve levels label.name text st)
 
+-- what is remembered at the start: nothing
 abbrev pub nothing_measured : State
 nothing_measured = record { by_name = λ name. None; looks = 0; ends = 0; numbered_alias = false; reach = 0 }
 

@@ -24,25 +24,26 @@ abbrev pub regex_error_of : RefusalReason → regex.Error
 regex_error_of (Syntax error) = regex_error.Syntax error
 regex_error_of TooBig = regex_error.CompiledTooBig
 
--- `regex` may give this error for the text. If it is one of syntax, the grammar of `regex` doesn't read the text
--- within its limit on nesting, and the range of the error begins and ends at character boundaries of the text.
--- Otherwise the grammar reads the text.
+-- `regex` may give this error for the text. If it is an error of syntax, the grammar of `regex` doesn't read
+-- the text within its limit on nesting, and the range of the error begins and ends at character boundaries of
+-- the text. If the regex is too big, the grammar reads the text.
 abbrev pub IsReasonFor : List ℕ → RefusalReason → Type 0
 IsReasonFor text reason = IsDefaultFailure text (regex_error_of reason)
 
--- the expanded text, and why `regex` refuses it
+-- the refusal has this expanded text, and a reason for which `regex` may refuse it
 pub record IsRefusalOf (source : List ℕ) (refusal : RegexRefusal) : Type 0 where
   pub text : string_bytes refusal.text ≡ source
   pub reason : IsReasonFor source refusal.reason
 
--- the pattern has an expanded text, which `regex` refuses for this reason, or else builds
+-- The pattern has no fault. Its expanded text is refused by `regex` for this reason, or if none is given,
+-- `regex` built it.
 pub record IsExamined (e : Expansion) (found : Option RegexRefusal) : Type 0 where
   pub some : e.pattern ≢ []
   pub can : CanBuild e
   pub refusal : MatchOption found (IsRegexText (expanded e.alias_only e.tree))
       (IsRefusalOf (expanded e.alias_only e.tree))
 
--- WHY A PATTERN IS REFUSED: the refusal of its expanded text, if there is one; or the error of compiling the
--- pattern for an engine that refuses nothing
+-- WHY A PATTERN IS REFUSED: the refusal of its expanded text, if there is one, or else the error that compiling
+-- the pattern returns for an engine that refuses nothing.
 abbrev pub Examines : Expansion → Result (Option RegexRefusal) Error → Type 0
 Examines e r = MatchResult r (IsExamined e) (IsExpansionError e)

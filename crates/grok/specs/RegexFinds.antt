@@ -13,8 +13,8 @@ use Rattle.regex.specs.declared.error.Error.TheVariants.{Internal, OutOfMemory}
 abbrev pub IsReadByDefault : Regex → Type 0
 IsReadByDefault regex = (regex_config regex ≡ default_config) × IsReadFromSource regex
 
--- `regex` may refuse the text: its own contract allows an error there other than running out of memory. By
--- that contract the text is no regular expression, or is nested too deeply, or would be too big.
+-- `regex` may refuse the text: its own contract allows an error for it other than that memory ran out. By that
+-- contract the text is no regular expression, or is nested too deeply, or would be too big.
 abbrev pub MayRefuse : List ℕ → Type 0
 MayRefuse text = (error : Error) × IsDefaultFailure text error × (error ≢ OutOfMemory) × (error ≢ Internal)
 
@@ -22,7 +22,7 @@ MayRefuse text = (error : Error) × IsDefaultFailure text error × (error ≢ Ou
 abbrev pub text_at : List ℕ → (ℕ → Option (ℕ × ℕ)) → ℕ → Option (List ℕ)
 text_at line span_at group = option_map (λ place. slice_range line place.0 place.1) (span_at group)
 
--- the texts of the first so many groups
+-- the texts of the first `count` groups
 abbrev pub texts_at : List ℕ → (ℕ → Option (ℕ × ℕ)) → ℕ → List (Option (List ℕ))
 texts_at line span_at count = map (text_at line span_at) (range_with_len 0 count)
 

@@ -8,10 +8,11 @@ use Rattle.grok.specs.Pieces as spec
 
 -- ---- reading a span
 
--- the text in the range
+-- the part of T in this byte range
 abbrev pub text_in : List ℕ → TextRange → List ℕ
 text_in T p = slice_range T p.from p.to
 
+-- the parts of a placeholder in these byte ranges
 abbrev pub parts_in : List ℕ → PartRanges → spec.Parts
 parts_in T p = record { name = text_in T p.name; alias = text_in T p.alias; extract = text_in T p.extract; definition = text_in T p.definition }
 
@@ -21,41 +22,42 @@ piece_in T (Regular p) = spec.Regular p.from p.to (text_in T p)
 piece_in T (Placeholder p parts) = spec.Placeholder p.from p.to (text_in T p) (parts_in T parts)
 piece_in T (Malformed f) = spec.Malformed f
 
--- the range begins and ends at character boundaries of the text
+-- the range begins and ends at character boundaries of T
 pub record IsRangeOf (T : List ℕ) (p : TextRange) : Type 0 where
   pub ordered : p.from ≤ p.to
   pub begins : IsCharBoundary T p.from
   pub ends : IsCharBoundary T p.to
 
+-- each of these ranges is one of T
 pub record AreRangesOf (T : List ℕ) (p : PartRanges) : Type 0 where
   pub name : IsRangeOf T p.name
   pub alias : IsRangeOf T p.alias
   pub extract : IsRangeOf T p.extract
   pub definition : IsRangeOf T p.definition
 
--- each range of the span is one of the text
+-- each range of the span is one of T
 abbrev pub IsSpanOf : List ℕ → Span → Type 0
 IsSpanOf T (Regular p) = IsRangeOf T p
 IsSpanOf T (Placeholder p parts) = IsRangeOf T p × AreRangesOf T parts
 IsSpanOf T (Malformed f) = Unit {0}
 
--- the spans, read in the text, are its pieces
+-- each span has ranges of T, and read in T the spans are its pieces
 pub record AreSpansOf (T : List ℕ) (spans : List Span) : Type 0 where
   pub reads : map (piece_in T) spans ≡ spec.pieces T
   pub within : All (IsSpanOf T) spans
 
 -- ---- the ranges of the parts of a piece
 
--- the range that begins at `from` and has `len` bytes; an empty part has the range at the start of the text
+-- The range that begins at `from` and has `len` bytes. An empty part has the empty range at the start of T.
 abbrev pub range_from : ℕ → ℕ → TextRange
 range_from from len = if len == 0 then record { from = 0; to = 0 } else record { from = from; to = from + len }
 
--- the part is the text in that range
+-- the part is what T has from this byte on
 pub record StandsAt (T : List ℕ) (from : ℕ) (part : List ℕ) : Type 0 where
   pub range : IsRangeOf T (range_from from (length part))
   pub reads : text_in T (range_from from (length part)) ≡ part
 
--- the parts of the placeholder from s to e, which is spelled `%{name:alias:extract=definition}`
+-- the parts of the placeholder from s to e stand where `%{name:alias:extract=definition}` has them
 pub record PartsStand (T : List ℕ) (s e : ℕ) (p : spec.Parts) : Type 0 where
   pub fits : s + 2 + length p.name + length p.alias + length p.extract + length p.definition + 1 ≤ e
   pub name : StandsAt T (s + 2) p.name
@@ -63,12 +65,12 @@ pub record PartsStand (T : List ℕ) (s e : ℕ) (p : spec.Parts) : Type 0 where
   pub extract : StandsAt T (s + 2 + length p.name + 1 + length p.alias + 1) p.extract
   pub definition : StandsAt T (e - 1 - length p.definition) p.definition
 
--- the piece from s to e has the text in that range
+-- the piece from s to e has the text that T has in that range
 pub record PieceStands (T : List ℕ) (s e : ℕ) (text : List ℕ) : Type 0 where
   pub range : IsRangeOf T (record { from = s; to = e })
   pub reads : text ≡ slice_range T s e
 
--- each text of the piece is the part of T that the piece gives as its range
+-- each text in the piece is what T has in its byte range
 abbrev pub IsPieceOf : List ℕ → spec.Piece → Type 0
 IsPieceOf T (spec.Regular s e text) = PieceStands T s e text
 IsPieceOf T (spec.Placeholder s e text parts) = PieceStands T s e text × PartsStand T s e parts

@@ -2,7 +2,7 @@
 use Rattle.std.specs.Prelude.{◌≡◌, ℕ, ◌<◌, ◌≤◌, List, [], ◌∷◌, length, slice_range}
 use Rattle.grok.specs.Pieces.{Piece, Regular, Placeholder, Malformed}
 
--- the range from a to e begins at s, is not empty, ends within T, and has this text there
+-- The range from a to e begins at s, isn't empty, ends within T, and has this text.
 pub record IsTile (T : List ℕ) (s a e : ℕ) (text : List ℕ) : Type 0 where
   pub begins : a ≡ s
   pub nonempty : a < e

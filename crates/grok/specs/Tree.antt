@@ -1,4 +1,4 @@
--- The expansion of a pattern: what each placeholder stands for, and the events of reading all of it in
+-- The expansion of a pattern: what each placeholder stands for, and the list of everything that is read, in
 -- order.
 use Rattle.std.specs.Prelude.{ℕ, zero, suc, Bool, true, false, not, ◌&&◌, List, [], ◌∷◌, ◌++◌, if◌then◌else◌, Option, Some, None}
 use Rattle.std.specs.Str.{bytes_eq}
@@ -7,7 +7,7 @@ use Rattle.grok.specs.Pieces.{Parts, Piece, Regular, Placeholder, Malformed, pie
 
 -- ---- what pieces stand for
 
--- a part of a placeholder that is missing is the empty text
+-- Whether a part of a placeholder is missing. A missing part is the empty text.
 abbrev pub is_absent : List ℕ → Bool
 is_absent [] = true
 is_absent (x ∷ xs) = false
@@ -29,6 +29,7 @@ pub data Meaning : Type 0 where
   Inline : (text : List ℕ) → Meaning
   Stored : (text : List ℕ) → Meaning
 
+-- the text of that definition
 abbrev pub meaning_text : Meaning → List ℕ
 meaning_text (Inline text) = text
 meaning_text (Stored text) = text
@@ -47,18 +48,20 @@ Definitions = List ℕ → Option (List ℕ)
 abbrev pub no_definitions : Definitions
 no_definitions name = None
 
--- the inline definitions of a text up to a placeholder and with it: a later one of a name replaces an
--- earlier one
+-- The inline definitions after a placeholder with these parts. If it has a definition, that replaces an earlier
+-- one of its name.
 abbrev pub with_written : Definitions → Parts → Definitions
 with_written written parts name = if bytes_eq parts.name name && not (is_absent parts.definition)
     then Some parts.definition else written name
 
--- the inline definition, or else the stored one, or else none
+-- The item of a placeholder: it stands for the inline definition if there is one, or else for the stored one.
+-- If there is neither, its name is missing.
 abbrev pub resolved : Label → Option (List ℕ) → Option (List ℕ) → Item
 resolved label (Some text) stored = PlaceholderItem label (Inline text)
 resolved label None (Some text) = PlaceholderItem label (Stored text)
 resolved label None None = FaultItem (Missing label.name)
 
+-- the name, alias and extract among these parts
 abbrev pub label_of : Parts → Label
 label_of parts = record { name = parts.name; alias = parts.alias; extract = parts.extract }
 
@@ -68,7 +71,7 @@ abbrev pub placeholder_item : Definitions → Definitions → Parts → Item
 placeholder_item stored written parts = resolved (label_of parts) (with_written written parts parts.name)
     (stored parts.name)
 
--- the items of these pieces, where the pieces before them have these inline definitions
+-- the items of these pieces, if the pieces before them have the inline definitions `written`
 abbrev pub items_after : Definitions → Definitions → List Piece → List Item
 items_after stored written [] = []
 items_after stored written (Regular s e text ∷ ps) = TextItem text ∷ items_after stored written ps
@@ -76,20 +79,22 @@ items_after stored written (Placeholder s e text parts ∷ ps) = placeholder_ite
 items_after stored written (Malformed fault ∷ ps) = FaultItem
     (MalformedPiece fault) ∷ items_after stored written ps
 
--- at the start of a text there are no inline definitions
+-- THE ITEMS of a text. At its start there are no inline definitions.
 abbrev pub items_of : Definitions → List ℕ → List Item
 items_of stored text = items_after stored no_definitions (pieces text)
 
 -- ---- events
 
+-- One entry of the list that a tree is: regular text, the open of a placeholder, the close after its
+-- definition, or a fault.
 pub data Event : Type 0 where
   Text : (text : List ℕ) → Event
   Open : (label : Label) (meaning : Meaning) → Event
   Close : Event
   FaultEvent : (fault : Fault) → Event
 
--- the events of items, where `inside` gives what follows an open: the events of its text and its close, or
--- a fault
+-- The events of items. `inside` says what follows an open: the events of its definition and then its close, or
+-- a fault.
 abbrev pub events : (List ℕ → List Event) → List Item → List Event
 events inside [] = []
 events inside (TextItem text ∷ items) = Text text ∷ events inside items
@@ -97,11 +102,12 @@ events inside (FaultItem fault ∷ items) = FaultEvent fault ∷ events inside i
 events inside (PlaceholderItem label meaning ∷ items) = Open label meaning ∷ inside (meaning_text meaning)
     ++ events inside items
 
--- what follows an open, with the number of levels that are still allowed
+-- What follows an open, if so many levels are left. If none is left, that is a fault.
 abbrev pub inside : (List ℕ → List Item) → ℕ → List ℕ → List Event
 inside items zero text = FaultEvent TooDeep ∷ []
 inside items (suc levels_left) text = events (inside items levels_left) (items text) ++ Close ∷ []
 
+-- the events of a pattern, if `levels_left` levels are allowed
 abbrev pub tree_within : ℕ → (List ℕ → List Item) → List ℕ → List Event
 tree_within levels_left items pattern = events (inside items levels_left) (items pattern)
 

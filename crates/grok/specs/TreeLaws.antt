@@ -24,8 +24,8 @@ OwnDefinitionHolds = (stored : Definitions) (text : List ℕ) (before after : Li
     → slice_get (items_of stored text) (length before) ≡ Some
     (PlaceholderItem (label_of parts) (Inline parts.definition))
 
--- A placeholder without one is resolved to that of an earlier placeholder of its name in the same text, if no
--- placeholder between them defines the name.
+-- A placeholder without one is resolved to the inline definition of an earlier placeholder of its name in the
+-- same text, if no placeholder between them defines the name.
 abbrev pub EarlierDefinitionHolds : Type 0
 EarlierDefinitionHolds = (stored : Definitions) (text : List ℕ) (before between after : List Piece)
     (s e s' e' : ℕ) (pattern pattern' : List ℕ) (earlier parts : Parts)
@@ -36,7 +36,7 @@ EarlierDefinitionHolds = (stored : Definitions) (text : List ℕ) (before betwee
     → slice_get (items_of stored text) (suc (length before + length between))
     ≡ Some (PlaceholderItem (label_of parts) (Inline earlier.definition))
 
--- If no placeholder before it in its own text defines the name, it is resolved to the stored definition, if
+-- If no placeholder before it in its own text defines its name, it is resolved to the stored definition, if
 -- there is one, whatever other texts define.
 abbrev pub StoredDefinitionHolds : Type 0
 StoredDefinitionHolds = (stored : Definitions) (text : List ℕ) (before after : List Piece) (s e : ℕ)
@@ -60,17 +60,17 @@ UnusedDefinitionsDoNotMatter = (stored other : Definitions) (pattern : List ℕ)
     → (first_structural (tree other pattern) ≡ first_structural (tree stored pattern))
     × (reached (tree other pattern) ≡ reached (tree stored pattern))
 
--- both modes have the same structural faults
+-- If measuring reports a fault in one mode, it reports the same fault in the other.
 abbrev pub ModesFaultAlike : Type 0
 ModesFaultAlike = (tree : List Event) (mode other : Bool) (fault : Fault)
     → measured_tree mode tree ≡ Faulty fault → measured_tree other tree ≡ Faulty fault
 
--- the head of a group, with or without a generated name
+-- the start of a group, with or without a generated name
 pub data IsHead : List ℕ → Type 0 where
   Unnamed : IsHead unnamed_head
   Numbered : (number : ℕ) → IsHead (named_head number)
 
--- the text is what the events write, where each placeholder writes one of the two heads
+-- the text is what the events write, if each placeholder writes one of the two starts of a group
 abbrev pub IsTextOf : List Event → List ℕ → Type 0
 IsTextOf [] text = text ≡ []
 IsTextOf (Text bytes ∷ events) text = (rest : List ℕ) × (text ≡ bytes ++ rest) × IsTextOf events rest
@@ -79,6 +79,6 @@ IsTextOf (FaultEvent fault ∷ events) text = IsTextOf events text
 IsTextOf (Open label meaning ∷ events) text = (head rest : List ℕ) × IsHead head × (text ≡ head ++ rest)
     × IsTextOf events rest
 
--- so the texts of both modes differ in the heads of their groups alone
+-- So the texts of both modes differ only in the starts of their groups.
 abbrev pub HeadsAloneDiffer : Type 0
 HeadsAloneDiffer = (alias_only : Bool) (tree : List Event) → IsTextOf tree (expanded alias_only tree)

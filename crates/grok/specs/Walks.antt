@@ -16,7 +16,7 @@ use Rattle.grok.specs.declared.errors.fault.TreeFault.TheVariants.{Structural, C
 
 -- ---- what was assigned
 
--- It has assigned keys and extracts to these capturing placeholders, the latest first.
+-- The assigner has assigned keys and extracts to these capturing placeholders, the latest first.
 pub record HasAssigned (assigner : KeyAssigner) (before : List Label) : Type 0 where
   pub uses : (key : List ℕ) → unwrap_or (get_by_text assigner.uses key) 0
       ≡ how_often before key
@@ -24,7 +24,7 @@ pub record HasAssigned (assigner : KeyAssigner) (before : List Label) : Type 0 w
   pub extracts : (key : List ℕ) → option_map string_bytes (get_by_text assigner.extracts key)
       ≡ extract_before before key
 
--- It has assigned keys to some capturing placeholders, and can count this many more.
+-- The assigner has assigned keys to some capturing placeholders, and can count this many more.
 pub record CanAssign (assigner : KeyAssigner) (more : ℕ) : Type 0 where
   pub before : List Label
   pub shows : HasAssigned assigner before
@@ -37,6 +37,7 @@ pub record Clashes (before : List Label) (label : Label) (key : String Global) :
   pub taken : is_among (key_after before label) (taken_of before) ≡ true
   pub named : string_bytes key ≡ key_after before label
 
+-- what contracts see of the first fault
 abbrev pub tree_fault_view : TreeFault → keys.TreeFault
 tree_fault_view (Structural fault) = keys.Structural (fault_view fault)
 tree_fault_view (Clash key) = keys.Clash (string_bytes key)

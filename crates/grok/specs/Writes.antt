@@ -7,17 +7,17 @@ use Rattle.grok.specs.GeneratedNames.{named_head, unnamed_head}
 use Rattle.grok.specs.Expanded.{text_after}
 use Rattle.grok.specs.declared.expand.write.Output.{Output}
 
--- what a placeholder writes as the head of its group, after `count` named groups
+-- how a placeholder's group begins, if `count` named groups come before it
 abbrev pub head_of : Bool → ℕ → List ℕ
 head_of is_capturing count = if is_capturing then named_head count else unnamed_head
 
--- The events are clean, and their text fits into the capacity that is left.
+-- The events have no fault, and their text fits into the remaining capacity.
 pub record IsReady (alias_only : Bool) (events : List Event) (out : Output) : Type 0 where
   pub clean : first_structural events ≡ None
   pub room : string_len out.text + length (text_after alias_only out.groups events) ≤ string_capacity out.text
   pub fits : out.groups + length (capturing alias_only events) < 2 ^ 64
 
--- The events were written.
+-- The text of the events was appended.
 pub record Wrote (alias_only : Bool) (events : List Event) (old new : Output) : Type 0 where
   pub text : string_bytes new.text ≡ string_bytes old.text ++ text_after alias_only old.groups events
   pub groups : new.groups ≡ old.groups + length (capturing alias_only events)

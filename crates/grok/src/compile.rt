@@ -119,7 +119,7 @@ impl Grok {
         }
     }
 
-    /// Expands a pattern that has no fault, and whose expanded text has `length` bytes.
+    /// Expands a pattern that has no fault. Its expanded text has `length` bytes.
     fn expand_clean(
         &self,
         pattern: &str,
@@ -163,7 +163,7 @@ impl Grok {
                 if let Some(error) = self.first_error(pattern, with_alias_only, &found)? {
                     return Err(error);
                 }
-                // What measuring remembers isn't kept beside the text.
+                // Frees what measuring remembers before the text is allocated.
                 drop(found);
                 self.expand_clean(pattern, with_alias_only, length)
             }

@@ -46,9 +46,9 @@ pub fn patterns() -> &'static [(&'static str, &'static str)]
     &PATTERNS
 }
 
-/// A library of definitions. Each has a name.
+/// A library of definitions, each with a name.
 ///
-/// Any text is accepted as a name and as a definition, also the empty one. A fault in a definition
+/// Any text is accepted as a name and as a definition, even the empty one. A fault in a definition
 /// is reported only when a pattern that reaches it is compiled or measured.
 #[derive(Drop)]
 pub struct Grok {
@@ -100,8 +100,8 @@ impl Grok {
         Grok::with_default_patterns(alloc)
     }
 
-    /// Makes a library of pairs of a name and its definition. If a name comes twice, its later pair
-    /// counts.
+    /// Makes a library from pairs of a name and its definition. If a name comes twice, its later
+    /// pair counts.
     ///
     /// # Errors
     ///

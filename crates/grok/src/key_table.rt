@@ -17,7 +17,7 @@ use std::cmp::Ordering;
 use std::collections::BTreeMap;
 use std::marker::Model;
 
-/// Returns the number in a generated name.
+/// Returns the number in a generated name such as `_n_0`, or `None` if the name isn't one.
 fn number_of(name: &str) -> Option<usize>
     ensures { MatchOption result ((number : ℕ) → number < 2 ^ 64 → name.now ≡ generated number → ⊥)
         (λ number. name.now ≡ generated number) }
@@ -84,7 +84,7 @@ impl Model for KeyTable {
 
 ghost use Rattle.grok.specs.KeyRanges.{key_at, key_or_none, entry_of, IsExtended, IsKeyRange};
 
-/// Returns the bytes of a key, or none if the text has no such range.
+/// Returns the bytes of a key, or no bytes if the text has no such range.
 fn bytes_at(text: &str, range: KeyRange) -> &[u8]
     ensures { result.now ≡ key_or_none text.now range }
 {
@@ -94,7 +94,7 @@ fn bytes_at(text: &str, range: KeyRange) -> &[u8]
     }
 }
 
-/// Compares the key of an entry with a key.
+/// Compares the key in this range with another key.
 fn compare_at(text: &str, range: KeyRange, key: &str) -> Ordering
     ensures { result ≡ slice_cmp nat_cmp (key_or_none text.now range) key.now }
 {
@@ -122,7 +122,7 @@ fn extend(
 }
 
 impl KeyTable {
-    /// Makes the table of a map from keys to groups.
+    /// Makes the table from a map from keys to groups.
     fn new(alloc: Global, groups: &BTreeMap<&str, usize>) -> Result<KeyTable, AllocError>
         ensures entries { IfOk result (λ table. table ≡ map entry_of groups.now.entries) }
         ensures sorted { IfOk result
@@ -136,7 +136,12 @@ impl KeyTable {
         Ok(KeyTable { text, ranges })
     }
 
-    /// Makes the table for the names of an engine's groups and the numbered keys.
+    /// Makes the table from the names of an engine's groups, and the keys in the order of their
+    /// numbers.
+    ///
+    /// # Errors
+    ///
+    /// If an allocation fails.
     pub(crate) fn for_names(
         alloc: Global,
         names: &[Option<String>],
@@ -174,14 +179,14 @@ impl KeyTable {
     }
 }
 
-/// The keys of a table that are still to come, with their groups.
+/// An iterator over the keys of a table, with their groups.
 #[derive(Drop)]
 pub(crate) struct KeyEntries<'a> {
     text: &'a str,
     ranges: &'a [KeyRange],
 }
 
-// Contracts see the keys that are left, with their groups.
+// Contracts see the remaining keys, with their groups.
 impl<'a> Model for KeyEntries<'a> {
     ghost use Rattle.std.specs.List.{AllByRecursion};
     ghost use Rattle.grok.specs.KeyTable.{Entries};

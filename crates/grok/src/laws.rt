@@ -1,5 +1,5 @@
-//! Laws of the definitions that the contracts speak of. Each function does nothing; its contract
-//! is what is proved.
+//! Laws of the definitions that the contracts use. Each function does nothing: the law is its
+//! contract, and that is proved.
 ghost use Rattle.std.specs.Prelude.{◌≡◌, ◌≢◌, ◌++◌, List, ℕ, ◌∷◌, Some, None};
 ghost use Rattle.std.specs.FinMap as finite;
 ghost use Rattle.grok.specs.Maps.{Texts, set_all};
@@ -14,8 +14,9 @@ pub use splitting::pieces;
 
 /// Laws of the definitions of a library.
 ///
-/// Without a definition no name has a text. If a text is set for a name, that name
-/// has it, and every other name keeps what it had. Of the pairs that are set one after another, the last one of a name counts.
+/// The empty library has no text for any name. If a text is set for a name, that name has it, and
+/// every other name keeps what it had. If pairs are set one after another, the last pair of a name
+/// counts.
 #[tactic(auto, using(crate::proofs::Texts::SettingOneName::sets))]
 pub fn definitions()
     ensures none { (name : List ℕ) → finite.get (let texts : Texts = finite.empty in texts) name

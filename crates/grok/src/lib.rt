@@ -4,8 +4,7 @@
 //! A placeholder is `%{name}`, `%{name:alias}` or `%{name:alias:extract}`. Each may also have
 //! `=definition` before its `}`.
 //!
-//! - `name` (ASCII letters, ASCII digits and `_`) is the name of the definition to put in its
-//!   place.
+//! - `name` (ASCII letters, ASCII digits and `_`) says which definition replaces the placeholder.
 //! - `alias` (also `-`, `.`, `[` and `]`) is the key of its value. Without an alias the name is the
 //!   key. It may be empty before an extract: `%{name::extract}`.
 //! - `extract` (the characters of an alias) is a text that is kept beside the key, such as `int`.

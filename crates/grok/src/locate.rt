@@ -92,7 +92,8 @@ fn wrong_item<'a>(
     }
 }
 
-/// Returns where a piece of a text ends. A malformed piece takes the rest of the text.
+/// Returns the byte position where a piece of a text ends. A malformed piece takes the rest of the
+/// text.
 fn end_of(piece: Option<GrokComponent<'_>>, text: &str) -> usize
     ensures { (known : Piece) → option_map piece_view piece.entry ≡ Some known →
         result ≡ end_of text.now known }
@@ -104,7 +105,7 @@ fn end_of(piece: Option<GrokComponent<'_>>, text: &str) -> usize
     }
 }
 
-/// Reads a text up to its first piece with a fault if `levels` levels are left in it.
+/// Finds the first piece of a text that has a fault, if `levels` levels are left in that text.
 fn first_wrong<'a>(
     measurer: &mut Measurer<'a>,
     text: &'a str,
@@ -140,7 +141,7 @@ fn first_wrong<'a>(
 }
 
 impl Grok {
-    /// Finds where the first structural fault of a pattern stands: the fault that
+    /// Finds where the first structural fault of a pattern stands, which is the fault that
     /// [`Grok::measure`] reports. Returns `None` if there is none.
     ///
     /// Each definition is measured once. Then only the definitions on the path are read again, at

@@ -144,7 +144,7 @@ impl<E: Engine> PatternOf<E> {
         MatcherOf::new(self.alloc, self, &self.engine)
     }
 
-    /// Returns the keys in byte order, each once.
+    /// Returns an iterator over the keys in byte order, each once.
     pub fn capture_names(&self) -> CaptureNames<'_>
         ensures keys { result ≡ keys_of self.now.keys }
         ensures sorted { IsStrictlySortedBy (slice_cmp nat_cmp) (result) }
@@ -154,7 +154,8 @@ impl<E: Engine> PatternOf<E> {
         }
     }
 
-    /// Returns the extract of a key, whether or not a group has that key.
+    /// Returns the extract of a key, or `None` if it has none. This doesn't depend on whether a
+    /// group has that key.
     #[tactic(auto, using(crate::proofs::KeyTables::WalksAreSorted::extract_found))]
     pub fn get_extract(&self, name: &str) -> Option<&str>
         ensures { option_map text_of result ≡ finite.get self.now.extracts name.now }
@@ -175,8 +176,8 @@ impl<'a, E: Engine> MatchesOf<'a, E> {
         MatchesOf { pattern, captures }
     }
 
-    /// Returns the text of the key's group. There is none if no such key exists or that group took
-    /// no part.
+    /// Returns the text that the group of a key captured, or `None` if there is no such key or that
+    /// group took no part in the match.
     pub fn get(&self, name: &str) -> Option<&str>
         ensures { option_map text_of result
             ≡ answer_of self.now.pattern.keys self.now.captures name.now }
@@ -186,7 +187,8 @@ impl<'a, E: Engine> MatchesOf<'a, E> {
         capture_of(&self.captures, group)
     }
 
-    /// Returns the keys whose group took part, each with its text, in the byte order of the keys.
+    /// Returns an iterator over the keys whose group took part in the match, each with its text, in
+    /// the byte order of the keys.
     pub fn iter(&self) -> MatchesIter<'_>
         ensures pairs { result ≡ walk self.now.pattern.keys self.now.captures }
         ensures sorted { IsStrictlySortedBy (slice_cmp nat_cmp) (keys_of result) }
@@ -203,6 +205,10 @@ impl<'a, E: Engine> MatchesOf<'a, E> {
     }
 
     /// Returns the pairs of `iter` as a list, in its order.
+    ///
+    /// # Errors
+    ///
+    /// If an allocation fails.
     pub fn collect(&self, alloc: Global) -> Result<Vec<(&str, &str)>, AllocError>
         ensures { IfOk result
             (λ pairs. map pair_texts pairs.items ≡ walk self.now.pattern.keys self.now.captures) }
@@ -215,6 +221,10 @@ impl<'a, E: Engine> MatchesOf<'a, E> {
     }
 
     /// Returns the pairs of `iter` as a map.
+    ///
+    /// # Errors
+    ///
+    /// If an allocation fails.
     pub fn collect_map(&self, alloc: Global) -> Result<BTreeMap<&str, &str>, AllocError>
         ensures { IfOk result
             (λ texts. map pair_texts texts.entries ≡ walk self.now.pattern.keys self.now.captures) }
@@ -227,13 +237,13 @@ impl<'a, E: Engine> MatchesOf<'a, E> {
     }
 }
 
-/// The keys of a pattern that are still to come.
+/// An iterator over the keys of a pattern. [`PatternOf::capture_names`] returns it.
 #[derive(Drop)]
 pub struct CaptureNames<'a> {
     entries: KeyEntries<'a>,
 }
 
-// Contracts see the keys that are left.
+// Contracts see the remaining keys.
 impl<'a> Model for CaptureNames<'a> {
     ghost use Rattle.std.specs.Prelude.{ℕ, List};
     ghost use Rattle.std.specs.Map.{keys_of};
@@ -258,14 +268,15 @@ impl<'a> Iterator for CaptureNames<'a> {
     }
 }
 
-/// The pairs of a match that are still to come: the keys whose group took part, with their texts.
+/// An iterator over the keys of a match whose group took part, with their texts.
+/// [`MatchesOf::iter`] returns it.
 #[derive(Drop)]
 pub struct MatchesIter<'a> {
     entries: KeyEntries<'a>,
     groups: GroupTexts<'a>,
 }
 
-// Contracts see the pairs that are left.
+// Contracts see the remaining pairs.
 impl<'a> Model for MatchesIter<'a> {
     ghost use Rattle.std.specs.Prelude.{ℕ, List};
     ghost use Rattle.grok.specs.Answers.{walk};

@@ -22,8 +22,8 @@ use std::alloc::AllocError;
 pub enum Measure<'a> {
     /// The first structural fault in reading order.
     Fault(Fault<'a>),
-    /// The length of the expanded text in bytes, the number of its groups with a generated name,
-    /// and how many levels deep placeholders are nested at most.
+    /// The size of the expanded text: its length in bytes, its number of groups with a generated
+    /// name, and the greatest nesting of placeholders in levels.
     Size {
         length: usize,
         groups: usize,
@@ -33,8 +33,8 @@ pub enum Measure<'a> {
     TooLong,
 }
 
-/// How many pieces and how many ends of texts measuring has read. A counter stays at the greatest
-/// `u64`.
+/// How many pieces and how many ends of texts measuring has read. A counter that reaches the
+/// greatest `u64` stays there.
 #[derive(Clone, Copy, PartialEq, Eq, Debug)]
 pub struct Looks {
     pub pieces: u64,
@@ -60,9 +60,9 @@ impl Grok {
         Ok(self.measure_fully(pattern, with_alias_only)?.measure)
     }
 
-    /// Measures several patterns in the order in which they are given, each as [`Grok::measure`]
-    /// does. A stored definition is read once for all of them, and again only if it was nested too
-    /// deeply before and more levels are left now.
+    /// Measures several patterns in their order, each as [`Grok::measure`] does. A stored
+    /// definition is read once for all of them, and again only if it was nested too deeply before
+    /// and more levels are left now.
     ///
     /// # Errors
     ///
@@ -94,9 +94,8 @@ impl Grok {
     /// of texts it read.
     ///
     /// Each piece of the pattern and of each stored definition that it reaches is read at most
-    /// once, and so is the end of each of these texts. For a pattern without a fault it is exactly
-    /// once. If there is a fault, the pieces are those up to the one with the fault, and the ends
-    /// are those before it.
+    /// once, and so is the end of each of these texts. Without a fault, each is read exactly once.
+    /// With a fault, the pieces are those up to the faulty one, and the ends are those before it.
     ///
     /// # Errors
     ///

@@ -7,7 +7,7 @@ use std::alloc::{AllocError, Global};
 use std::fmt;
 use std::marker::Model;
 
-/// A text that was split once. Its pieces are kept as ranges of it.
+/// A text that was split into its pieces. They are kept as byte ranges of it.
 #[derive(Drop)]
 pub(crate) struct Definition {
     text: String,

@@ -54,8 +54,7 @@ pub(crate) enum Item<'a> {
     Placeholder(Label<'a>, Meaning<'a>),
 }
 
-/// The items of a text that are still to come, and the inline definitions that were read in it so
-/// far.
+/// The remaining items of a text, and the inline definitions that were read in it so far.
 #[derive(Drop)]
 pub(crate) struct Items<'a> {
     grok: &'a Grok,
@@ -63,7 +62,7 @@ pub(crate) struct Items<'a> {
     written: BTreeMap<&'a str, &'a str>,
 }
 
-// Contracts see the items that are left.
+// Contracts see the remaining items.
 impl<'a> Model for Items<'a> {
     ghost use Rattle.std.specs.Prelude.{List};
     ghost use Rattle.std.specs.FinMap as finite;
@@ -75,8 +74,8 @@ impl<'a> Model for Items<'a> {
     ghost view = { λ s. items_after (finite.get s.grok.now) (written_in s.written) s.source };
 }
 
-/// Returns what a placeholder stands for: the inline definition of its name if there is one, or
-/// else the stored one.
+/// Returns the item of a placeholder. It stands for the inline definition of its name if there is
+/// one, and otherwise for the stored one. If there is neither, the item is a fault.
 fn open_label<'a>(grok: &'a Grok, label: Label<'a>, written: Option<&'a str>) -> Item<'a>
     ensures { item_view result ≡ resolved (label_view label.entry)
         (option_map (λ (t : Bor (List ℕ)). t.now) written.entry)
@@ -197,7 +196,7 @@ pub(crate) fn descend<'a>(
     Ok(())
 }
 
-/// Returns to the text around, if there is one.
+/// Returns to the text around the current one, or returns `false` if there is none.
 pub(crate) fn ascend<'a>(around: &mut Vec<Items<'a>>, items: &mut Items<'a>) -> bool
     ensures inside { IsTrue result → around.old.items ≡ around.new.items ++ items.new ∷ [] }
     ensures outside { IsFalse result → (around.old.items ≡ []) × (around.new.items ≡ [])

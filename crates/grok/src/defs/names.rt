@@ -7,13 +7,14 @@ use crate::defs::definition::Definition;
 use std::collections::btree_map::Keys;
 use std::marker::Model;
 
-/// The names of a library that are still to come, in byte order.
+/// An iterator over the names of a library, in byte order. [`Grok::names`](crate::Grok::names)
+/// returns it.
 #[derive(Drop)]
 pub struct Names<'a> {
     pub(crate) keys: Keys<'a, String, Definition>,
 }
 
-// Contracts see the names that are left.
+// Contracts see the remaining names.
 impl<'a> Model for Names<'a> {
     ghost use Rattle.std.specs.Prelude.{ℕ, List, map, string_bytes};
 

@@ -1,4 +1,4 @@
-//! The pieces of a text, split now or before.
+//! The pieces of a text, whether it is split now or was split before.
 ghost use Rattle.std.specs.Prelude.{◌≡◌};
 ghost use Rattle.grok.specs.Pieces.{pieces};
 ghost use Rattle.grok.specs.Views.{piece_view};
@@ -15,13 +15,13 @@ enum Source<'a> {
     Kept { text: &'a str, spans: &'a [Span] },
 }
 
-/// The pieces of a text that are still to come.
+/// An iterator over the pieces of a text.
 #[derive(Drop)]
 pub(crate) struct Pieces<'a> {
     source: Source<'a>,
 }
 
-// Contracts see the pieces that are left.
+// Contracts see the remaining pieces.
 impl<'a> Model for Pieces<'a> {
     ghost use Rattle.std.specs.Prelude.{List};
     ghost use Rattle.grok.specs.Pieces.{Piece};

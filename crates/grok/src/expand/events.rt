@@ -1,4 +1,4 @@
-//! The events of a pattern's tree, one after another. They use a stack of their own.
+//! Reads the events of a pattern's tree one after another. A stack of its own replaces recursion.
 ghost use Rattle.std.specs.Prelude.{◌≡◌, [], ◌∷◌, IfOk, MatchOption};
 ghost use Rattle.std.specs.FinMap as finite;
 ghost use Rattle.grok.specs.Tree.{items_of, meaning_text, tree as tree_of};
@@ -11,7 +11,8 @@ use crate::errors::fault::{Fault, LEVELS};
 use std::alloc::AllocError;
 use std::marker::Model;
 
-/// One event of reading a pattern in which each placeholder is followed by its definition.
+/// An event of a pattern's tree. After a placeholder comes its definition, and after that the
+/// close.
 #[derive(Clone, Copy)]
 pub(crate) enum Event<'a> {
     Text(&'a str),
@@ -22,21 +23,22 @@ pub(crate) enum Event<'a> {
     Fault(Fault<'a>),
 }
 
-/// The events of a pattern's tree that are left.
+/// The remaining events of a pattern's tree.
 ///
-/// The open texts lie on a stack of their own, so nested definitions take nothing of the call stack.
+/// The open texts are kept in a list, so nested definitions take nothing of the call stack.
 #[derive(Drop)]
 pub(crate) struct Events<'a> {
     grok: &'a Grok,
-    /// The items that are left of the texts around the innermost one, those of the pattern first.
+    /// The remaining items of the texts around the innermost one. Those of the pattern are the
+    /// first.
     around: Vec<Items<'a>>,
-    /// The items that are left of the innermost text.
+    /// The remaining items of the innermost text.
     items: Items<'a>,
     /// The definition of the placeholder that was read last, if it is entered next.
     opening: Option<Meaning<'a>>,
 }
 
-// Contracts see the events that are left.
+// Contracts see the remaining events.
 impl<'a> Model for Events<'a> {
     ghost use Rattle.std.specs.Prelude.{List};
     ghost use Rattle.grok.specs.Tree.{Event};

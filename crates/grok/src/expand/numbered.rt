@@ -5,15 +5,15 @@ ghost use Rattle.grok.specs.Endings.{ends_after};
 
 use crate::numeral::number_of_numeral;
 
-/// How the bytes that were read so far end.
+/// How the bytes end that were read so far.
 #[derive(Clone, Copy)]
 enum Ending {
     Other,
-    /// In the bracket before a number.
+    /// In `[`.
     Bracket,
-    /// In a bracket and a number from 1 up.
+    /// In `[` and a number from 1 up, as `x[12`.
     Number,
-    /// In a number from 1 up in brackets.
+    /// In a number from 1 up in brackets, as `x[12]`.
     Closed,
 }
 
@@ -47,7 +47,7 @@ fn bytes_end_in_number(alias: &str) -> bool
 pub(crate) fn ends_in_number(alias: &str) -> bool
     ensures { result ≡ ends_in_number alias.now }
 {
-    // Few aliases end in a bracket.
+    // Few aliases end in a bracket, so most of them aren't read here.
     match alias.strip_suffix(']') {
         Some(_) => bytes_end_in_number(alias),
         None => false,

@@ -32,7 +32,7 @@ pub(crate) struct Output {
     groups: usize,
 }
 
-/// Writes a text into the room that is left.
+/// Appends a text, for which there is room.
 fn put(out: &mut String, text: &str)
     requires { string_len out.old + length text.now ≤ string_capacity out.old }
     ensures bytes { string_bytes out.new ≡ string_bytes out.old ++ text.now }
@@ -44,7 +44,7 @@ fn put(out: &mut String, text: &str)
     }
 }
 
-/// Writes the start of a group that has the next number.
+/// Appends the start of the named group with this number, such as `(?<_n_0>`.
 fn put_numbered(out: &mut String, number: usize)
     requires { string_len out.old + length (head_of true number) ≤ string_capacity out.old }
     ensures bytes { string_bytes out.new ≡ string_bytes out.old ++ head_of true number }
@@ -58,7 +58,7 @@ fn put_numbered(out: &mut String, number: usize)
 }
 
 impl Output {
-    /// Writes the start of the group of a placeholder.
+    /// Appends the start of a placeholder's group.
     fn write_head(&mut self, is_capturing: bool)
         requires room { string_len self.old.text + length (head_of is_capturing self.old.groups) ≤
             string_capacity self.old.text }
@@ -76,7 +76,7 @@ impl Output {
         }
     }
 
-    /// Writes the text of an event.
+    /// Appends the text of an event.
     fn write_event(&mut self, event: Event<'_>, with_alias_only: bool)
         requires { IsReady with_alias_only (event_view event ∷ []) self.old }
         ensures { Wrote with_alias_only (event_view event.entry ∷ []) self.old self.new }

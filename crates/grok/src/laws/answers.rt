@@ -9,8 +9,8 @@ pub fn answers_and_walks_agree()
     ensures pairs { AnswersAreThoseOfTheWalk }
 {}
 
-/// The name of a group means the key that it was generated for, and any other name itself. The
-/// group of a key is the greatest whose name means it.
+/// A generated name means the key of its number, and any other name means itself. The group of a
+/// key is the greatest whose name means it.
 #[tactic(auto, using(crate::proofs::KeyTables::WalksHaveAnsweredKeys::generated_names_mean_their_keys, crate::proofs::KeyTables::WalksHaveAnsweredKeys::other_names_mean_themselves, crate::proofs::KeyTables::GroupIsGreatest::groups_are_the_greatest))]
 pub fn names_mean_keys()
     ensures generated { GeneratedNamesMeanTheirKeys }

@@ -1,5 +1,5 @@
-//! Laws of the definitions that the contracts of the splitter speak of. The function does nothing;
-//! its contract is what is proved.
+//! Laws of the definitions that the contracts of the splitter use. The function does nothing: the
+//! laws are its contract, and that is proved.
 ghost use Rattle.std.specs.Prelude.{◌≡◌, ℕ, ◌++◌, List, [], ◌∷◌, length};
 ghost use Rattle.grok.specs.Grammar.{NonePass};
 ghost use Rattle.grok.specs.Joined.{joined, AreWellFormed, AreRegular};
@@ -10,10 +10,11 @@ use crate::parser::GrokPatternError;
 
 /// Laws of the pieces of a text.
 ///
-/// The ranges tile the text up to a fault, and a fault is the last piece, so there is one at most.
-/// Joining the pieces of a text without a fault gives the text back. A text without braces has
-/// regular pieces only, which join to it, and the definition in a placeholder is such a text. The
-/// text of a placeholder, split by itself, is that placeholder.
+/// The ranges of the pieces lie side by side in the text, from its start to its end or to a fault.
+/// A fault is the last piece, so there is one at most. The pieces of a text without a fault,
+/// joined, are the text. A text without braces has regular pieces only, and the definition in a
+/// placeholder is such a text. If the text of a placeholder is split by itself, its one piece is
+/// that placeholder.
 #[tactic(auto, using(crate::proofs::Pieces::PieceLaws::laws))]
 pub fn pieces()
     ensures tile { (text : List ℕ) → Tile text 0 (pieces text) }

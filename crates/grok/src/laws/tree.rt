@@ -1,9 +1,9 @@
 //! Laws of what placeholders stand for, and of the first structural fault. Each function does
-//! nothing; its contract is what is proved.
+//! nothing: the laws are its contract, and that is proved.
 ghost use Rattle.grok.specs.TreeLaws.{OwnDefinitionHolds, EarlierDefinitionHolds, StoredDefinitionHolds, UnusedDefinitionsDoNotMatter, ModesFaultAlike, HeadsAloneDiffer};
 
-/// An inline definition holds from its placeholder on, until another one of its name, and in its own
-/// text alone.
+/// An inline definition holds from its placeholder to the next one that defines the same name, or
+/// to the end of its text. It holds in no other text.
 #[tactic(auto, using(crate::proofs::Trees::FaultsOfTrees::tree_laws))]
 pub fn laws_of_definitions()
     ensures own { OwnDefinitionHolds }

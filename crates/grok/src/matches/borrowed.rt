@@ -13,8 +13,8 @@ use crate::matches::groups::{GroupTexts, Located};
 use crate::matches::{MatchesIter, write_pairs};
 use std::fmt;
 
-/// A match of a pattern in a line, borrowed from the matcher that found it. It returns the same as
-/// a [`MatchesOf`](crate::MatchesOf), and owns nothing.
+/// A match of a pattern in a line, borrowed from the matcher that found it. It has the same values
+/// as a [`MatchesOf`](crate::MatchesOf), and owns nothing.
 #[derive(Clone, Copy)]
 pub struct MatchesRef<'m> {
     keys: &'m KeyTable,
@@ -33,8 +33,8 @@ impl<'m> MatchesRef<'m> {
         MatchesRef { keys, located }
     }
 
-    /// Returns the text of the key's group. There is none if no such key exists or that group took
-    /// no part.
+    /// Returns the text that the group of a key captured, or `None` if there is no such key or that
+    /// group took no part in the match.
     pub fn get(&self, name: &str) -> Option<&'m str>
         ensures { option_map text_of result ≡ answer_of (borrowed_keys self.now)
             (borrowed_captures self.now) name.now }
@@ -44,7 +44,8 @@ impl<'m> MatchesRef<'m> {
         self.located.get(group)
     }
 
-    /// Returns the keys whose group took part, each with its text, in the byte order of the keys.
+    /// Returns an iterator over the keys whose group took part in the match, each with its text, in
+    /// the byte order of the keys.
     pub fn iter(&self) -> MatchesIter<'m>
         ensures pairs { result ≡ walk (borrowed_keys self.now) (borrowed_captures self.now) }
         ensures sorted { IsStrictlySortedBy (slice_cmp nat_cmp) (keys_of result) }

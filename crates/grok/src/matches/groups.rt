@@ -30,7 +30,7 @@ pub(crate) fn capture_of<'a>(captures: &[Option<&'a str>], group: usize) -> Opti
 }
 
 impl<'a> Located<'a> {
-    /// Takes these byte ranges as those of a match's groups in the line.
+    /// Keeps these byte ranges of a match's groups together with the line.
     pub(crate) fn new(line: &'a str, locations: &'a [Option<(usize, usize)>]) -> Located<'a>
         requires { AreLocationsIn line.now locations.now }
         ensures line { result.line.now ≡ line.now }

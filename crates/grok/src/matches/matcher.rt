@@ -12,7 +12,8 @@ use crate::matches::{MatchesOf, PatternOf};
 use std::alloc::{AllocError, Global};
 use std::marker::Model;
 
-/// Matches lines as its pattern does, and keeps what a search needs from one line to the next.
+/// A matcher of a pattern. It returns the same as the pattern, and keeps the engine's caches from
+/// one line to the next. [`PatternOf::matcher`] makes it.
 #[derive(Drop)]
 pub struct MatcherOf<'p, E: HasMatcher<'p>> {
     alloc: Global,
@@ -49,6 +50,10 @@ impl<'p, E: HasMatcher<'p>> MatcherOf<'p, E> {
     }
 
     /// Returns the first match in the line, as `PatternOf::match_against` does.
+    ///
+    /// # Errors
+    ///
+    /// If an allocation fails.
     #[inline(always)]
     pub fn match_against<'a>(
         &mut self,
@@ -74,6 +79,10 @@ impl<'p, E: HasMatcher<'p>> MatcherOf<'p, E> {
 
     /// Returns the first match in the line, borrowed until the next call. It has the same pairs as
     /// that of `match_against`. Only the engine may allocate.
+    ///
+    /// # Errors
+    ///
+    /// If an allocation of the engine fails.
     pub fn find<'m>(&'m mut self, text: &'m str) -> Result<Option<MatchesRef<'m>>, AllocError>
     where
         'p: 'm,
@@ -87,7 +96,7 @@ impl<'p, E: HasMatcher<'p>> MatcherOf<'p, E> {
         ensures slices { IfOk result
             (λ found. IfSome found (λ matches. AreSlicesOf text.now (borrowed_captures matches))) }
 
-        // Once the match is given back, the matcher is what it was.
+        // When the borrow ends, the matcher is what it was.
         ensures* same { sem 𝓛 (Rests (the_row (record { mir = named 0; lft = [] }) E.row
             E.Matcher.row E.Engine E.Matcher.EngineMatcher)
             self.entry (λ last. last ≡ self.entry.now)) }

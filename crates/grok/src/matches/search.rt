@@ -42,8 +42,12 @@ impl<'p, E: HasMatcher<'p>> KeptSearch<'p, E> {
         })
     }
 
-    /// Returns whether there is a match in the line. If so, the list has the byte ranges of its
-    /// groups.
+    /// Searches the line, and returns whether there is a match. If so, `locations` has the byte
+    /// ranges of its groups.
+    ///
+    /// # Errors
+    ///
+    /// If an allocation of the engine fails.
     pub(crate) fn read(&mut self, line: &str) -> Result<bool, AllocError>
         ensures answer { IfOk result (λ is_match. (if is_match
             then Some (located_texts line.now self.new.locations.items) else None)
@@ -57,7 +61,11 @@ impl<'p, E: HasMatcher<'p>> KeptSearch<'p, E> {
         self.matcher.captures_read(&mut self.locations, line)
     }
 
-    /// Returns the texts of the groups of the first match in the line, in a list of their own.
+    /// Searches the line, and returns the texts of the groups of the first match in a new list.
+    ///
+    /// # Errors
+    ///
+    /// If an allocation fails.
     pub(crate) fn captures<'t>(
         &mut self,
         alloc: Global,

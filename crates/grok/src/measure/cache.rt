@@ -1,4 +1,4 @@
-//! How far measuring each definition has come, so that none is read twice.
+//! How far measuring each definition has come. With this, none is read twice.
 ghost use Rattle.std.specs.Prelude.{◌≡◌, ◌<◌, ◌≤◌, false, Option, Result, OnOk, IfOk, IfErr, IfSome, MatchOption, Some};
 ghost use Rattle.grok.specs.Keys.{has_numbered_alias};
 ghost use Rattle.grok.specs.Sizes.{Size};
@@ -36,7 +36,7 @@ pub(crate) struct MeasureCache<'a> {
 }
 
 impl<'a> MeasureCache<'a> {
-    /// Makes a memory without any name.
+    /// Makes an empty cache.
     #[tactic(auto, using(crate::proofs::Sizes::MeasureIsCounted::shows_nothing))]
     pub fn new(alloc: Global) -> MeasureCache<'a>
         ensures { ShowsState result nothing_measured }
@@ -48,8 +48,8 @@ impl<'a> MeasureCache<'a> {
         }
     }
 
-    /// Returns the size or fault of a name if `levels` levels are left, or `None` if its text has to
-    /// be measured first.
+    /// Returns the size or fault of a name's definition if `levels` levels are left, or `None` if
+    /// the definition has to be measured first.
     pub(super) fn known(
         &self,
         name: &'a str,
@@ -67,12 +67,12 @@ impl<'a> MeasureCache<'a> {
             Some(Progress::NeedsMoreThan(most)) if most < levels => None,
             Some(Progress::HasSize(sum)) if sum.height < levels => Some(Ok(sum)),
             Some(Progress::HasFault(failure)) if failure.height < levels => Some(Err(failure)),
-            // It has begun, which is a circle, or there are too few levels for it.
+            // It uses itself, or it needs more levels than are left.
             Some(_) => Some(Err(too_deep())),
         }
     }
 
-    /// Sets how far measuring a name has come.
+    /// Sets how far measuring a name's definition has come.
     pub(super) fn set_progress(
         &mut self,
         name: &'a str,
@@ -87,7 +87,7 @@ impl<'a> MeasureCache<'a> {
         Ok(())
     }
 
-    /// Remembers whether the alias ends in a number in brackets.
+    /// Remembers it if the alias of a placeholder ends in a number in brackets.
     pub(super) fn label(&mut self, label: Label<'a>)
         ensures shows { (st : State) → ShowsState self.old st
             → ShowsState self.new (labelled (label_view label.entry) st) }

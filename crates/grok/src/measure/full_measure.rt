@@ -22,14 +22,18 @@ pub(crate) struct FullMeasure<'a> {
     pub looks: Looks,
     /// Whether an alias that ends in a number in brackets is reached.
     pub has_numbered_alias: bool,
-    /// How far measuring each name has come.
+    /// How far measuring each name's definition has come.
     by_name: BTreeMap<&'a str, Progress<'a>>,
 }
 
 impl<'a> FullMeasure<'a> {
-    /// Returns the names whose texts were read to their ends, each with how many levels its text
-    /// needs. A name comes after the names that its text uses. Names whose texts were read in part
-    /// come last.
+    /// Returns the names whose definitions were read, each with how many levels its definition
+    /// needs. A name comes after the names that its definition uses. Names whose definitions
+    /// weren't read to the end come last, with `usize::MAX`.
+    ///
+    /// # Errors
+    ///
+    /// If an allocation fails.
     pub(crate) fn read_names(&self, alloc: Global) -> Result<Vec<(usize, &'a str)>, AllocError> {
         let mut names = Vec::new(alloc);
         for (name, progress) in &self.by_name {
@@ -44,8 +48,12 @@ impl<'a> FullMeasure<'a> {
 }
 
 impl Grok {
-    /// Measures a pattern, and reports how much was read for it and whether it reaches an alias
+    /// Measures a pattern. Returns also how much was read for it, and whether it reaches an alias
     /// that ends in a number in brackets.
+    ///
+    /// # Errors
+    ///
+    /// If an allocation fails.
     pub(crate) fn measure_fully<'a>(
         &'a self,
         pattern: &'a str,

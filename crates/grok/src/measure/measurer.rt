@@ -1,5 +1,5 @@
-//! Measures texts. A definition that one of them uses is measured first, while a frame keeps the
-//! rest of the text around it.
+//! Measures texts. If a text uses a definition that isn't measured yet, a frame keeps the rest of
+//! the text until it is.
 ghost use Rattle.std.specs.Prelude.{◌≡◌, ◌+◌, ◌<◌, ◌≤◌, ◌^◌, [], ◌∷◌, Option, Result, OnOk, IfOk, IfErr, MatchOption, length, Some, option_map};
 ghost use Rattle.std.specs.FinMap as finite;
 ghost use Rattle.grok.specs.Tree.{first_structural, inside, items_of};
@@ -33,13 +33,13 @@ pub(crate) struct Frame<'a> {
     sum: PartialSize,
 }
 
-/// Measures texts over the same definitions. Each definition is measured once, unless it was nested
-/// too deeply before and more levels are left now.
+/// Measures texts with the same library of definitions. Each definition is measured once, unless it
+/// was nested too deeply before and more levels are left now.
 #[derive(Drop)]
 pub(crate) struct Measurer<'a> {
     mode: MeasureMode<'a>,
     pub(super) cache: MeasureCache<'a>,
-    /// The texts that wait, the innermost last. Between two calls there are none.
+    /// The texts that wait, the innermost last. The list is empty between two calls.
     frames: Vec<Frame<'a>>,
 }
 
@@ -80,16 +80,20 @@ impl<'a> Measurer<'a> {
         }
     }
 
-    /// Returns the items of a text over the same definitions.
+    /// Returns the items of a text, resolved by the library of the measurer.
     pub fn items_of(&self, text: &'a str) -> Items<'a>
         ensures { result ≡ items_of (finite.get self.now.mode.grok.now) text.now }
     {
         Items::of_text(self.mode.alloc, self.mode.grok, text)
     }
 
-    /// Measures a text with `levels` levels left: returns its size, or its first fault. A text that
-    /// it opens is measured first, while a frame keeps the rest of the one around it. On a fault
-    /// the open frames stay, so that the caller can remember the fault for their names.
+    /// Measures a text with `levels` levels left: returns its size, or its first fault. If it uses
+    /// a definition that isn't measured yet, a frame keeps the rest of the text until it is. On a
+    /// fault the open frames stay, so that the caller can remember the fault for their names.
+    ///
+    /// # Errors
+    ///
+    /// If an allocation fails.
     pub(super) fn measure_text(
         &mut self,
         text: &'a str,
@@ -148,7 +152,7 @@ impl<'a> Measurer<'a> {
         }
     }
 
-    /// Removes all frames, and remembers the fault for each of the names that they wait for.
+    /// Removes all frames, and remembers the fault for the name that each of them waits for.
     fn remember_fault(&mut self, levels: usize, mut failure: Failure<'a>) -> Result<(), AllocError>
         requires levels { levels < 2 ^ 31 }
         requires few { length self.old.frames.items ≤ levels }
@@ -169,7 +173,7 @@ impl<'a> Measurer<'a> {
         Ok(())
     }
 
-    /// Measures a text with `levels` levels left, where some definitions were measured before.
+    /// Measures a text with `levels` levels left, and uses what is remembered of its definitions.
     fn measure_within(
         &mut self,
         text: &'a str,
@@ -197,7 +201,11 @@ impl<'a> Measurer<'a> {
         }
     }
 
-    /// Measures a pattern, where some definitions were measured before.
+    /// Measures a pattern, and uses what is remembered of its definitions.
+    ///
+    /// # Errors
+    ///
+    /// If an allocation fails.
     pub fn measure_next(&mut self, pattern: &'a str) -> Result<Measure<'a>, AllocError>
         requires { IsIdle self.old }
         ensures answer { IfOk result
@@ -214,8 +222,12 @@ impl<'a> Measurer<'a> {
         Ok(measure_of_result(answer))
     }
 
-    /// Returns the first structural fault of a stored definition, if `levels` levels are left for
-    /// it. What is remembered of its name is not measured again.
+    /// Returns the first structural fault of a stored definition, if `levels` levels are left, its
+    /// own among them. It is measured only if its fault or size isn't remembered.
+    ///
+    /// # Errors
+    ///
+    /// If an allocation fails.
     pub fn fault_of_definition(
         &mut self,
         name: &'a str,

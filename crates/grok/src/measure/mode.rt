@@ -1,8 +1,9 @@
-//! What measuring goes by, which no text changes.
+//! The settings of a measurement.
 use crate::defs::Grok;
 use std::alloc::Global;
 
-/// The definitions, and whether only placeholders with an alias capture.
+/// The settings of a measurement: the definitions, and whether only placeholders with an alias
+/// capture.
 #[derive(Clone, Copy)]
 pub(crate) struct MeasureMode<'a> {
     pub grok: &'a Grok,

@@ -1,4 +1,4 @@
-//! Sizes of texts as far as they are known, and faults with their heights.
+//! Sizes of texts without the numbers of their groups, and faults with their heights.
 ghost use Rattle.std.specs.Prelude.{◌≡◌, ℕ, ◌+◌, ◌<◌, ◌^◌, max, Option, Result, length, Some, option_map};
 ghost use Rattle.grok.specs.Tree.{Fault as ItemFault, inside};
 ghost use Rattle.grok.specs.Sizes.{Size, plus, in_brackets, length_of, digits_from, size_of_bytes};
@@ -11,8 +11,9 @@ use crate::errors::fault::Fault;
 use crate::generated_name::{NAMED_BYTES, UNNAMED_BYTES};
 use crate::measure::Measure;
 
-/// A size as far as it is known: the bytes without the numbers of the groups, the groups, and how
-/// many levels are nested. A number that passes the greatest `usize` is `None`.
+/// The size of a text whose groups aren't numbered yet: the bytes without those numbers, the number
+/// of groups, and the greatest nesting in levels. A number that is greater than the greatest
+/// `usize` is `None`.
 #[derive(Clone, Copy)]
 pub(super) struct PartialSize {
     pub bytes: Option<usize>,
@@ -20,14 +21,14 @@ pub(super) struct PartialSize {
     pub height: usize,
 }
 
-/// A fault, and how many levels were nested up to it.
+/// A fault, and the greatest nesting up to it, in levels.
 #[derive(Clone, Copy)]
 pub(super) struct Failure<'a> {
     pub fault: Fault<'a>,
     pub height: usize,
 }
 
-/// Adds two numbers, if both are known and the sum fits.
+/// Adds two numbers. Returns `None` if one of them is `None` or the sum doesn't fit a `usize`.
 pub(super) fn add_fit(a: Option<usize>, b: Option<usize>) -> Option<usize>
     ensures { (x y : ℕ) → a ≡ fit x → b ≡ fit y → result ≡ fit (x + y) }
 {
@@ -37,7 +38,7 @@ pub(super) fn add_fit(a: Option<usize>, b: Option<usize>) -> Option<usize>
     }
 }
 
-/// Returns the size of one text after another.
+/// Returns the size of two texts one after the other.
 pub(super) fn add(a: PartialSize, b: PartialSize) -> PartialSize
     ensures adds { (x y : Size) → a ≡ shown x → b ≡ shown y → result ≡ shown (plus x y) }
     ensures height { result.height ≡ max a.height b.height }
@@ -68,7 +69,7 @@ pub(super) fn bracketed(is_capturing: bool, inner: PartialSize) -> PartialSize
     ensures brackets { (z : Size) → inner ≡ shown z →
         result ≡ shown (in_brackets is_capturing z) }
 {
-    // Numbers are counted apart.
+    // The numbers of the groups are added at the end, in `length_of_partial_size`.
     let (bytes, groups) = if is_capturing {
         (NAMED_BYTES, 1)
     } else {
@@ -95,7 +96,8 @@ fn digits_of_numbers_below(count: usize) -> Option<usize>
     digits
 }
 
-/// Returns the length of a text of this size, with the numbers of its groups.
+/// Returns the length in bytes of a text of this size, with the numbers of its groups. Returns
+/// `None` if it doesn't fit a `usize`.
 #[tactic(auto, using(crate::proofs::Sizes::SumsFit::fits))]
 fn length_of_partial_size(sum: PartialSize) -> Option<usize>
     ensures { (z : Size) → sum ≡ shown z → result ≡ fit (length_of z) }
@@ -144,7 +146,7 @@ pub(super) fn too_deep<'a>() -> Failure<'a>
     }
 }
 
-/// Returns a fault that comes after text of this size.
+/// Returns a fault with the height that it has after a text of this size.
 pub(super) fn fault_after<'a>(sum: PartialSize, failure: Failure<'a>) -> Failure<'a>
     ensures fault { result.fault ≡ failure.entry.fault }
     ensures reach { result.height ≡ max sum.height failure.entry.height }

@@ -13,16 +13,16 @@ use crate::measure::mode::MeasureMode;
 use crate::measure::partial_size::{Failure, PartialSize, bracketed, size_of_text, too_deep};
 use std::alloc::AllocError;
 
-/// What is known of one placeholder.
+/// One placeholder: its size or fault is known, or its definition has to be measured first.
 #[derive(Drop)]
 pub(super) enum PlaceholderSize<'a> {
     /// Its size, or its fault.
     Measured(Result<PartialSize, Failure<'a>>),
-    /// It opens this text, which has to be measured first.
+    /// This is its definition, which has to be measured first.
     Unread(&'a Definition),
 }
 
-/// Returns the size of an inline definition. It has no placeholders.
+/// Returns the size of an inline definition, which has no placeholders.
 fn measure_inline<'a>(text: &'a str, levels: usize) -> Result<PartialSize, Failure<'a>>
     ensures gives { result_view result ≡ shown_result (inlined levels text.now) }
     ensures low { IfOk result (λ sum. sum.height < levels) }
@@ -34,7 +34,7 @@ fn measure_inline<'a>(text: &'a str, levels: usize) -> Result<PartialSize, Failu
     Ok(size_of_text(text))
 }
 
-/// Returns the size of a placeholder from that of the text that it opens.
+/// Returns the size of a placeholder, given that of its definition.
 fn size_of_placeholder<'a>(
     mode: MeasureMode<'a>,
     label: Label<'a>,
@@ -59,7 +59,8 @@ fn size_of_placeholder<'a>(
     }
 }
 
-/// Returns what is known of the placeholder of a name, if `levels` levels are left with its own.
+/// Measures a placeholder that stands for a stored definition. `levels` levels are left, its own
+/// among them.
 fn measure_stored<'a>(
     mode: MeasureMode<'a>,
     cache: &mut MeasureCache<'a>,
@@ -90,7 +91,12 @@ fn measure_stored<'a>(
     Ok(PlaceholderSize::Unread(stored))
 }
 
-/// Returns what is known of a placeholder that was read, if `levels` levels are left.
+/// Measures a placeholder: returns its size or fault, or the definition that has to be measured
+/// first. `levels` levels are left, its own among them.
+///
+/// # Errors
+///
+/// If an allocation fails.
 pub(super) fn measure_placeholder<'a>(
     mode: MeasureMode<'a>,
     cache: &mut MeasureCache<'a>,
