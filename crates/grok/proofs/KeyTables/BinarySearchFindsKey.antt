@@ -28,7 +28,7 @@ index_at_most Less = omega arith
 index_at_most Equal = omega arith
 index_at_most Greater = omega arith
 
--- where one key is below another, it compares no higher
+-- if one key is below another, it doesn't compare as greater
 rises_with : (a b key : List ℕ) → by_bytes a b ≡ Less → ordering_index (by_bytes a key) ≤ ordering_index (by_bytes b key)
 rises_with a b key below = go (by_bytes b key) refl
   where

@@ -14,7 +14,8 @@ module _ (keys : List (List ℕ)) (key : List ℕ) where
   abbrev Means : List (Option (List ℕ)) → ℕ → Type 0
   Means names place = NameMeans keys names key place
 
-  -- no name means the key and the group is what was found before, or it is that of the last name that does
+  -- Either no name means the key, and the group is the one found before. Or the group is that of the last name
+  -- that means the key.
   abbrev Outcome : Option ℕ → ℕ → List (Option (List ℕ)) → Option ℕ → Type 0
   Outcome found from names last =
       ((last ≡ found) × ((place : ℕ) → ¬ Means names place))

@@ -17,7 +17,7 @@ use Rattle.grok.specs.KeyTable.{meant_from, meant_key, groups_from, last_or}
 use Rattle.grok.specs.Captures.{name_texts}
 use Rattle.grok.proofs.Texts.EqualBytesAreSameText.{same_text, text_same}
 
--- NUMERALS SAY THEIR NUMBER
+-- ---- two numbers with the same numeral are equal
 back : (ds : List ℕ) → map (λ c. c - 48) (map (λ digit. 48 + digit) ds) ≡ ds
 back [] = refl
 back (d ∷ ds) = let first : (48 + d) - 48 ≡ d = omega arith in let rest = back ds in cc
@@ -32,7 +32,7 @@ numeral_same a b e = sym (value a) ∙ ap (λ ds. number_from_digits 10 (map (λ
 pub generated_same : (a b : ℕ) → generated a ≡ generated b → a ≡ b
 generated_same a b e = numeral_same a b (append_cancel_left name_start (numeral a) (numeral b) e)
 
--- MEANT KEYS
+-- ---- the key that a name means
 pub meant_given : (keys : List (List ℕ)) (from number : ℕ) → number < length keys → meant_from from keys (generated (from + number)) ≡ get_or keys number []
 meant_given [] from number h = absurd (omega arith)
 meant_given (key ∷ keys) from zero h =
@@ -50,7 +50,7 @@ meant_itself (key ∷ keys) from name h =
     ap (λ b. cond b key (meant_from (suc from) keys name)) other
     ∙ meant_itself keys (suc from) name (λ number low is. let moved : suc from + number ≡ from + suc number = omega arith in h (suc number) (omega arith) (is ∙ ap generated moved))
 
--- READING A NUMBER BACK
+-- ---- reading a number back
 pub stripped : (p s x : List ℕ) → StripsPrefix (FindsTextPrefix p) s x → s ≡ p ++ x
 stripped p s x (n, found, rest, len) = found.1 ∙ ap (λ xs. p ++ xs) (sym rest)
 
@@ -65,7 +65,7 @@ get_mapped f [] i d e h = absurd (omega arith)
 get_mapped f (x ∷ xs) zero d e h = refl
 get_mapped f (x ∷ xs) (suc i) d e h = get_mapped f xs i d e (omega arith)
 
--- ONE MORE NAME
+-- ---- one more name
 pub name_cut : (names : List (Option (String Global))) (group : ℕ) (name : Option (String Global)) → group < length names → name ≡ get_or names group name
     → name_texts (drop group names) ≡ option_map string_bytes name ∷ name_texts (drop (group + 1) names)
 name_cut names group name within is =

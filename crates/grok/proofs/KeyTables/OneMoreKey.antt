@@ -70,7 +70,7 @@ module _ (text key : List ℕ) (utf8 : IsUtf8 key) where
   pub extended : (ranges : List KeyRange) (group : ℕ) → IsExtended text ranges key group (text ++ key) (ranges ++ last group ∷ [])
   extended ranges group = record { within = within_more ranges group; entries = entries_more ranges group }
 
--- keys of a map that rise do so as bytes
+-- the keys of a map rise, so their bytes do
 all_shown : (first : Bor (List ℕ)) (es : List (Bor (List ℕ) × ℕ)) → AllByRecursion (λ (y : Bor (List ℕ)). slice_cmp nat_cmp first.now y.now ≡ Less) (keys_of es)
     → AllByRecursion (λ y. slice_cmp nat_cmp first.now y ≡ Less) (keys_of (map entry_of es))
 all_shown first [] all = tt
@@ -81,7 +81,7 @@ unfolding IsStrictlySortedBy
 sorted_shown [] sorted = tt
 sorted_shown (e ∷ es) sorted = (all_shown e.0 es sorted.0, sorted_shown es sorted.1)
 
--- a look-up by bytes among the shown entries
+-- looking up a key by its bytes, among the entries as contracts see them
 pub same_group : (key : List ℕ) (es : List (Bor (List ℕ) × ℕ)) → group_in (map entry_of es) key ≡ lookup (is_at (λ (k : Bor (List ℕ)). slice_cmp nat_cmp key k.now)) es
 same_group key [] = refl
 same_group key (e ∷ es) = ap (λ b. cond b (Some e.1) (group_in (map entry_of es) key)) (sym (is_eq-slice_cmp key e.0.now)) ∙ ap (λ o. cond (is_eq (slice_cmp nat_cmp key e.0.now)) (Some e.1) o) (same_group key es)

@@ -69,13 +69,13 @@ put_last (e ∷ es) key text rest rises =
     let later = insert_entry (λ (a b : Bor (List ℕ)). slice_cmp nat_cmp a.now b.now) es key text in
     ap (λ o. match_ordering o ((key, text) ∷ e ∷ es) ((e.0, text) ∷ es) (e ∷ later)) above ∙ ap (λ xs. e ∷ xs) (put_last es key text rest rises.1)
 
--- what is in a list and what is left make the whole, after one pair more
+-- the list so far and the remaining pairs are all pairs, also after one more step
 pub push_more : (es : Pairs) (pair : Bor (List ℕ) × Bor (List ℕ)) (left rest all : List (List ℕ × List ℕ)) → map pair_texts es ++ left ≡ all → left ≡ pair_texts pair ∷ rest
     → map pair_texts (es ++ pair ∷ []) ++ rest ≡ all
 push_more es pair left rest all whole next =
     ap (λ xs. xs ++ rest) (map-append pair_texts es (pair ∷ [])) ∙ (append_assoc (map pair_texts es) (pair_texts pair ∷ []) rest ∙ (ap (λ xs. map pair_texts es ++ xs) (sym next) ∙ whole))
 
--- the same for a map
+-- the map so far and the remaining pairs are all pairs, also after one more step
 pub put_more : (es : Pairs) (key text : Bor (List ℕ)) (left rest all : List (List ℕ × List ℕ)) → IsStrictlySortedBy (slice_cmp nat_cmp) (keys_of all)
     → map pair_texts es ++ left ≡ all → left ≡ pair_texts (key, text) ∷ rest → map pair_texts (insert_entry (λ (a b : Bor (List ℕ)). slice_cmp nat_cmp a.now b.now) es key text) ++ rest ≡ all
 put_more es key text left rest all rises whole next =

@@ -23,7 +23,7 @@ use Rattle.grok.proofs.KeyTables.WalksAreSorted.{above_walk, walk_rises}
 abbrev Above : List ℕ → List (List ℕ) → Type 0
 Above key keys = AllByRecursion (λ y. slice_cmp nat_cmp key y ≡ Less) keys
 
--- keys that rise aren't equal
+-- if one key is below another, they aren't equal
 below_differs : (key other : List ℕ) → slice_cmp nat_cmp key other ≡ Less → bytes_eq key other ≡ false
 below_differs key other below = sym (is_eq-slice_cmp key other) ∙ ap is_eq below
 

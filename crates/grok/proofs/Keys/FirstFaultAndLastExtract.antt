@@ -1,4 +1,4 @@
--- The first fault and the last extract of a list of events, where the list is cut.
+-- The first fault of a list of events, and the last extract of a list of placeholders, by cutting the list.
 use Rattle.std.proofs.Common.{◌≡◌, ℕ, ◌+◌, Bool, true, false, cond, List, [], ◌∷◌, ◌++◌, Option, Some, None, refl, sym, ◌∙◌, ap, subst, ◌⊎◌, inl, inr, ◌&&◌, append-nil, append_assoc, arith}
 use Rattle.std.specs.Prelude.{not}
 use Rattle.std.specs.Str.{bytes_eq}
@@ -158,7 +158,7 @@ module _ (alias_only : Bool) where
       let bad : Some tree_fault ≡ None = sym (at_cut before event rest tree_fault first.0 is) ∙ whole in
       cc
 
-  -- the cut at the first fault of the rest, where there is none in what was read
+  -- the cut at the first fault of the rest, if there is none in what was read
   record Cut (read rest : List Event) (tree_fault : TreeFault) : Type 0 where
     before : List Event
     event : Event

@@ -193,7 +193,7 @@ pub clash_needs_number : ClashNeedsNumber
 clash_needs_number alias_only stored pattern quiet = no_clash alias_only [] (tree stored pattern) tt (named_tree stored pattern) quiet
 
 -- ---- keys are distinct
--- none of the keys is among the taken ones or the earlier ones
+-- none of the keys is among those that are taken, or those before it in the list
 abbrev ArriveApart : List (List ℕ) → List (List ℕ) → Type 0
 ArriveApart taken [] = Unit {0}
 ArriveApart taken (key ∷ keys) = (is_among key taken ≡ false) × ArriveApart (key ∷ taken) keys

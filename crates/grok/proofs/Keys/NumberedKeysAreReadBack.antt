@@ -61,7 +61,7 @@ module _ (key base : List ℕ) (count : ℕ) (is : key ≡ numbered base (suc co
         (sym (append_assoc front (91 ∷ digits) (93 ∷ [])) ∙ ap (λ xs. xs ++ 93 ∷ []) (sym split.cut) ∙ whole) in
         append_cancel_right digits (numeral (suc count)) (93 ∷ []) both.1
 
--- what it is read back to
+-- what it is read back as
 pub is_numbered : (key inside front digits : List ℕ) (number : ℕ) → key ≡ inside ++ 93 ∷ [] → inside ≡ front ++ 91 ∷ digits → digits ≡ numeral number → 0 < number → key ≡ numbered front number
 is_numbered key inside front digits zero ends cut said some = absurd (omega arith)
 is_numbered key inside front digits (suc count) ends cut said some = ends ∙ ap (λ xs. xs ++ 93 ∷ []) (cut ∙ ap (λ ds. front ++ 91 ∷ ds) said) ∙ sym (closed front count)

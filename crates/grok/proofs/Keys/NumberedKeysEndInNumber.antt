@@ -53,7 +53,7 @@ of_digit c h =
     let high : c ≤ 57 = leb-true c 57 tests.1 in
     (c - 48, omega arith, omega arith)
 
--- the digits of a number that is read on from another one
+-- the digits of a number, if its first digits were read as another number
 digits_read_on : (front : List ℕ) (n : ℕ) (ds : List ℕ) → 0 < n → digits_of 10 n ≡ front → AllByRecursion (λ d. d < 10) ds → digits_of 10 (number_from_digits_after 10 n ds) ≡ front ++ ds
 digits_read_on front n [] some is low = is ∙ sym (append-nil front)
 digits_read_on front n (d ∷ ds) some is low =
@@ -77,7 +77,7 @@ digits_are d ds some small low =
     let next : suc (n - 1) ≡ n = omega arith in
     (n - 1, ap (digits_of 10) next ∙ digits_read_on (d ∷ []) d ds some one low)
 
--- what stands before a last `]`
+-- what comes before a last `]`
 of_digits : (cs : List ℕ) → ends_digits cs ≡ true → (ds : List ℕ) × AllByRecursion (λ d. d < 10) ds × (cs ≡ map (λ digit. 48 + digit) ds ++ 93 ∷ [])
 of_digits [] h = cc
 of_digits (c ∷ cs) h = go (of_digits cs) (c == 93) refl h

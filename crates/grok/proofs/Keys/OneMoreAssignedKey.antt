@@ -10,7 +10,7 @@ use Rattle.grok.specs.Numeral.{numeral}
 use Rattle.grok.proofs.Texts.NumeralsAreDecimal.{numeral_is_decimal}
 use Rattle.grok.proofs.Texts.EqualBytesAreSameText.{same_text}
 
--- what is printed after a base key that was used before
+-- what is written after a base key that was used before
 pub numbered_is : (key : List ℕ) (count : ℕ) → 0 < count → count < 2 ^ 64 → numbered key count ≡ key ++ (91 ∷ (decimal count ++ (93 ∷ [])))
 numbered_is key zero positive low = absurd (omega arith)
 numbered_is key (suc count) positive low = append_assoc (key ++ codes "[") (numeral (suc count)) (93 ∷ []) ∙ append_assoc key (91 ∷ []) (numeral (suc count) ++ (93 ∷ [])) ∙ ap (λ ds. key ++ (91 ∷ (ds ++ (93 ∷ [])))) (numeral_is_decimal (suc count) low)
@@ -33,7 +33,7 @@ counted_more old new base count next h was more key =
           omega arith
     ]
 
--- an extract that was kept
+-- how the extracts change when one is kept
 pub kept_more : (e : List ℕ) → is_absent e ≡ false → (same : Bool) (o : Option (List ℕ)) → cond same (Some e) o ≡ cond (same && not (is_absent e)) (Some e) o
 kept_more e some true o = rw some refl
 kept_more e some false o = refl

@@ -51,7 +51,7 @@ first_piece_rest at text n = by_test (is_open text) refl
     by_test true e = rw e (first_open at text (placeholder_at (drop 2 text)) (placeholder_at_rest (drop 2 text)) (is_open_split text e))
     by_test false e = rw e (let h = regular_len_bounds text n in IsRest-from_front text (take (regular_len text) text) (drop (regular_len text) text) (sym (take-append-drop (regular_len text) text)) (omega (arith, length-take (regular_len text) text)))
 
--- bytes that are passed over
+-- bytes that are skipped
 pub pieces_after_skip : (k at : ℕ) (text : List ℕ) → pieces_after k at text ≡ pieces_after 0 (at + k) (drop k text)
 unfolding pieces_after
 pieces_after_skip zero at text = ap (λ n. pieces_after 0 n text) (omega arith)

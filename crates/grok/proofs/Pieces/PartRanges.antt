@@ -12,7 +12,7 @@ use Rattle.grok.specs.Spans.{range_from, text_in, IsRangeOf, StandsAt, PartsStan
 use Rattle.grok.proofs.Pieces.WrittenPlaceholderIsRead.{after_name, last_byte, last_rest, written_is}
 use Rattle.grok.proofs.Pieces.PiecesAreUnique.{regular_within, placeholder_within, pieces_are}
 
--- a part that begins where a character does, and that a byte of ASCII ends
+-- a part that begins at a character boundary and is followed by an ASCII byte
 pub record EndsBefore (T : List ℕ) (from : ℕ) (part rest : List ℕ) : Type 0 where
   pub stands : StandsAt T from part
   pub next : IsCharBoundary T (from + length part + 1)
@@ -56,7 +56,8 @@ module _ (T : List ℕ) (u : IsUtf8 T) where
       let x : length T - a ≡ length T - e = sym (length-drop a T) ∙ (ap length d ∙ length-drop e T) in
       omega arith
 
-  -- the last word begins at from, and after it comes what closes the placeholder that ends at e
+  -- The last word begins at `from`. After it comes the end of the placeholder, with its definition if it has
+  -- one, up to e.
   pub record LastStands (from e : ℕ) (word definition : List ℕ) : Type 0 where
     pub word_at : StandsAt T from word
     pub enough : from + length word + 1 + length definition ≤ e
@@ -131,6 +132,6 @@ module _ (T : List ℕ) (u : IsUtf8 T) where
       All-cons (IsPieceOf T) (Placeholder a e text parts) ps (rw h.0 (is, r.0)) (items_stand e ps h.3 r.1)
   items_stand s (Malformed f ∷ ps) h b = All-cons (IsPieceOf T) (Malformed f) ps tt (rw h.0 (All-nil (IsPieceOf T)))
 
-  -- each piece of a text stands in it
+  -- each piece of a text has the text that its range has
   pub pieces_stand : All (IsPieceOf T) (pieces T)
   pieces_stand = items_stand 0 (pieces T) (pieces_are T) (IsCharBoundary-start T u)

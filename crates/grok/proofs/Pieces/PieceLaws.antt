@@ -90,7 +90,7 @@ inline_without_braces T front rest a e text parts is =
 
 -- ---- a placeholder alone
 
--- what the placeholder of a range is spelled as
+-- how the placeholder in a range is spelled
 spelled_as : (T : List ℕ) (s e : ℕ) (parts : Parts) (h : IsPlaceholder T s e parts) → slice_range T s e ≡ 37 ∷ 123 ∷ written parts.name h.reads.alias h.reads.extract h.reads.definition
 spelled_as T s e parts h =
     let r = h.reads in

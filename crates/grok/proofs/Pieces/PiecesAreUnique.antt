@@ -85,7 +85,7 @@ regular_within T s e (Percent h l n m f) = let w = f.within in (omega arith, w)
 pub placeholder_within : (T : List ℕ) (s e : ℕ) (p : Parts) → IsPlaceholder T s e p → (s < e) × (e ≤ length T)
 placeholder_within T s e p h = ((step_placeholder T s e p h.opens.0.0 (open_from T s h.opens) h.within (placeholder_at_reads (drop (s + 2) T) p (drop e T) h.reads)).0, h.within)
 
--- the first item and the others
+-- the first piece and the others
 same_list : (p q : Piece) (ps qs rs : List Piece) → p ≡ q → ps ≡ qs → rs ≡ q ∷ qs → (p ∷ ps) ≡ rs
 same_list p q ps qs rs e f g = cc
 

@@ -204,7 +204,7 @@ close_at_err name alias extract t rest f e o n =
 fault_here : (kind : WordKind) (text : List ℕ) (k : Word → Result Inside GrokPatternError) (f : GrokPatternError) → (word_at (is_legal kind) text >>= k) ≡ Err f → (h : (g : GrokPatternError) × IsWordFault kind text g × (word_at (is_legal kind) text ≡ Err g)) → IsFaultFrom kind text f
 fault_here kind text k f e h = subst (λ g. IsFaultFrom kind text g) (err_same h.0 f (sym (bind_bad _ k h.0 h.2) ∙ e)) (Here kind text h.0 h.1)
 
--- what is read after a good word
+-- what is read after a word without a fault
 goes_on : (kind : WordKind) (text : List ℕ) (k : Word → Result Inside GrokPatternError) (f : GrokPatternError) → (word_at (is_legal kind) text >>= k) ≡ Err f → (w : GoodWord kind text) → k (record { word = word_of kind text; terminator = w.byte; rest = w.more }) ≡ Err f
 goes_on kind text k f e w = sym (bind_good _ k _ w.reads) ∙ e
 

@@ -24,7 +24,7 @@ first_from_get (d ∷ cs) c e = cc
 char_nonempty : (c : ℕ) (more : List ℕ) → 0 < length (encode c ++ more)
 char_nonempty c more = let h = len_utf8_bounds c in omega (arith, length-append (encode c) more, length-encode c)
 
--- the same byte, where it is a terminator
+-- the same byte, if it is a terminator
 bad_byte : (b c : ℕ) (bs more : List ℕ) → (b ∷ bs) ≡ encode c ++ more → is_terminator c ≡ false → (t : Bool) → is_terminator b ≡ t → is_terminator b ≡ false
 bad_byte b c bs more e f false h = h
 bad_byte b c bs more e f true h =

@@ -1,4 +1,5 @@
--- The counters of pieces and ends are at most what is reached, and for a clean tree exactly that.
+-- The counters of pieces and ends are at most the number of those that are reached, and exactly that number for
+-- a clean tree.
 use Rattle.std.proofs.Common.{◌≡◌, ℕ, suc, ◌+◌, ◌≤◌, Bool, true, false, cond, ◌||◌, List, [], ◌∷◌, length, Option, Some, None, Ok, Err, refl, sym, ◌∙◌, ap, subst, inl, inr, arith}
 use Rattle.std.proofs.lemmas.Bool.{true≢false, false_from_ne_true}
 use Rattle.std.proofs.lemmas.Slice.Eq.{bytes_eq-Decides}
@@ -18,7 +19,7 @@ abbrev pub found : List ℕ → List (List ℕ × List ℕ) → Option (List ℕ
 found name [] = None
 found name (entry ∷ entries) = cond (bytes_eq entry.0 name) (Some entry.1) (found name entries)
 
--- each name stands once
+-- each name occurs once
 abbrev pub AreApart : List (List ℕ × List ℕ) → Type 0
 AreApart [] = Unit {0}
 AreApart (entry ∷ entries) = (found entry.0 entries ≡ None) × AreApart entries
@@ -29,7 +30,7 @@ pub record IsTable (definitions : Definitions) (entries : List (List ℕ × List
   pub same : (name : List ℕ) → found name entries ≡ definitions name
 
 module _ (weight : List ℕ → ℕ) where
-  -- it depends on the names chosen alone
+  -- the total weight depends only on which names are chosen
   pub weighed_same : (p q : List ℕ → Bool) (entries : List (List ℕ × List ℕ)) → ((name : List ℕ) → p name ≡ q name) → weighed weight p entries ≡ weighed weight q entries
   weighed_same p q entries h = λ i. weighed weight (λ name. h name i) entries
 
@@ -42,7 +43,7 @@ module _ (weight : List ℕ → ℕ) where
       go true e le = rw (e, h entry.0 e) (omega arith)
       go false e le = rw e (omega arith)
 
-  -- where all other names are chosen alike
+  -- the weights if the two choices differ only in this name
   abbrev share : (List ℕ → Bool) → List ℕ → Option (List ℕ) → ℕ
   share p name None = 0
   share p name (Some text) = cond (p name) (weight text) 0
@@ -82,7 +83,7 @@ is_started st name = is_some (st.by_name name)
 pub started_with_progress : (st : State) (name : List ℕ) (progress : Progress Size) (other : List ℕ) → is_started (with_progress st name progress) other ≡ (bytes_eq name other || is_started st other)
 started_with_progress st name progress other = elim (bytes_eq name other) as (λ b. is_some (cond b (Some progress) (st.by_name other)) ≡ (b || is_some (st.by_name other))) [ true ↦ refl | false ↦ refl ]
 
--- no text was too deep
+-- no text was nested too deeply
 abbrev IsShallow : State → Type 0
 IsShallow st = (name : List ℕ) (levels : ℕ) → st.by_name name ≡ Some (NeedsMoreThan levels) → ⊥
 
@@ -120,7 +121,8 @@ module _ (alias_only : Bool) (resolve : List ℕ → List Item) (definitions : D
   abbrev cache : State → ℕ
   cache st = weighed weight (is_started st) entries
 
-  -- what was counted from one state to the next, without the definitions that were used on the way: all of it, or less after a fault
+  -- What was counted from one state to the next, without the definitions that were used in between. After a
+  -- fault it may be less.
   record Counted (st : State) (answer : Reading) (much : ℕ) : Type 0 where
     left : ℕ
     adds : count answer.1 + cache st + left ≡ count st + much + cache answer.1

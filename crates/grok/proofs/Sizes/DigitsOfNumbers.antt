@@ -11,12 +11,12 @@ abbrev pub tens : ℕ → ℕ
 tens zero = 1
 tens (suc k) = tens k * 10
 
--- what of a count lies above the first powers of ten, together
+-- by how much a count is greater than each of the first powers of ten, added up
 abbrev pub above : ℕ → ℕ → ℕ
 above zero n = 0
 above (suc k) n = above k n + (n - tens (suc k))
 
--- whether the number is that great
+-- 1 if the number is at least that power, and else 0
 abbrev reaches : ℕ → ℕ → ℕ
 reaches p n = cond (nat_le p n) 1 0
 
@@ -71,7 +71,7 @@ above-suc (suc k) n = elim (cases_lt n (tens (suc k))) [
   | inr high ↦ omega (arith, above-suc k n, reaches_yes (tens (suc k)) n high)
 ]
 
--- the count, and for each power of ten what lies above it
+-- the count, and for each power of ten how much greater the count is
 pub digits_above : (k n : ℕ) → n ≤ tens (suc k) → digits_from 0 n ≡ n + above k n
 digits_above k zero low = none k
   where

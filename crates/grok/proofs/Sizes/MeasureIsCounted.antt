@@ -1,4 +1,4 @@
--- What the public calls of measuring count, and which aliases they see.
+-- What the public calls of measuring count, and which aliases they read.
 use Rattle.std.proofs.Common.{◌≡◌, ℕ, ◌≤◌, Bool, false, List, [], length, Result, None, Bor, refl, sym, ◌∙◌, ap, arith}
 use Rattle.std.specs.Ordering.{nat_cmp}
 use Rattle.std.specs.Cmp.Lexicographic.{slice_cmp}
@@ -52,7 +52,7 @@ module _ (texts : Texts) (alias_only : Bool) (pattern : List ℕ) where
     unfolding measure_within
     given = stops
 
-    -- what was counted is what was counted in the end
+    -- what the calls report is what was counted at the end
     tallies : HasSameCounters answer.1 given.now
     tallies = stopped_counters deepest r frames cache answer given
 

@@ -1,4 +1,5 @@
--- The loop over frames: what was read, the items that are left, and the frames make up the result.
+-- The loop over frames: at each step, what was read, the remaining items and the frames together give the
+-- result.
 use Rattle.std.proofs.Common.{◌≡◌, ℕ, zero, suc, ◌+◌, ◌-◌, ◌<◌, max, Bool, true, false, cond, List, [], ◌∷◌, ◌++◌, length, length-append, Option, Result, Some, Ok, Err, IfErr, Bor, refl, sym, ◌∙◌, ap, subst, arith}
 use Rattle.std.specs.Option.{option_map}
 use Rattle.std.specs.BTreeMap.{BTreeMap}
@@ -245,7 +246,7 @@ module _ (alias_only : Bool) (resolve : List ℕ → List Item) where
       → ReturnsReading (Err failure) cache (item_within alias_only resolve levels (FaultItem (fault_view failure.fault)) st)
   fault_gives levels st cache failure low shows = record { same = refl; reach = sym low; leaves = with_reach_shows cache st 0 shows }
 
-  -- a definition that is written in the text
+  -- an inline definition
   pub inline_gives : (levels : ℕ) (item : Item) (label : Label) (text : List ℕ) (st : State) (after : MeasureCache) → item ≡ PlaceholderItem label (Inline text) → ShowsState after (labelled label st)
       → (r w : Result PartialSize Failure) → result_view r ≡ shown_result (inlined levels text) → IfErr r (λ failure. failure.height ≡ 0)
       → ((st' : State) (inner : Result Size Fault) → result_view r ≡ shown_result inner → HasReach r st' → ReturnsSize w (wrapped alias_only label inner) (deeper st'))
@@ -270,7 +271,7 @@ module _ (alias_only : Bool) (resolve : List ℕ → List Item) where
       (λ r. (st : State) → ShowsState before st → ReturnsReading r after (item_within alias_only resolve levels (PlaceholderItem (label_view label) meaning) st))
       (λ text. MustBeMeasured levels label meaning text before after)
 
-  -- a text that is opened under a label
+  -- the definition of a placeholder with this label
   pub labelled_entry : (levels : ℕ) (label : CodeLabel) (meaning : Meaning) (text : List ℕ) (before mid after : MeasureCache) (entry : PlaceholderSize) → meaning ≡ Stored text
       → ((st : State) → ShowsState before st → ShowsState mid (labelled (label_view label) st)) → mid.by_name ≡ before.by_name
       → StoredEntry levels label text mid after entry → LabelledEntry levels label meaning before after entry
@@ -289,7 +290,8 @@ module _ (alias_only : Bool) (resolve : List ℕ → List Item) where
 
   -- ---- the loop
 
-  -- within these frames, with this sum so far and these items left, the whole comes out
+  -- within these frames, with this size so far and these remaining items, the result is that of the whole
+  -- pattern
   pub record GoesOn (levels : ℕ) (whole : Reading) (frames : List Frame) (left : List Item) (so_far : PartialSize) (cache : MeasureCache) : Type 0 where
     pub now : State
     pub total : Size

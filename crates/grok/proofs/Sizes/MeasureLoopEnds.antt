@@ -15,7 +15,8 @@ use Rattle.grok.proofs.Sizes.CountersAreExact.{IsTable, weighed_le, weighed_more
 
 -- ---- the frames
 
--- each sum is no higher than the levels that are left there, and the items that wait are sound
+-- The height in each frame is at most the number of levels that are left there, and the waiting items are
+-- sound.
 abbrev pub AreFit : (List ℕ → List Item) → Definitions → ℕ → List Frame → Type 0
 AreFit resolve definitions levels [] = Unit {0}
 AreFit resolve definitions levels (frame ∷ frames) = (frame.sum.height ≤ levels) × AreSound resolve definitions frame.items × AreFit resolve definitions (levels - 1) frames
@@ -36,7 +37,7 @@ fit_pop resolve definitions levels (f ∷ frames) frame (low, sound, fit) =
     let p = fit_pop resolve definitions (levels - 1) frames frame fit in
     record { fit = (low, sound, p.fit); low = omega (arith, p.low); sound = p.sound }
 
--- they are low
+-- so the heights in the frames are at most these levels
 pub fit_low : (resolve : List ℕ → List Item) (definitions : Definitions) (levels most : ℕ) (frames : List Frame) → levels ≤ most → AreFit resolve definitions levels frames → AreLow most frames
 fit_low resolve definitions levels most [] le fit = tt
 fit_low resolve definitions levels most (f ∷ frames) le fit =
@@ -49,11 +50,11 @@ low_pop most (f ∷ frames) frame low = let rest = low_pop most frames frame low
 
 -- ---- the measure
 
--- the name's text may be read
+-- the name's definition may still be read
 abbrev pub is_unkept : MeasureCache → List ℕ → Bool
 is_unkept cache name = not (is_kept (progress_of cache.by_name name))
 
--- the items that wait in the frames, and an end for each
+-- the waiting items in the frames, and for each frame an end
 abbrev pub waiting : List Frame → ℕ
 waiting [] = 0
 waiting (frame ∷ frames) = suc (length frame.items) + waiting frames

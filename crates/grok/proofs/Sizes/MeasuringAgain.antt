@@ -1,4 +1,4 @@
--- What was measured before changes no result, and stays true.
+-- What is remembered from earlier measurements changes no result, and stays right.
 use Rattle.std.proofs.Common.{◌≡◌, ℕ, Bool, List, length, Result, Some, Ok, Err, refl, sym, ◌∙◌, ap, subst, inl, inr}
 use Rattle.std.specs.Prelude.{MatchResult}
 use Rattle.std.specs.FinMap as finite
@@ -29,7 +29,7 @@ module _ (texts : Texts) (alias_only : Bool) where
   pub nothing_true : IsCorrect texts alias_only nothing_measured
   nothing_true = record { none_begun = λ name is. cc; says = λ name progress text is stored. cc }
 
-  -- the plain sum is read off the tree
+  -- the plain size gives the result for the tree
   pub tree_from : (pattern : List ℕ) (s : Result Size Fault) → sizes alias_only (size_or_fault alias_only resolve deepest) (resolve pattern) ≡ s → measured_size s ≡ measured_tree alias_only (tree (finite.get texts) pattern)
   unfolding tree
   tree_from pattern (Err fault) is =
@@ -50,7 +50,7 @@ module _ (texts : Texts) (alias_only : Bool) where
 
   module _ (levels : ℕ) (pattern : List ℕ) (r : Result PartialSize Failure) (frames : List Frame) (before cache : MeasureCache)
       (stops : (st : State) → ShowsState before st → StopsReading levels r frames cache (items_within alias_only resolve levels (resolve pattern) st)) where
-    -- the answer is the plain sum
+    -- the result is the plain size or fault
     pub size_is : (st : State) → ShowsState before st → IsCorrect texts alias_only st → result_view r ≡ shown_result (sizes alias_only (size_or_fault alias_only resolve levels) (resolve pattern))
     size_is st shows t = (stops st shows).same ∙ ap shown_result (outcome levels pattern st t).same
 

@@ -20,7 +20,7 @@ use Rattle.grok.proofs.Sizes.CountersAreExact.{is_started, started_with_progress
 use Rattle.grok.proofs.Trees.FaultInPlaceOfOpen as block
 use Rattle.grok.proofs.Trees.FaultInPlaceOfOpen.{stop}
 
--- two tests that are true alike
+-- if either test is true, so is the other
 pub alike : (p q : Bool) → (p ≡ true → q ≡ true) → (q ≡ true → p ≡ true) → p ≡ q
 alike true q f g = sym (f refl)
 alike false true f g = g refl
@@ -30,7 +30,8 @@ or_right : (a b : Bool) → b ≡ true → (a || b) ≡ true
 or_right true b e = refl
 or_right false b e = e
 
--- What is watched for: labels, and names whose stored text is opened. The flag is on once one was read, and `has` tells whether a list of events has one.
+-- What is watched for: placeholders with such a label, and placeholders that stand for the stored definition of
+-- such a name. The flag is set once one was read, and `has` is whether a list of events has one.
 pub record Watch : Type 0 where
   pub of_label : Label → Bool
   pub of_name : List ℕ → Bool
@@ -52,7 +53,7 @@ pub record IsWatch (w : Watch) : Type 0 where
   pub known : (name : List ℕ) (progress : Progress Size) (st : State) → w.of_name name ≡ true → st.by_name name ≡ Some progress → is_on w st ≡ true
   pub stops : (marker : Fault) (es : List Event) → stop (is_watched w) marker es ≡ cond (w.has (reached es)) (Some marker) (first_structural es)
 
--- the flag is on, or a name that is watched for could not be opened
+-- the flag is set, or a name that is watched for could not be opened
 abbrev pub IsSeen : Watch → Reading → Type 0
 IsSeen w answer = (is_on w answer.1 ≡ true) ⊎ ((fault : Fault) × (name : List ℕ) × (answer.0 ≡ Err fault) × (w.of_name name ≡ true))
 
@@ -70,7 +71,8 @@ module _ (w : Watch) (is_watch : IsWatch w) (marker : Fault) (alias_only : Bool)
   abbrev blocking : List ℕ → List Item
   blocking = block.blocking (is_watched w) marker resolve
 
-  -- the other reading is the same and none was read, or it ends at the fault that stands for what was read
+  -- The other reading is the same and nothing that is watched for was read, or it ends at the fault that
+  -- replaces what was read.
   abbrev Alike : Reading → Reading → Type 0
   Alike answer other = ((other ≡ answer) × (is_on w answer.1 ≡ false)) ⊎ ((other.0 ≡ Err marker) × IsSeen w answer)
 
@@ -98,7 +100,7 @@ module _ (w : Watch) (is_watch : IsWatch w) (marker : Fault) (alias_only : Bool)
   seen_after_size size later (inl on) = inl on
   seen_after_size size later (inr (fault, name, e, watched)) = inr (fault, name, ap (both (Ok size)) e, watched)
 
-  -- the flag stays on
+  -- the flag stays set
   label_on : (label : Label) (st : State) → is_on w st ≡ true → is_on w (labelled label st) ≡ true
   label_on label st on = is_watch.labels label st ∙ or_right (w.of_label label) (is_on w st) on
 
@@ -192,7 +194,7 @@ abbrev pub fault_of : Result Size Fault → Option Fault
 fault_of (Ok size) = None
 fault_of (Err fault) = Some fault
 
--- the first fault of the tree is that of the answer
+-- the first fault of the tree is that of the result
 pub tree_fault : (alias_only : Bool) (resolve : List ℕ → List Item) (definitions : Definitions) → IsSound resolve definitions → (levels : ℕ) (pattern : List ℕ)
     → first_structural (tree_within levels resolve pattern) ≡ fault_of (measure_within levels alias_only resolve pattern).0
 tree_fault alias_only resolve definitions sound levels pattern = go (measure_within levels alias_only resolve pattern).0 refl
@@ -212,7 +214,8 @@ progress_stops : (marker : Fault) (o : Option Fault) (b : Bool) → (o ≡ Some 
 progress_stops marker o true apart e = refl
 progress_stops marker o false apart e = absurd (apart e)
 
--- THE THEOREM: the flag is on only where the tree reaches what is watched for, and then it was read
+-- THE THEOREM: the flag is set only if the tree reaches what is watched for. If the tree reaches it, the flag
+-- is set, or a name that is watched for could not be opened.
 pub record Watched (w : Watch) (answer : Reading) (tree : List Event) : Type 0 where
   pub only : is_on w answer.1 ≡ true → w.has (reached tree) ≡ true
   pub every : w.has (reached tree) ≡ true → IsSeen w answer
@@ -269,14 +272,14 @@ names_stop name marker (Open label (Stored text) ∷ es) =
     elim (bytes_eq label.name name) as (λ b. cond b (Some marker) (stop (is_watched (names name)) marker es) ≡ cond (cond b true (reaches name (reached es))) (Some marker) (first_structural es)) [ true ↦ refl | false ↦ rest ]
 
 module _ (alias_only : Bool) (resolve : List ℕ → List Item) (definitions : Definitions) (sound : IsSound resolve definitions) where
-  -- whether an alias that ends so was read is whether the tree reaches one
+  -- an alias that ends so was read exactly if the tree reaches one
   pub measure_flags : (levels : ℕ) (pattern : List ℕ) → (measure_within levels alias_only resolve pattern).1.numbered_alias ≡ has_numbered_alias (reached (tree_within levels resolve pattern))
   measure_flags levels pattern =
       let is_watch : IsWatch aliases = record { starts_off = refl; labels = λ label st. refl; names = λ name progress st. refl; known = λ name progress st never is. cc; stops = aliases_stop } in
       let h = watched aliases is_watch alias_only resolve definitions sound levels pattern in
       alike _ _ h.only (λ there. elim (h.every there) [ inl on ↦ on | inr (fault, name, e, never) ↦ cc ])
 
-  -- a name is read only where the tree reaches it, and if there is no fault it was read
+  -- A name is read only if the tree reaches it. If the tree reaches it, it was read, or it could not be opened.
   pub measure_meets : (levels : ℕ) (pattern name : List ℕ) → Watched (names name) (measure_within levels alias_only resolve pattern) (tree_within levels resolve pattern)
   measure_meets levels pattern name =
       let is_watch : IsWatch (names name) = record {

@@ -9,11 +9,11 @@ use Rattle.grok.proofs.Sizes.TextsWithoutPlaceholders.{IsSound}
 use Rattle.grok.proofs.Sizes.CountersAreExact.{IsTable, weighed_le, weighed_same, is_started, counts_pieces, counts_ends, measure_counts}
 use Rattle.grok.proofs.Sizes.ReachedPlaceholdersAreSeen.{alike, fault_of, tree_fault, measure_flags, measure_meets}
 
--- what the pattern weighs, and each text of the table whose name the tree reaches
+-- the weight of the pattern and of each definition in the table whose name the tree reaches
 abbrev pub table_weight : (List ℕ → ℕ) → List (List ℕ × List ℕ) → List ℕ → List Event → ℕ
 table_weight weight entries pattern tree = weight pattern + weighed weight (λ name. reaches name (reached tree)) entries
 
--- THE THEOREM: what was used and counted is at most what the tree reaches, and for a clean tree exactly that
+-- THE THEOREM: what was used and counted is at most what the tree reaches, and exactly that for a clean tree.
 pub record ReadsTree (resolve : List ℕ → List Item) (entries : List (List ℕ × List ℕ)) (pattern : List ℕ) (tree : List Event) (st : State) : Type 0 where
   pub numbered_alias : st.numbered_alias ≡ has_numbered_alias (reached tree)
   pub looks : st.looks ≤ table_weight (λ text. length (resolve text)) entries pattern tree

@@ -36,11 +36,11 @@ last_not_begun levels (Err (Missing name), st) e = cc
 last_not_begun levels (Err TooDeep, st) e = cc
 
 module _ (alias_only : Bool) (resolve : List ℕ → List Item) (definitions : Definitions) where
-  -- a name has begun, or what is known of it holds of its text
+  -- a name's definition is in progress, or what is remembered of it is right
   abbrev pub IsHonest : State → Type 0
   IsHonest st = (name : List ℕ) (progress : Progress Size) (text : List ℕ) → st.by_name name ≡ Some progress → definitions name ≡ Some text → (progress ≡ InProgress) ⊎ HoldsOfText alias_only resolve progress text
 
-  -- each definition that is in progress is too deep if what is read here, further down, is too deep
+  -- if what is read here is nested too deeply, then so is each definition that is in progress around it
   abbrev OpenLead : State → (ℕ → Result Size Fault) → Type 0
   OpenLead st here = (name text : List ℕ) → st.by_name name ≡ Some InProgress → definitions name ≡ Some text
       → (down : ℕ) × ((levels : ℕ) → here levels ≡ Err TooDeep → of_text alias_only resolve text (levels + suc down) ≡ Err TooDeep)
@@ -52,11 +52,11 @@ module _ (alias_only : Bool) (resolve : List ℕ → List Item) (definitions : D
     pub honest : IsHonest answer.1
     pub opens : (name : List ℕ) → answer.1.by_name name ≡ Some InProgress → st.by_name name ≡ Some InProgress
 
-  -- where what encloses a part is too deep if the part is, the open texts lead to it, too
+  -- the same for a part of what is read, if the whole is nested too deeply whenever the part is
   lead_through : (st : State) (outer inner : ℕ → Result Size Fault) → ((levels : ℕ) → inner levels ≡ Err TooDeep → outer levels ≡ Err TooDeep) → OpenLead st outer → OpenLead st inner
   lead_through st outer inner h lead name text cache stored = let (down, far) = lead name text cache stored in (down, λ levels deep. far levels (h levels deep))
 
-  -- a name's text is opened
+  -- a name's definition is entered
   lead_open : (st : State) (name text : List ℕ) → definitions name ≡ Some text → OpenLead st (of_text alias_only resolve text) → OpenLead (with_progress st name InProgress) (of_items alias_only resolve (resolve text))
   lead_open st name text stored lead other text' is stored' = elim (progress_cases st.by_name name InProgress other) [
     | inl (same, progress) ↦
@@ -92,7 +92,7 @@ module _ (alias_only : Bool) (resolve : List ℕ → List Item) (definitions : D
     ]
   ]
 
-  -- what is known of a name is so
+  -- what is remembered of a name is right
   known_says : (levels : ℕ) (name text : List ℕ) (st : State) (progress : Progress Size) (r : Result Size Fault) → definitions name ≡ Some text → st.by_name name ≡ Some progress → known_result progress levels ≡ Some r
       → OpenLead st (of_text alias_only resolve text) → (progress ≡ InProgress) ⊎ HoldsOfText alias_only resolve progress text → r ≡ of_text alias_only resolve text levels
   known_says levels name text st progress r stored is e lead (inl begun) =
@@ -102,7 +102,8 @@ module _ (alias_only : Bool) (resolve : List ℕ → List Item) (definitions : D
       r_is ∙ sym (circle alias_only resolve down text round levels)
   known_says levels name text st progress r stored is e lead (inr says) = sym (says levels r e)
 
-  -- THE STEPS, each where the marks hold of their texts and the open texts lead here
+  -- THE STEPS. Before each, what is remembered is right, and the definitions in progress are those around what
+  -- is read.
   abbrev RightItem : ℕ → Item → State → Reading → Type 0
   RightItem levels item st answer = (items : List Item) → IsHonest st → OpenLead st (of_items alias_only resolve (item ∷ items)) → Outcome levels st answer (of_item alias_only resolve item) (high answer.0 answer.1.reach)
 
@@ -186,7 +187,7 @@ module _ (alias_only : Bool) (resolve : List ℕ → List Item) (definitions : D
       Outcome levels st answer (of_items alias_only resolve (resolve pattern)) (high answer.0 answer.1.reach)
 
   module _ (sound : IsSound resolve definitions) where
-    -- from a state in which no name has begun, and whose marks hold of their texts
+    -- from a state in which no definition is in progress and what is remembered is right
     pub look_right : (levels : ℕ) (pattern : List ℕ) (st : State) → IsHonest st → ((name : List ℕ) → st.by_name name ≡ Some InProgress → ⊥) → RightAnswer levels pattern st
     look_right levels pattern st honest closed = reads alias_only resolve definitions RightItem RightItems RightText right sound levels pattern st honest (λ name text cache stored. absurd (closed name cache))
 

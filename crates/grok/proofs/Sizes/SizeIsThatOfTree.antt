@@ -64,7 +64,7 @@ module _ (alias_only : Bool) where
         | false ↦ omega (arith, other)
       ]
 
-  -- what is read off clean events
+  -- what clean events have in bytes, groups and nesting
   pub record Agrees (es : List Event) (z : Size) : Type 0 where
     pub clean : first_structural es ≡ None
     pub bytes : plain es ≡ z.bytes
@@ -104,7 +104,7 @@ module _ (alias_only : Bool) where
             subst (λ xs. max depth (max (suc depth) (nesting_after (suc depth) xs)) ≡ max (depth + suc z.height) (nesting_after depth rest)) (sym (append_assoc es (Close ∷ []) rest)) step;
       }
 
-  -- what the events inside opened texts have to do with their sizes
+  -- how the events inside definitions correspond to their sizes
   pub record Fits (f : List ℕ → Result Size Fault) (inner : List ℕ → List Event) : Type 0 where
     pub on_ok : (t : List ℕ) (z : Size) → f t ≡ Ok z → (es : List Event) × (inner t ≡ es ++ Close ∷ []) × Agrees es z
     pub on_err : (t : List ℕ) (fault : Fault) → f t ≡ Err fault → first_structural (inner t) ≡ Some fault

@@ -22,7 +22,7 @@ both_assoc (Ok a) (Err f) t = refl
 both_assoc (Ok a) (Ok b) (Err f) = refl
 both_assoc (Ok a) (Ok b) (Ok c) = ap Ok (plus_assoc a b c)
 
--- two sizes in a row
+-- two sizes one after the other
 pub both_ok : (r s : Result Size Fault) (z : Size) → both r s ≡ Ok z → (a b : Size) × (r ≡ Ok a) × (s ≡ Ok b) × (z ≡ plus a b)
 both_ok (Err f) s z e = cc
 both_ok (Ok a) (Err f) z e = cc

@@ -9,7 +9,7 @@ use Rattle.grok.specs.MeasureCache.{HoldsOfText}
 use Rattle.grok.proofs.Sizes.TextsWithoutPlaceholders.{IsFlat, flat_measured}
 use Rattle.grok.proofs.Sizes.ReadingInduction.{last_progress}
 
--- the same, or too deep
+-- the same result, or nested too deeply
 abbrev Cut : Result Size Fault → Result Size Fault → Type 0
 Cut r s = (r ≡ s) ⊎ (r ≡ Err TooDeep)
 
@@ -43,7 +43,7 @@ pub settles_wrapped : (alias_only : Bool) (label : Label) (f : ℕ → Result Si
 settles_wrapped alias_only label f least r h = record { fits = λ n le. ap (wrapped alias_only label) (h.fits n le); deep = λ n low. ap (wrapped alias_only label) (h.deep n low) }
 
 module _ (f g : ℕ → Result Size Fault) where
-  -- a fault is that of all that it begins
+  -- a fault at the start is the fault of the whole
   pub settles_first : (least : ℕ) (fault : Fault) → Settles f least (Err fault) → Settles (λ n. both (f n) (g n)) least (Err fault)
   settles_first least fault h = record { fits = λ n le. ap (λ r. both r (g n)) (h.fits n le); deep = λ n low. ap (λ r. both r (g n)) (h.deep n low) }
 
@@ -63,7 +63,7 @@ module _ (f g : ℕ → Result Size Fault) where
     ];
   }
 
--- by the room for a height
+-- two cases: the levels are enough for the height, or they aren't
 by_room : (f : ℕ → Result Size Fault) (height : ℕ) (r : Result Size Fault) → Settles f (suc height) r → (n : ℕ) → f n ≡ cond (nat_lt height n) r (Err TooDeep)
 by_room f height r h n = go (nat_lt height n) refl
   where
@@ -77,7 +77,7 @@ from_room f height r h = record {
   deep = λ n low. h n ∙ ap (λ b. cond b r (Err TooDeep)) (le-ltb height n (omega arith));
 }
 
--- how high a text reaches, up to its end or its fault
+-- the height of a text up to its end or its fault
 abbrev pub high : Result Size Fault → ℕ → ℕ
 high (Ok size) reach = size.height
 high (Err fault) reach = reach
@@ -101,7 +101,8 @@ module _ (alias_only : Bool) (resolve : List ℕ → List Item) where
   deep_below : (low high : ℕ) (t : List ℕ) → low ≤ high → of_text t high ≡ Err TooDeep → of_text t low ≡ Err TooDeep
   deep_below low high t le deep = elim (cut_measured low high t le) [ inl same ↦ same ∙ deep | inr deep' ↦ deep' ]
 
-  -- a text that goes too deep wherever it does so further down, in itself, goes too deep however many levels there are
+  -- If a text is nested too deeply whenever a text inside it is, and it is inside itself, then it is nested too
+  -- deeply however many levels there are.
   pub circle : (down : ℕ) (t : List ℕ) → ((levels : ℕ) → of_text t levels ≡ Err TooDeep → of_text t (levels + suc down) ≡ Err TooDeep) → (levels : ℕ) → of_text t levels ≡ Err TooDeep
   circle down t round zero = refl
   circle down t round (suc levels) = deep_below (suc levels) (levels + suc down) t (omega arith) (round levels (circle down t round levels))
@@ -117,7 +118,7 @@ module _ (alias_only : Bool) (resolve : List ℕ → List Item) where
       deep zero low = refl
       deep (suc n) low = h.deep n (omega arith)
 
-  -- a definition that is written in the text
+  -- an inline definition
   pub settles_inline : (levels : ℕ) (label : Label) (text : List ℕ) → IsFlat resolve text → (wrapped alias_only label (inlined levels text) ≡ Err TooDeep → ⊥)
       → Settles (λ n. wrapped alias_only label (of_text text n)) (high (wrapped alias_only label (inlined levels text)) 1) (wrapped alias_only label (inlined levels text))
   settles_inline zero label text flat real = absurd (real refl)
@@ -145,7 +146,8 @@ module _ (alias_only : Bool) (resolve : List ℕ → List Item) where
   last_says levels text (Err (Missing name), st) same settles = room_says text st.reach (Err (Missing name)) (settles (λ e. cc))
   last_says levels text (Err TooDeep, st) same settles = deep_says text levels (sym same)
 
-  -- a remembered answer other than depth is that of the text from its height on
+  -- a remembered size, or a fault other than `TooDeep`, is that of the text if more levels than its height are
+  -- left
   pub known_settles : (text : List ℕ) (progress : Progress Size) (levels : ℕ) (r : Result Size Fault) → known_result progress levels ≡ Some r → (progress ≡ InProgress) ⊎ HoldsOfText alias_only resolve progress text
       → (r ≡ Err TooDeep → ⊥) → Settles (of_text text) (suc (high r (reach_within progress levels))) r
   known_settles text InProgress levels r e honest real = let deep : Err TooDeep ≡ r = cc in absurd (real (sym deep))

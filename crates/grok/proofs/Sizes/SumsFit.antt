@@ -28,7 +28,7 @@ fit_past n past = ap (λ b. cond b (Some n) None) (sym (le-ltb n (2 ^ 64) past))
 pub fit_is : (n : ℕ) → n < 2 ^ 64 → Some n ≡ fit n
 fit_is n low = ap (λ b. cond b (Some n) None) (sym (lt-ltb n (2 ^ 64) low))
 
--- where the groups pass the limit the length does
+-- if the number of groups doesn't fit, the length doesn't either
 pub long_groups : (sum : PartialSize) (z : Size) → sum ≡ shown z → sum.groups ≡ None → None ≡ fit (length_of z)
 long_groups sum z e none = fit_past (length_of z) (omega (arith, fit_none z.groups (sym none ∙ ap (λ s. s.groups) e), digits_least 0 z.groups))
 

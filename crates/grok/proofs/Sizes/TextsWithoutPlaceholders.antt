@@ -22,7 +22,8 @@ pub record IsFlat (resolve : List ℕ → List Item) (text : List ℕ) : Type 0 
   pub bytes : AreBytes (resolve text)
   pub adds_up : bytes_in (resolve text) ≡ length text
 
--- of each item: a stored meaning is that of its name, and one that is written in the text holds no placeholder
+-- what is true of each item: a stored definition is that of its name, and an inline definition has no
+-- placeholder
 abbrev pub AreSound : (List ℕ → List Item) → Definitions → List Item → Type 0
 AreSound resolve definitions [] = Unit {0}
 AreSound resolve definitions (TextItem text ∷ items) = AreSound resolve definitions items

@@ -1,4 +1,4 @@
--- `Debug` writes entries one after another, between braces.
+-- `Debug` writes the entries of a map one after another, in braces.
 use Rattle.std.proofs.Common.{◌≡◌, ℕ, List, [], ◌∷◌, ◌++◌, String, string_bytes, map, length, arith, Option, Some, None, Result, Ok, Err, append_assoc, refl, sym, ◌∙◌, ap, subst}
 use Rattle.std.specs.Prelude.{IfSome, IsOk, OnOk, codes}
 use Rattle.std.specs.Fmt.{IsPlainFormatter, HasWritten, WritesOnOk, DisplaysOnOk, ◌++?◌, comma_space, debug_str, debug_items}
@@ -21,7 +21,7 @@ then_assoc (Some a) (Some b) None = refl
 then_assoc (Some a) (Some b) (Some c) = ap Some (append_assoc a b c)
 
 module _ {W : Type 0} (took : W → List ℕ → W → Type 0) where
-  -- g is f after writing the text in o; it says nothing of no text
+  -- g is f after the text in o was written; if o has no text, g may be anything
   abbrev pub Shows : Formatter W → Option (List ℕ) → Formatter W → Type 0
   Shows f o g = IfSome o (λ bs. HasWritten took f bs g)
 
@@ -49,7 +49,7 @@ module _ {W : Type 0} (took : W → List ℕ → W → Type 0) where
   displays_same f g r o p x same = displays_from f g r p (λ plain ok. subst (λ (q : Option (List ℕ)). Shows f q g) (same ok) (shows_from f g r o x plain ok))
 
   module _ {X : Type 0} (text : X → Option (List ℕ)) where
-    -- what was written and what is left make up the output after the first brace
+    -- what was written and what is still to be written are together the output after the first brace
     pub record IsWriting (start : Formatter W) (whole : List X) (f : Formatter W) (lead : List ℕ) (left : List X) : Type 0 where
       pub done : Option (List ℕ)
       pub shows : Shows start done f
@@ -95,7 +95,7 @@ module _ {A V : Type 0} (text : V → List ℕ) where
   shown_keys [] = refl
   shown_keys (e ∷ es) = ap (λ names. string_bytes e.0 ∷ names) (shown_keys es)
 
-  -- entries that rise are those of their map
+  -- entries in rising order are the entries of their map
   in_order : (es : List (String A × V)) → IsStrictlySortedBy string_cmp (keys_of es) → finite.entries (finite.from_entries {R = slice_cmp nat_cmp} (shown es)) ≡ shown es
   unfolding IsStrictlySortedBy
   in_order [] rise = no_entries _ (sym (finite.len-entries finite.empty) ∙ finite.len-empty (slice_cmp nat_cmp) (List ℕ))
@@ -113,7 +113,7 @@ module _ {A V : Type 0} (text : V → List ℕ) where
       → debug_braces (debug_item (λ v. debug_str (text v))) es ≡ debug_texts (finite.from_entries (shown es))
   texts_shown es rise = ap (λ o. Some (codes "{") ++? o ++? Some (codes "}")) (same_items [] es) ∙ ap debug_pairs (sym (in_order es rise))
 
-  -- the names of a map, read off its entries
+  -- the names of a map are those of its entries
   pub names_in_order : (es : List (String A × V)) → IsStrictlySortedBy string_cmp (keys_of es)
       → map string_bytes (keys_of es) ≡ finite.keys (finite.from_entries {R = slice_cmp nat_cmp} (shown es))
   names_in_order es rise = shown_keys es ∙ ap (map (λ e. e.0)) (sym (in_order es rise))

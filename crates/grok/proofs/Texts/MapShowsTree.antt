@@ -1,4 +1,4 @@
--- Looking up a name in the map of texts gives what the tree map gives, also after a text was set.
+-- Looking up a name in the finite map gives what the `BTreeMap` gives, also after a text was set.
 use Rattle.std.proofs.Common.{◌≡◌, ℕ, List, [], ◌∷◌, String, string_bytes, Bool, true, false, cond, Some, refl, sym, ap, ◌∙◌}
 use Rattle.std.specs.BTreeMap.{BTreeMap, get_by_text, insert_entry}
 use Rattle.std.specs.List.{AllZip}
@@ -43,7 +43,7 @@ is_equal Less e = cc
 is_equal Equal e = refl
 is_equal Greater e = cc
 
--- a name ties with two names only if these tie
+-- a name compares equal to two names only if these compare equal
 tied : (q k e : List ℕ) → bytes_cmp k e ≡ Greater → ¬ ((is_eq (bytes_cmp q e) ≡ true) × (is_eq (bytes_cmp q k) ≡ true))
 tied q k e g h =
     let x : q ≡ e = same_bytes q e (is_equal _ h.0) in

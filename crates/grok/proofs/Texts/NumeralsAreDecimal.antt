@@ -27,7 +27,7 @@ numeral_step n big =
     numeral_pos n (omega arith) ∙ ap (map (λ digit. 48 + digit)) (digits_of_step 10 n (omega arith) (omega arith)) ∙ map_push (λ digit. 48 + digit) (digits_of 10 (n / 10)) (n % 10)
     ∙ ap (λ ds. ds ++ ((48 + n % 10) ∷ [])) (sym (numeral_pos (n / 10) (omega arith)))
 
--- where std's decimal serves, it is the same
+-- for numbers that std's `decimal` can write, it is the same
 pub numeral_is_decimal : (n : ℕ) → n < 2 ^ 64 → numeral n ≡ decimal n
 numeral_is_decimal n low =
     decimal_by_steps (λ k ds. numeral k ≡ ds) numeral_digit (λ k ds big h. numeral_step k big ∙ ap (λ xs. xs ++ ((48 + k % 10) ∷ [])) h) n low

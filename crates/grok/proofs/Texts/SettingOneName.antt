@@ -20,7 +20,7 @@ pub get_kept : (texts : Texts) (name text other : List ℕ) → other ≢ name �
 get_kept texts name text other n =
     finite.get-insert nat_list_cmp_total texts name text other ∙ ap (λ b. cond b (Some text) (finite.get texts other)) (untied other name n (is_eq (slice_cmp nat_cmp other name)) refl)
 
--- a pair of another name changes nothing at this one
+-- a pair of another name changes nothing for this name
 pub get_others : (texts : Texts) (pairs : List (List ℕ × List ℕ)) (name : List ℕ) → NoneNames pairs name → finite.get (set_all texts pairs) name ≡ finite.get texts name
 get_others texts [] name n = refl
 get_others texts (p ∷ ps) name n = get_others (finite.insert texts p.0 p.1) ps name n.1 ∙ get_kept texts p.0 p.1 name n.0

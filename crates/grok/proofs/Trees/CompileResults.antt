@@ -39,12 +39,12 @@ faulty_is alias_only es fault e = faulty_or (first_structural es) (length (expan
 
 -- ---- faults
 
--- the structural fault is the first one, where that is known
+-- if the first fault is the structural one, that fault's error is the first error
 pub structural_error : (alias_only : Bool) (es : List Event) (fault : Fault) (error : ErrorValue) → first_fault alias_only es ≡ option_map Structural (first_structural es)
     → first_structural es ≡ Some fault → IsFaultError fault error → IsFirstError alias_only es error
 structural_error alias_only es fault error same is says = record { tree_fault = Structural fault; first = same ∙ ap (option_map Structural) is; is = says }
 
--- a tree that was measured as long as this has no structural fault
+-- a tree whose measured size is this has no structural fault
 sized_as : (b : Bool) (n g h m k l : ℕ) → Sized m k l ≡ cond b (Sized n g h) TooLong → m ≡ n
 sized_as true n g h m k l e = cc
 sized_as false n g h m k l e = cc
@@ -73,7 +73,7 @@ none_by true true key o p q f h e = cc
 none_by true false key o p q f h e = f e
 none_by false taken key o p q f h e = h e
 
--- where there is no first fault there is no structural one
+-- if there is no first fault, there is no structural fault
 none_structural : (alias_only : Bool) (before : List Label) (taken : List (List ℕ)) (es : List Event) → first_fault_after alias_only before taken es ≡ None → first_structural es ≡ None
 none_structural alias_only before taken [] e = refl
 none_structural alias_only before taken (Text text ∷ es) e = none_structural alias_only before taken es e

@@ -1,4 +1,4 @@
--- One step of the events that are left, while the open texts lie on a stack.
+-- One step of the remaining events, while the open texts are on a stack.
 use Rattle.std.proofs.Common.{◌≡◌, ℕ, zero, suc, ◌-◌, ◌<◌, ◌≤◌, List, [], ◌∷◌, ◌++◌, length, Option, Some, None, refl, ◌∙◌, ap, sym, arith, append_assoc}
 use Rattle.std.specs.FinMap as finite
 use Rattle.std.specs.Option.{option_map}
@@ -46,7 +46,7 @@ resolve fields = items_of (finite.get fields.grok.now)
 abbrev left_of : Inside → List Event
 left_of fields = events_left (resolve fields) deepest fields.around.items (option_map meaning_view fields.opening) fields.items
 
--- these events are left, and no text is still to be opened
+-- these events remain, and no definition is about to be entered
 pub record IsSettled (left : List Event) (fields : Inside) : Type 0 where
   pub settled : fields.opening ≡ None
   pub is : left ≡ events_left (resolve fields) deepest fields.around.items None fields.items

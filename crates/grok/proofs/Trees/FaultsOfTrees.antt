@@ -15,7 +15,7 @@ use Rattle.grok.proofs.Sizes.SizeIsThatOfTree.{first_structural-append, or_else}
 
 -- ---- what is written so far
 
--- what is written in a text after these pieces too
+-- the inline definitions of a text after these pieces
 abbrev written_after : Definitions → List Piece → Definitions
 written_after written [] = written
 written_after written (Regular s e text ∷ ps) = written_after written ps
@@ -86,7 +86,7 @@ module _ (stored other : Definitions) where
     first : first_structural es' ≡ first_structural es
     reach : reached es' ≡ reached es
 
-  -- a front with no fault is passed over
+  -- the first events, if they have no fault, don't change the first fault of the rest
   reached_front : (xs ys : List Event) → first_structural xs ≡ None → reached (xs ++ ys) ≡ reached xs ++ reached ys
   reached_front [] ys clean = refl
   reached_front (Text text ∷ xs) ys clean = ap (λ es. Text text ∷ es) (reached_front xs ys clean)
@@ -94,7 +94,7 @@ module _ (stored other : Definitions) where
   reached_front (Close ∷ xs) ys clean = ap (λ es. Close ∷ es) (reached_front xs ys clean)
   reached_front (FaultEvent fault ∷ xs) ys clean = cc
 
-  -- one with a fault is all that is reached
+  -- if they have a fault, nothing after it is reached
   reached_stop : (xs ys : List Event) (fault : Fault) → first_structural xs ≡ Some fault → reached (xs ++ ys) ≡ reached xs
   reached_stop [] ys fault bad = cc
   reached_stop (Text text ∷ xs) ys fault bad = ap (λ es. Text text ∷ es) (reached_stop xs ys fault bad)
@@ -155,7 +155,7 @@ module _ (stored other : Definitions) where
             reach = reached_front xs' ys' there ∙ ap (λ es. es ++ reached ys') h.reach ∙ ap (λ es. reached xs ++ es) k.reach ∙ sym (reached_front xs ys is);
           }
 
-  -- an event that is no fault before both
+  -- an event that is no fault, in front of both lists
   same_text : (text : List ℕ) (es es' : List Event) → (Agree es → Same es es') → Agree (Text text ∷ es) → Same (Text text ∷ es) (Text text ∷ es')
   same_text text es es' h agree = let s = h agree in record { first = s.first; reach = ap (λ es. Text text ∷ es) s.reach }
 

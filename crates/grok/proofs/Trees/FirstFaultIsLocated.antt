@@ -1,4 +1,5 @@
--- The first fault of a definition that was measured, and of the items of a text one by one.
+-- The first fault of a pattern stands where `locate` finds it: in the first item with a fault, and so on inside
+-- that item's definition.
 use Rattle.std.proofs.Common.{◌≡◌, ℕ, zero, suc, ◌-◌, ◌<◌, Bool, true, List, [], ◌∷◌, ◌++◌, length, Option, Result, Some, None, Ok, Err, refl, sym, ◌∙◌, ap, subst, arith, append-nil, append_assoc, length-append}
 use Rattle.std.specs.Option.{option_map}
 use Rattle.std.specs.FinMap as finite
@@ -32,11 +33,11 @@ fault_inside alias_only resolve levels text (Ok z) e =
     let (es, is, agrees) = (fits_inside alias_only resolve levels).on_ok text z e in
     sym (ap first_structural is ∙ first_structural-append es (Close ∷ []) ∙ ap (λ o. or_else o None) agrees.clean)
 
--- two different sizes aren't shown alike
+-- a size and a fault also differ as contracts see them
 apart : (v : Result PartialSize Fault) → v ≡ shown_result (Ok no_size) → v ≡ shown_result (Err TooDeep) → ⊥
 apart v a b = let bad : shown_result (Ok no_size) ≡ shown_result (Err TooDeep) = sym a ∙ b in cc
 
--- what is known of a name is what its definition gives
+-- what is remembered of a name is right for its definition
 pub known_is : (texts : Texts) (alias_only : Bool) (name text : List ℕ) (levels : ℕ) (r : Result PartialSize Failure) (st : State) → IsCorrect texts alias_only st → finite.get texts name ≡ Some text
     → ((fresh : Reading) → RemembersReading r st (by_progress (st.by_name name) levels st fresh))
     → result_view r ≡ shown_result (size_or_fault alias_only (items_in texts) levels text)
@@ -90,7 +91,8 @@ sound_item stored (FaultItem fault) items h = tt
 sound_item stored (PlaceholderItem label (Stored text)) items h = h.0
 sound_item stored (PlaceholderItem label (Inline text)) items h = λ levels. sym (fault_inside true (items_of stored) (suc levels) text _ (flat_measured true (items_of stored) text h.0 (suc levels)))
 
--- these pieces and items of the text are left, those before have no fault, and the next piece begins there
+-- These pieces and items of the text remain, those before them have no fault, and the next piece begins at this
+-- byte.
 pub record IsPlacing (stored : Definitions) (levels : ℕ) (text : List ℕ) (left : List Piece) (items : List Item) (begin : ℕ) : Type 0 where
   pub pieces_before : List Piece
   pub before : List Item
@@ -120,7 +122,7 @@ end_of_all-last : (text : List ℕ) (from : ℕ) (before : List Piece) (piece : 
 end_of_all-last text from [] piece = refl
 end_of_all-last text from (first ∷ before) piece = end_of_all-last text (end_of text first) before piece
 
--- one of the pieces that are left
+-- one of the remaining pieces
 record NextPiece (left later : List Piece) (found : Option GrokComponent) : Type 0 where
   piece : Piece
   is : option_map piece_view found ≡ Some piece

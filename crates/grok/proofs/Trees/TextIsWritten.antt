@@ -1,4 +1,4 @@
--- What was written and what the events that are left will write make up the expanded text, and each capturing
+-- What was written and what the remaining events will write are together the expanded text. Each capturing
 -- placeholder that was written has its key.
 use Rattle.std.proofs.Common.{◌≡◌, ℕ, suc, ◌+◌, ◌≤◌, Bool, true, false, cond, List, [], ◌∷◌, ◌++◌, length, Option, Some, None, refl, sym, ◌∙◌, ap, subst, arith, add-zero, append-nil, append_assoc, length-append}
 use Rattle.std.specs.Prelude.{codes}
@@ -89,7 +89,7 @@ module _ (alias_only : Bool) where
 
 -- ---- the loop over the events
 
--- Some events were written and have their keys, and there is room for these, which are left.
+-- Some events were written and have their keys, and there is room for the remaining ones.
 pub record HasWritten (alias_only : Bool) (all left : List Event) (start out : Output) (keys : KeyAssigner) : Type 0 where
   pub done : List Event
   pub cut : all ≡ done ++ left
