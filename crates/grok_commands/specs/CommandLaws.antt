@@ -1,9 +1,9 @@
--- THE LAWS of the words of a command line: the words of each command, and that no others are one.
+-- The laws of the words of a command line: which words are which command.
 use Rattle.std.specs.Prelude.{◌≡◌, ◌≢◌, ◌↔◌, ℕ, Bool, true, false, List, [], ◌∷◌, ◌++◌, map, Option, Some, None, codes}
 use Rattle.std.specs.List.{AllByRecursion}
 use Rattle.grok_commands.specs.Commands.{has_equals, RequestValue, CommandValue, Split, Measure, Match, Json, Check, command_of}
 
--- `-a`, in alias-only mode alone
+-- `-a` in alias-only mode, and no word otherwise
 abbrev pub mode_words : Bool → List (List ℕ)
 mode_words true = codes "-a" ∷ []
 mode_words false = []
@@ -13,12 +13,12 @@ abbrev pub definition_words : List (List ℕ × List ℕ) → List (List ℕ)
 definition_words definitions =
     map (λ definition. definition.0 ++ codes "=" ++ definition.1) definitions
 
--- a name ends before the first `=`, so it has none
+-- No name has a `=` in it, since a name ends before the first one.
 abbrev pub NamesLackEquals : List (List ℕ × List ℕ) → Type 0
 NamesLackEquals definitions =
     AllByRecursion (λ definition. has_equals definition.0 ≡ false) definitions
 
--- `COMMAND [-a] PATTERN [NAME=DEF]..`: the pattern `-a` needs a `-a` before it
+-- `COMMAND [-a] PATTERN [NAME=DEF]..`. If the pattern is the text `-a`, another `-a` has to come before it.
 pub record AreRequest (command : List ℕ) (request : RequestValue) (words : List (List ℕ)) : Type 0 where
   pub are : words ≡ command ∷ (mode_words request.alias_only
       ++ request.pattern ∷ definition_words request.definitions)
@@ -35,12 +35,12 @@ AreCommand (Check alias_only definitions) words =
     (words ≡ codes "check" ∷ (mode_words alias_only ++ definition_words definitions))
     × NamesLackEquals definitions
 
--- a command is read from its own words, and from no others
+-- THE LAW: words are read as a command exactly if they are the words of that command.
 abbrev pub CommandsAreTheirWords : Type 0
 CommandsAreTheirWords = (words : List (List ℕ)) (command : CommandValue)
     → (command_of words ≡ Some command) ↔ AreCommand command words
 
--- what are the words of no command is none
+-- THE LAW: words that belong to no command are read as none.
 abbrev pub OtherWordsAreNoCommand : Type 0
 OtherWordsAreNoCommand = (words : List (List ℕ))
     → ((command : CommandValue) → ¬ AreCommand command words) → command_of words ≡ None

@@ -6,15 +6,17 @@ use Rattle.std.specs.Str.{bytes_eq}
 use Rattle.std.specs.Borrow.{Bor}
 use Rattle.grok.specs.Ascii.{equals_sign}
 
--- what the references to words point to
+-- the bytes of borrowed words
 abbrev pub texts : List (Bor (List ℕ)) → List (List ℕ)
 texts words = map (λ word. word.now) words
 
 -- ---- definition words
 
+-- whether the byte is a `=`
 abbrev pub is_equals : ℕ → Bool
 is_equals b = b == equals_sign
 
+-- whether the word has a `=`
 abbrev pub has_equals : List ℕ → Bool
 has_equals word = list_any is_equals word
 
@@ -22,6 +24,7 @@ has_equals word = list_any is_equals word
 abbrev pub cut_word : List ℕ → List ℕ × List ℕ
 cut_word word = (before_first is_equals word, after_first is_equals word)
 
+-- each word, cut at its first `=`
 abbrev pub cut_words : List (List ℕ) → List (List ℕ × List ℕ)
 cut_words words = map cut_word words
 
@@ -31,18 +34,19 @@ definitions_of words = if list_all has_equals words then Some (cut_words words) 
 
 -- ---- commands
 
--- what is printed if the words are no command
+-- the text that is printed if the words are no command
 abbrev pub usage_text : List ℕ
 usage_text = codes "usage: grok_tool split PATTERN | measure [-a] PATTERN [NAME=DEF].."
     ++ codes " | match [-a] PATTERN [NAME=DEF].. | json [-a] PATTERN [NAME=DEF].."
     ++ codes " | check [-a] [NAME=DEF].."
 
--- a pattern, the mode and the definitions
+-- a pattern, its definitions, and whether only placeholders with an alias capture
 pub record RequestValue : Type 0 where
   pub alias_only : Bool
   pub pattern : List ℕ
   pub definitions : List (List ℕ × List ℕ)
 
+-- a command: what the program is asked to do
 pub data CommandValue : Type 0 where
   Split : (pattern : List ℕ) → CommandValue
   Measure : (request : RequestValue) → CommandValue
@@ -50,11 +54,13 @@ pub data CommandValue : Type 0 where
   Json : (request : RequestValue) → CommandValue
   Check : (alias_only : Bool) (definitions : List (List ℕ × List ℕ)) → CommandValue
 
--- The mode, and the words after it: a first word `-a` chooses alias-only mode, and is nothing else.
+-- The mode, and the words after it. If the first word is `-a`, it chooses alias-only mode, and is never the
+-- pattern.
 abbrev pub mode_of : List (List ℕ) → Bool × List (List ℕ)
 mode_of [] = (false, [])
 mode_of (word ∷ words) = if bytes_eq word (codes "-a") then (true, words) else (false, word ∷ words)
 
+-- a pattern and its definitions, after the mode was read
 abbrev pub request_after : Bool → List (List ℕ) → Option RequestValue
 request_after alias_only [] = None
 request_after alias_only (pattern ∷ words) =
@@ -64,17 +70,17 @@ request_after alias_only (pattern ∷ words) =
       definitions = definitions;
     }) (definitions_of words)
 
--- `[-a] PATTERN [NAME=DEF]..`
+-- the request in the words `[-a] PATTERN [NAME=DEF]..`
 abbrev pub request_of : List (List ℕ) → Option RequestValue
 request_of words = request_after (mode_of words).0 (mode_of words).1
 
--- `PATTERN` alone
+-- the command `split` with the word `PATTERN`
 abbrev pub split_of : List (List ℕ) → Option CommandValue
 split_of [] = None
 split_of (pattern ∷ []) = Some (Split pattern)
 split_of (pattern ∷ word ∷ words) = None
 
--- `[-a] [NAME=DEF]..`
+-- the command `check` with the words `[-a] [NAME=DEF]..`
 abbrev pub check_of : List (List ℕ) → Option CommandValue
 check_of words = option_map (Check (mode_of words).0) (definitions_of (mode_of words).1)
 

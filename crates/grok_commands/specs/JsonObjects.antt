@@ -8,20 +8,22 @@ use Rattle.serde_json.specs.Data.{Data, null, boolean, number, string, array, ob
 use Rattle.serde_json.specs.Read.{read}
 use Rattle.serde_json.specs.Written.{compact_text}
 
+-- a member for each pair, whose value is a string
 abbrev pub members_of : List (List ℕ × List ℕ) → Members
 members_of [] = no_members
 members_of (pair ∷ pairs) = member pair.0 (string pair.1) (members_of pairs)
 
--- the `serde_json` value: an object with a member for each pair, whose value is a string
+-- the object of these members, as a value of `serde_json`
 abbrev pub object_of : List (List ℕ × List ℕ) → Data
 object_of pairs = object (members_of pairs)
 
--- the value with no space in it
+-- the text of the object, without spaces
 abbrev pub object_text : List (List ℕ × List ℕ) → List ℕ
 object_text pairs = compact_text (object_of pairs)
 
 -- ---- the way back
 
+-- A member, and then the pairs of the members after it. There are no pairs if a value isn't a string.
 abbrev pub with_pair : List ℕ → Data
     → Option (List (List ℕ × List ℕ)) → Option (List (List ℕ × List ℕ))
 with_pair key (string text) pairs = option_map (λ pairs. (key, text) ∷ pairs) pairs
@@ -31,11 +33,12 @@ with_pair key (number n) pairs = None
 with_pair key (array items) pairs = None
 with_pair key (object inner) pairs = None
 
+-- the pairs of members whose values are strings
 abbrev pub pairs_in_members : Members → Option (List (List ℕ × List ℕ))
 pairs_in_members no_members = Some []
 pairs_in_members (member key d more) = with_pair key d (pairs_in_members more)
 
--- the pairs of an object of strings
+-- the pairs of an object whose values are strings
 abbrev pub pairs_in : Data → Option (List (List ℕ × List ℕ))
 pairs_in (object inner) = pairs_in_members inner
 pairs_in null = None
@@ -44,7 +47,7 @@ pairs_in (number n) = None
 pairs_in (string text) = None
 pairs_in (array items) = None
 
--- The text, read by `serde_json`, gives these pairs again, if their keys rise.
+-- If the keys are in byte order, each once, then `serde_json` reads the text as an object with these pairs.
 abbrev pub ReadsBack : List (List ℕ × List ℕ) → List ℕ → Type 0
 ReadsBack pairs text =
     IsStrictlySortedBy (slice_cmp nat_cmp) (keys_of pairs)

@@ -1,5 +1,5 @@
--- The answers of `match` and of `json` to a line. `finds` says for each line what the engine
--- captures in it, and `keys` which group a key has.
+-- The answers of `match` and of `json` to a line. `finds` says what the engine captures in each line, and
+-- `keys` says which group each key has.
 use Rattle.std.specs.Prelude.{ℕ, List, ◌++◌, Option, Some, None, if◌then◌else◌, codes, flat_map}
 use Rattle.std.specs.Str.{is_utf8}
 use Rattle.grok.specs.KeyTable.{Entries}
@@ -8,7 +8,7 @@ use Rattle.grok_commands.specs.JsonObjects.{object_text}
 use Rattle.grok_commands.specs.declared.line_answers.LineFormat.{LineFormat}
 use Rattle.grok_commands.specs.declared.line_answers.LineFormat.TheVariants.{Pairs, Object}
 
--- for each line the text of each group, or none where nothing matches
+-- for each line, what its groups captured, or none if nothing matches
 abbrev pub Finds : Type 0
 Finds = List ℕ → Option (List (Option (List ℕ)))
 
@@ -26,11 +26,12 @@ no_match_text Object = codes "null\n"
 abbrev pub pair_line : List ℕ × List ℕ → List ℕ
 pair_line pair = pair.0 ++ codes "=" ++ pair.1 ++ codes "\n"
 
--- the answer to a match of these pairs
+-- the answer to a line whose match has these pairs
 abbrev pub match_text : LineFormat → List (List ℕ × List ℕ) → List ℕ
 match_text Pairs pairs = flat_map pair_line pairs ++ codes "\n"
 match_text Object pairs = object_text pairs ++ codes "\n"
 
+-- the answer to a line with these captures, or without a match
 abbrev pub found_text : LineFormat → Entries → Option (List (Option (List ℕ))) → List ℕ
 found_text format keys None = no_match_text format
 found_text format keys (Some captures) = match_text format (walk keys captures)

@@ -4,8 +4,8 @@ use Rattle.grok.specs.Pieces.{Piece, Regular, Placeholder, Malformed}
 use Rattle.grok.specs.Texts.{fault_words}
 use Rattle.grok_commands.specs.Answers.{Prints}
 
--- A piece's own bytes, or `<error F>` of a fault F, of which the words F alone are left open where
--- it has a character that isn't ASCII.
+-- The text of a piece, or `<error F>` for a fault F. How F is printed isn't specified if the character in it
+-- isn't ASCII.
 abbrev pub IsPieceText : Piece → List ℕ → Type 0
 IsPieceText (Regular from to text) printed = printed ≡ text
 IsPieceText (Placeholder from to text parts) printed = printed ≡ text

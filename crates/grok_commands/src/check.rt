@@ -17,7 +17,7 @@ use grok_lines::{LinesError, finish, hold};
 use std::alloc::{AllocError, Global};
 use std::io::Write;
 
-/// A measure, as a text.
+/// Returns what `check` writes for a measure: the size, or the text of the fault's error.
 fn text_of(alloc: Global, measure: Measure<'_>) -> Result<String, AllocError>
     ensures { IfOk result
         (λ text. IsMeasuredText (measure_view measure.entry) (string_bytes text)) }
@@ -36,7 +36,7 @@ fn names_in<'a>(alloc: Global, grok: &'a Grok) -> Result<Vec<&'a str>, AllocErro
     grok.names().collect(alloc)
 }
 
-/// The placeholder of each name.
+/// Returns the placeholder `%{NAME}` of each name.
 fn placeholders(alloc: Global, names: &[&str]) -> Result<Vec<String>, AllocError>
     ensures { IfOk result
         (λ patterns. map string_bytes patterns.items ≡ map placeholder_of (texts names.now)) }
@@ -49,7 +49,7 @@ fn placeholders(alloc: Global, names: &[&str]) -> Result<Vec<String>, AllocError
     Ok(patterns)
 }
 
-/// The texts of these strings.
+/// Returns these strings as slices.
 fn texts_in<'a>(alloc: Global, strings: &'a [String]) -> Result<Vec<&'a str>, AllocError>
     ensures { IfOk result (λ all. texts all.items ≡ map string_bytes strings.now) }
 {
@@ -60,7 +60,7 @@ fn texts_in<'a>(alloc: Global, strings: &'a [String]) -> Result<Vec<&'a str>, Al
     Ok(all)
 }
 
-/// Puts the line of a name and what its definition measures into `line`, in place of what it holds.
+/// Replaces `line` by the line for a name and the measure of its definition.
 fn write_line(
     alloc: Global,
     line: &mut String,
@@ -75,7 +75,8 @@ fn write_line(
     write!(line, "{name}: {text}\n")
 }
 
-/// Answers a line for each definition of the library. What has not gone out is held.
+/// Answers with a line for each definition of the library. Answers that aren't sent yet are in
+/// `held`.
 fn hold_definitions<W: Write>(
     alloc: Global,
     alias_only: bool,
@@ -107,13 +108,14 @@ fn hold_definitions<W: Write>(
     Ok(())
 }
 
-/// Sends a line for each definition of the library, also the default ones, in byte order of the names:
-/// the name, `: `, and the size of `%{NAME}` as `measure` tells it, or the text of its error. A fault is a line as any other and ends nothing.
+/// Sends a line for each definition, the default ones among them, in the byte order of the names:
+/// the name, `: `, and what `measure` sends for `%{NAME}`, or the text of its error. A faulty
+/// definition doesn't end the run.
 ///
 /// # Errors
 ///
-/// - `Memory`, after the lines of some first names, each whole.
-/// - `Write` where the output failed, about which nothing more is stated.
+/// - `Memory` if an allocation fails. The lines of some first names were sent, each as a whole.
+/// - `Write` if the output fails. It isn't stated how much was sent.
 pub fn check_definitions<W: Write>(
     alloc: Global,
     alias_only: bool,

@@ -6,12 +6,12 @@ ghost use Rattle.grok_commands.specs.Views.{request_view, command_view};
 
 use crate::definitions::Definitions;
 
-/// What is printed if the words are no command.
+/// The text that is printed if the words are no command.
 pub const USAGE: &str = "usage: grok_tool split PATTERN | measure [-a] PATTERN [NAME=DEF].. \
     | match [-a] PATTERN [NAME=DEF].. | json [-a] PATTERN [NAME=DEF].. \
     | check [-a] [NAME=DEF]..";
 
-/// A pattern, with the mode and the definitions to read it by.
+/// A pattern, its definitions, and whether only placeholders with an alias capture.
 #[derive(Drop)]
 pub struct Request<'a> {
     pub alias_only: bool,
@@ -19,25 +19,25 @@ pub struct Request<'a> {
     pub definitions: Definitions<'a>,
 }
 
-/// What the program is asked to do.
+/// A command: what the program is asked to do.
 #[derive(Drop)]
 pub enum Command<'a> {
-    /// To print the pieces of a pattern.
+    /// Print the pieces of a pattern.
     Split(&'a str),
-    /// To print the size of a pattern's text.
+    /// Print the size of a pattern's expanded text.
     Measure(Request<'a>),
-    /// To match each line of the input, and to print the pairs.
+    /// Match each line of the input, and print the pairs.
     Match(Request<'a>),
-    /// To match each line of the input, and to print the pairs as JSON.
+    /// Match each line of the input, and print the pairs as a JSON object.
     Json(Request<'a>),
-    /// To print the size of each definition.
+    /// Print the size of each definition.
     Check {
         alias_only: bool,
         definitions: Definitions<'a>,
     },
 }
 
-/// The mode that words begin with, and the words after it.
+/// Returns whether the words begin with `-a`, and the words after that.
 fn read_mode<'a>(words: &'a [&'a str]) -> (bool, &'a [&'a str])
     ensures { (result.0, texts result.1.now) ≡ mode_of (texts words.now) }
 {
@@ -47,7 +47,8 @@ fn read_mode<'a>(words: &'a [&'a str]) -> (bool, &'a [&'a str])
     }
 }
 
-/// The mode, the pattern and the definitions.
+/// Returns the request that the words `[-a] PATTERN [NAME=DEF]..` make, or `None` if they aren't
+/// such words.
 fn read_request<'a>(words: &'a [&'a str]) -> Option<Request<'a>>
     ensures { option_map request_view result ≡ request_of (texts words.now) }
 {
@@ -60,7 +61,8 @@ fn read_request<'a>(words: &'a [&'a str]) -> Option<Request<'a>>
     })
 }
 
-/// The mode and the definitions to check.
+/// Returns the command `check` with the words `[-a] [NAME=DEF]..`, or `None` if they aren't such
+/// words.
 fn read_check<'a>(words: &'a [&'a str]) -> Option<Command<'a>>
     ensures { option_map command_view result ≡ check_of (texts words.now) }
 {
@@ -71,7 +73,7 @@ fn read_check<'a>(words: &'a [&'a str]) -> Option<Command<'a>>
     })
 }
 
-/// The command that the words are, if they are one.
+/// Returns the command that the words of a command line are, or `None` if they are no command.
 pub fn read_command<'a>(words: &'a [&'a str]) -> Option<Command<'a>>
     ensures { option_map command_view result ≡ command_of (texts words.now) }
 {

@@ -8,7 +8,7 @@ use grok::Grok;
 use std::alloc::{AllocError, Global};
 use std::marker::Model;
 
-/// Words `NAME=DEF`. Contracts see the names with their definitions.
+/// Words `NAME=DEF`, of which each has a `=`. Contracts see the names with their definitions.
 #[derive(Drop)]
 pub struct Definitions<'a> {
     words: &'a [&'a str],
@@ -32,14 +32,14 @@ fn has_equals(word: &str) -> bool
     word.as_bytes().iter().any(|b| *b == b'=')
 }
 
-/// Whether each word has a `=`.
+/// Returns whether each word has a `=`.
 fn each_has_equals(words: &[&str]) -> bool
     ensures { result ≡ list_all (λ word. has_equals word.now) words.now }
 {
     words.iter().all(|word| has_equals(word))
 }
 
-/// A word cut at its first `=`.
+/// Returns what a word has before its first `=`, and what it has after it.
 fn cut<'a>(word: &'a str) -> (&'a str, &'a str)
     requires { has_equals word.now ≡ true }
     ensures { (result.0.now, result.1.now) ≡ cut_word word.now }
@@ -48,7 +48,7 @@ fn cut<'a>(word: &'a str) -> (&'a str, &'a str)
 }
 
 impl<'a> Definitions<'a> {
-    /// The words, if each has a `=`.
+    /// Takes the words as definitions, or returns `None` if one of them has no `=`.
     pub fn new(words: &'a [&'a str]) -> Option<Definitions<'a>>
         ensures { result ≡ definitions_of (texts words.now) }
     {
@@ -59,7 +59,12 @@ impl<'a> Definitions<'a> {
         }
     }
 
-    /// The library of these definitions.
+    /// Returns the library of the default definitions and these ones. A later definition of a name
+    /// replaces an earlier one.
+    ///
+    /// # Errors
+    ///
+    /// If an allocation fails.
     pub fn library(&self, alloc: Global) -> Result<Grok, AllocError>
         ensures { IfOk result (λ grok. grok ≡ library_of self.now) }
     {

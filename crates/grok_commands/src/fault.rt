@@ -16,7 +16,7 @@ pub enum ToolFault {
     Pattern(grok::Error),
     /// The words are no command.
     Usage,
-    /// There was not enough memory.
+    /// An allocation failed.
     Memory,
     /// The input failed.
     Read,

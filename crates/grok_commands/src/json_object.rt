@@ -9,7 +9,7 @@ use grok::MatchesRef;
 use serde::{Described, Serialize, Serializer};
 use std::alloc::{AllocError, Global};
 
-/// The object of a match: a member for each pair, whose value is a string.
+/// The JSON object of a match. Each pair is a member, and its value is a string.
 #[derive(Clone, Copy)]
 struct MatchObject<'m>(MatchesRef<'m>);
 
@@ -28,7 +28,11 @@ impl<'m> Serialize for MatchObject<'m> {
     }
 }
 
-/// Appends the object of a match, with no space in it. What an error leaves in `text` is not said.
+/// Appends the JSON object of a match, without spaces.
+///
+/// # Errors
+///
+/// If an allocation fails. It isn't stated what `text` has then.
 pub fn write_object(
     alloc: Global,
     text: &mut Vec<u8>,
@@ -40,7 +44,7 @@ pub fn write_object(
         (borrowed_captures matches.entry))
         (object_text (walk (borrowed_keys matches.entry) (borrowed_captures matches.entry)))) }
 {
-    // No step above is refused for another reason than memory.
+    // Serializing fails only if an allocation fails.
     match serde_json::to_vec(alloc, &MatchObject(matches)) {
         Ok(object) => text.extend_from_slice(&object),
         Err(_) => Err(AllocError),

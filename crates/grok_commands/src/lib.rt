@@ -1,5 +1,4 @@
-//! The commands of the program `grok_tool`: from its words, input and output to its answers or its
-//! fault.
+//! The commands of the program `grok_tool`: what it does with its words, its input and its output.
 #![tactic(auto)]
 
 ghost use Rattle.std.specs.Prelude.{◌≡◌, ◌↔◌, ◌⊎◌, None, OnOk, IfSome, IsErrOf};
@@ -27,18 +26,17 @@ use matching::answer_input;
 use std::alloc::Global;
 use std::io::{Read, Write};
 
-/// Does what the words say: reads from `input` and writes the answers to `output`. Answers are held
-/// until they are many. They go out, and the output is flushed, before each read of the input and
-/// before the run ends, after a fault too unless that is the output's.
+/// Runs the command that the words are: reads from `input` and writes the answers to `output`.
+/// Answers are held until they are long. They go out, and the output is flushed, before each read
+/// of the input and before the run ends. That is so after a fault too, unless it is the output's.
 ///
 /// # Errors
 ///
-/// - `Usage` where the words are no command, before anything else.
-/// - `Pattern` where the pattern has a fault or the engine refused it, before anything is read or
-///   written.
-/// - `Memory`, after some first answers.
-/// - `Read`, after the answers to the lines that a line feed ended in what was read.
-/// - `Write`, about which nothing more is stated.
+/// - `Usage` if the words are no command. Nothing was read or written.
+/// - `Pattern` if the pattern has a fault or the engine refuses it. Nothing was read or written.
+/// - `Memory` if an allocation fails. Some first answers were written, each as a whole.
+/// - `Read` if the input fails. The answers to the lines that had ended were written.
+/// - `Write` if the output fails. It isn't stated how much was written.
 pub fn run<R: Read, W: Write>(
     alloc: Global,
     words: &[&str],
@@ -53,7 +51,7 @@ pub fn run<R: Read, W: Write>(
         (λ command. HasJob command (IsDone (traffic (R.remaining input.old) (R.remaining input.new)
         (W.contents output.old) (W.contents output.new))))) }
 
-    // Nothing was read or written where the pattern is at fault.
+    // If the pattern has a fault, nothing was read or written.
     ensures pattern { (error : Error) → result ≡ Err (ToolFault.Pattern error)
         → IfSome (command_of (texts words.now))
         (λ command. IsPatternFault command (error_value error)) }
@@ -61,7 +59,7 @@ pub fn run<R: Read, W: Write>(
         → IsUntouched (traffic (R.remaining input.old) (R.remaining input.new)
         (W.contents output.old) (W.contents output.new)) }
 
-    // Memory can be wanting before it is known whether the pattern is at fault.
+    // An allocation can fail before it is known whether the pattern has a fault.
     ensures memory { IsErrOf result ToolFault.Memory → IfSome (command_of (texts words.now))
         (λ command. IsUntouched (traffic (R.remaining input.old) (R.remaining input.new)
         (W.contents output.old) (W.contents output.new))

@@ -13,13 +13,13 @@ use std::alloc::{AllocError, Global};
 /// How the answer to a line is written.
 #[derive(Clone, Copy)]
 pub enum LineFormat {
-    /// As lines `KEY=VALUE` and an empty line, which is what `match` does.
+    /// As lines `KEY=VALUE` and an empty line, for `match`.
     Pairs,
-    /// As a JSON object, which is what `json` does.
+    /// As a JSON object, for `json`.
     Object,
 }
 
-/// The line as a text, if it is UTF-8.
+/// Returns the line as a text, or `None` if it isn't UTF-8.
 #[tactic(auto, using(crate::proofs::Utf8Lines::text_of_line, crate::proofs::Utf8Lines::no_text_of_line))]
 fn text_of(line: &[u8]) -> Option<&str>
     ensures { option_map (λ text. text.now) result
@@ -54,7 +54,7 @@ fn write_pairs(text: &mut Vec<u8>, matches: MatchesRef<'_>) -> Result<(), AllocE
 }
 
 impl LineFormat {
-    /// The answer to a line that is not UTF-8.
+    /// Returns the answer to a line that isn't UTF-8.
     fn not_utf8(self) -> &'static [u8]
         ensures { result.now ≡ not_utf8_text self }
     {
@@ -64,7 +64,7 @@ impl LineFormat {
         }
     }
 
-    /// The answer to a line in which nothing matches.
+    /// Returns the answer to a line in which nothing matches.
     #[inline(always)]
     fn no_match(self) -> &'static [u8]
         ensures { result.now ≡ no_match_text self }
@@ -75,7 +75,7 @@ impl LineFormat {
         }
     }
 
-    /// Appends the answer to a match.
+    /// Appends the answer to a line with this match.
     fn write_match(
         self,
         alloc: Global,
@@ -94,13 +94,13 @@ impl LineFormat {
     }
 }
 
-/// Answers lines by a matcher.
+/// Answers lines with a matcher.
 #[derive(Drop)]
 pub struct MatchAnswers<'p, E: HasMatcher<'p>> {
     pub alloc: Global,
     pub format: LineFormat,
     pub matcher: MatcherOf<'p, E>,
-    /// Where the answer to a match is put together. What it holds from the line before is lost.
+    /// The answer to a match is put together here. It replaces that of the line before.
     pub answer: Vec<u8>,
 }
 
@@ -118,7 +118,8 @@ impl<'p, E: HasMatcher<'p>> LineAnswers for MatchAnswers<'p, E> {
         }
     }
 
-    // With all that it calls for a line that doesn't match this is a part of the loop over lines, which is faster so.
+    // With all that it calls for a line that doesn't match, this is compiled into the loop over
+    // lines, which is faster.
     #[inline(always)]
     #[tactic(auto, using(crate::proofs::Utf8Lines::text_of_line))]
     fn answer_str(&mut self, text: &mut Vec<u8>, line: &str) -> Result<(), AllocError> {

@@ -16,7 +16,7 @@ use grok_lines::{LineAnswers, answer_lines};
 use std::alloc::Global;
 use std::io::{Read, Write};
 
-/// The fault of a run whose pattern isn't compiled.
+/// Returns the fault of a run if compiling its pattern returned this error.
 fn pattern_fault(error: grok::Error) -> ToolFault
     ensures memory { error_value error ≡ memory → result ≡ ToolFault.Memory }
     ensures pattern { error_value error ≢ memory → result ≡ ToolFault.Pattern error }
@@ -27,7 +27,11 @@ fn pattern_fault(error: grok::Error) -> ToolFault
     }
 }
 
-/// The pattern of a request.
+/// Compiles the pattern of a request.
+///
+/// # Errors
+///
+/// `Memory` or `Pattern`.
 fn compile(alloc: Global, request: &Request<'_>) -> Result<Pattern, ToolFault>
     ensures ok { IfOk result (IsCompiled (request_view request.now)) }
     ensures pattern { (error : Error) → result ≡ Err (ToolFault.Pattern error)
@@ -63,7 +67,7 @@ fn answer_each<A: LineAnswers, R: Read, W: Write>(
     Ok(answer_lines(alloc, answers, input, output)?)
 }
 
-/// Sends the answer to each line of the input, by the pattern of a request.
+/// Matches each line of the input against the pattern of a request, and sends the answers.
 pub fn answer_input<R: Read, W: Write>(
     alloc: Global,
     format: LineFormat,

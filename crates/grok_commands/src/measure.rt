@@ -16,7 +16,11 @@ use grok_lines::send;
 use std::alloc::{AllocError, Global};
 use std::io::Write;
 
-/// Appends the size of a pattern, or answers its fault.
+/// Appends the size in a measure, or returns the fault in it.
+///
+/// # Errors
+///
+/// If an allocation fails.
 pub fn write_measure<'a>(
     text: &mut String,
     measure: Measure<'a>,
@@ -41,15 +45,16 @@ pub fn write_measure<'a>(
     Ok(None)
 }
 
-/// Sends the size of the text that the request's pattern stands for, with a line feed: its length in
-/// bytes, its groups, and how many levels of placeholders are nested. Where the length passes the
-/// greatest `usize` it sends `too long`.
+/// Sends the size of the pattern's expanded text, with a line feed: its length in bytes, its number
+/// of groups, and the greatest nesting in levels. If the length doesn't fit a `usize`, it sends
+/// `too long`.
 ///
 /// # Errors
 ///
 /// - `Pattern` with the pattern's first structural fault. Nothing was written.
-/// - `Memory`, also before anything was written.
-/// - `Write` where the output failed, about which nothing more is stated; the pattern had no fault.
+/// - `Memory` if an allocation fails. Nothing was written.
+/// - `Write` if the output fails. The pattern has no fault then. It isn't stated how much was
+///   written.
 pub fn measure_pattern<W: Write>(
     alloc: Global,
     request: &Request<'_>,

@@ -14,14 +14,14 @@ use grok_lines::{LinesError, finish, hold};
 use std::alloc::{AllocError, Global};
 use std::io::Write;
 
-/// The words of a fault, as Debug prints them.
+/// Returns the name of a fault, as Debug prints it.
 fn words_of(alloc: Global, fault: &GrokPatternError) -> Result<String, AllocError>
     ensures { IfOk result (λ words. Prints (fault_words fault.now) (string_bytes words)) }
 {
     format!(in alloc; "{fault:?}")
 }
 
-/// Puts the line of a piece into `text`, in place of what it holds.
+/// Replaces `text` by the line for a piece.
 fn write_line(alloc: Global, text: &mut String, piece: &GrokComponent<'_>) -> Result<(), AllocError>
     ensures { OnOk result (IsPieceLine (piece_view piece.now) (string_bytes text.new)) }
 {
@@ -37,7 +37,8 @@ fn write_line(alloc: Global, text: &mut String, piece: &GrokComponent<'_>) -> Re
     text.push('\n')
 }
 
-/// Answers the pieces of a pattern, each with a line feed. What has not gone out is held.
+/// Answers with the pieces of a pattern, each with a line feed. Answers that aren't sent yet are in
+/// `held`.
 fn hold_pieces<W: Write>(
     alloc: Global,
     pattern: &str,
@@ -61,6 +62,11 @@ fn hold_pieces<W: Write>(
 }
 
 /// Sends the pieces of a pattern, each with a line feed.
+///
+/// # Errors
+///
+/// - `Memory` if an allocation fails. Some first pieces were sent, each as a whole.
+/// - `Write` if the output fails. It isn't stated how much was sent.
 pub fn split<W: Write>(alloc: Global, pattern: &str, output: &mut W) -> Result<(), ToolFault>
     ensures ok { OnOk result (HasAnswered IsPieceLine (pieces pattern.now)
         (W.contents output.old) (W.contents output.new)) }

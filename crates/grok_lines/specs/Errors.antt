@@ -1,4 +1,4 @@
--- What a result says of the output.
+-- Whether an error is a failure of the output.
 use Rattle.std.specs.Prelude.{Result, Ok, Err}
 use Rattle.grok_lines.specs.declared.error.LinesError.{LinesError}
 use Rattle.grok_lines.specs.declared.error.LinesError.TheVariants.{Memory, Read, Write}
@@ -9,7 +9,7 @@ IsWriteError Memory = ⊥
 IsWriteError Read = ⊥
 IsWriteError (Write reason) = Unit {0}
 
--- this holds, unless the output failed
+-- this holds unless the result is that the output failed
 abbrev pub UnlessWriteFailed : {A : Type 0} → Result A LinesError → Type 0 → Type 0
 UnlessWriteFailed (Ok a) Holds = Holds
 UnlessWriteFailed (Err Memory) Holds = Holds

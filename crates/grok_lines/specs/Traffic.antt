@@ -1,13 +1,15 @@
--- What passes through a run.
+-- What a run reads and writes.
 use Rattle.std.specs.Prelude.{ℕ, List, Option}
 
--- the bytes that a reader has left and that a writer holds, before and after, where they are known
+-- The bytes that the reader has left, and those that the writer has got, before the run and after it. The kit
+-- doesn't know them of every reader and writer.
 pub record Traffic : Type 0 where
   pub unread_old : Option (List ℕ)
   pub unread_new : Option (List ℕ)
   pub written_old : Option (List ℕ)
   pub written_new : Option (List ℕ)
 
+-- these four together
 abbrev pub traffic : Option (List ℕ) → Option (List ℕ) → Option (List ℕ) → Option (List ℕ) → Traffic
 traffic unread_old unread_new written_old written_new =
     record {

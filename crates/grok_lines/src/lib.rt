@@ -1,7 +1,7 @@
 //! Reads lines, answers each, and sends the answers before each read.
 //!
-//! [`answer_lines`] reads an input to its end. What answers a line is a [`LineAnswers`]. [`send`], [`hold`] and
-//! [`finish`] are the steps by which answers go out, for runs that read no lines.
+//! [`answer_lines`] reads an input to its end, and a [`LineAnswers`] answers each line. For runs
+//! that read no lines, [`hold`], [`send`] and [`finish`] hold answers back and send them.
 #![tactic(auto)]
 
 mod error;

@@ -1,4 +1,5 @@
-//! What goes out. Answers are held until they are many, until the input is read and until the run ends.
+//! Sends answers. They are held back until they are long, and go out before each read of the input
+//! and before the run ends.
 ghost use Rattle.std.specs.Prelude.{◌≡◌, ◌⊎◌, [], OnOk, IfErr, IsErrOf};
 ghost use Rattle.std.specs.Io.KnownBytes.{Appends, Keeps, append_known};
 ghost use Rattle.grok_lines.specs.Errors.{IsWriteError, UnlessWriteFailed};
@@ -9,7 +10,11 @@ use std::io::Write;
 /// Held answers are sent once they have this many bytes.
 const HELD_SIZE: usize = 64 * 1024;
 
-/// Sends all that is held, and flushes.
+/// Sends all held answers, and flushes the output.
+///
+/// # Errors
+///
+/// If the output fails.
 pub fn send<W: Write>(held: &mut Vec<u8>, output: &mut W) -> Result<(), LinesError>
     ensures bytes { OnOk result (Appends (W.contents output.old) (W.contents output.new)
         held.old.items) }
@@ -21,7 +26,11 @@ pub fn send<W: Write>(held: &mut Vec<u8>, output: &mut W) -> Result<(), LinesErr
     output.flush().map_err(LinesError::Write)
 }
 
-/// Sends all that is held, once it is long.
+/// Sends the held answers if they are long, and flushes then.
+///
+/// # Errors
+///
+/// If the output fails.
 #[inline(always)]
 pub fn send_long<W: Write>(held: &mut Vec<u8>, output: &mut W) -> Result<(), LinesError>
     ensures ok { OnOk result (Keeps (append_known (W.contents output.old) held.old.items)
@@ -34,7 +43,12 @@ pub fn send_long<W: Write>(held: &mut Vec<u8>, output: &mut W) -> Result<(), Lin
     send(held, output)
 }
 
-/// Holds one answer, and sends all that is held once it is long.
+/// Adds an answer to the held ones, and sends these if they are long now.
+///
+/// # Errors
+///
+/// - `Memory` if an allocation fails. The answer isn't held then.
+/// - `Write` if the output fails.
 pub fn hold<W: Write>(held: &mut Vec<u8>, output: &mut W, answer: &[u8]) -> Result<(), LinesError>
     ensures ok { OnOk result (Appends (append_known (W.contents output.old) held.old.items)
         (append_known (W.contents output.new) held.new.items) answer.now) }
@@ -47,7 +61,12 @@ pub fn hold<W: Write>(held: &mut Vec<u8>, output: &mut W, answer: &[u8]) -> Resu
     send_long(held, output)
 }
 
-/// Ends a run that came to this: what it held goes out, after a fault too, unless that is the output's.
+/// Ends a run with the result `ran`: sends the held answers, also if the run failed, and returns
+/// the same result. If the output has failed already, it sends nothing.
+///
+/// # Errors
+///
+/// The error of the run, or `Write` if the output fails.
 pub fn finish<W: Write>(
     ran: Result<(), LinesError>,
     held: &mut Vec<u8>,
