@@ -178,9 +178,8 @@ fn located_report(
     let Some(location) = library.grok.locate(pattern)? else {
         return Ok(None);
     };
-    match location.fault.to_error(alloc) {
-        Ok(found) if found == *error => {}
-        _ => return Ok(None),
+    if location.fault.to_error(alloc)? != *error {
+        return Ok(None);
     }
     let (mut report, part) = structural_report(alloc, library, &location)?;
     report.place = place_of(alloc, library, location.path.as_slice())?;
@@ -242,8 +241,8 @@ fn refusal_report(
             }
             RefusalReason::TooBig => too_large(alloc),
         },
-        // The same text was refused before.
-        Ok(None) => too_large(alloc),
+        // The engine takes this text, so an allocation failed when it was refused before.
+        Ok(None) => Err(AllocError),
         // Compiling the pattern got as far as the engine, so only memory can have run out.
         Err(_) => Err(AllocError),
     }
