@@ -19,7 +19,7 @@ const MOST_STEPS: usize = 8;
 
 /// What may stand in a placeholder.
 const PLACEHOLDERS: &str =
-    "write %{NAME}, %{NAME:alias} or %{NAME:alias:extract}, where a NAME has a-z A-Z 0-9 _, and an alias or extract a-z A-Z 0-9 _ - . [ ]";
+    "write %{NAME}, %{NAME:alias} or %{NAME:alias:extract}, where a NAME has a-z A-Z 0-9 _, and an alias or extract a-z A-Z 0-9 _ - . [ ]; give definitions that have braces by -D or -d";
 
 /// What to do about forms that only Logstash's engine knows.
 const FROM_LOGSTASH: &str =
@@ -109,6 +109,25 @@ fn incomplete(piece: &str) -> &'static str {
     }
 }
 
+/// Returns what is wrong with a placeholder that has an empty part, or whose own definition can't be
+/// read.
+fn wrong_part(piece: &str) -> &'static str {
+    let rest = piece.get(words_end(piece)..).unwrap_or("");
+    let Some(definition) = rest.strip_prefix('=') else {
+        return "a part of this placeholder is empty";
+    };
+    let end = definition.find('}').unwrap_or(definition.len());
+    if definition.find('{').is_some_and(|brace| brace < end) {
+        "a definition inside a placeholder can't have a {"
+    } else if end == definition.len() {
+        "this placeholder isn't closed by }"
+    } else if end == 0 {
+        "the definition in this placeholder is empty"
+    } else {
+        "a part of this placeholder is empty"
+    }
+}
+
 /// Returns what is wrong with a malformed placeholder, in words, and the part of it that is wrong.
 fn malformed(
     alloc: Global,
@@ -126,9 +145,7 @@ fn malformed(
             return Ok((what, at..at.saturating_add(c.len_utf8())));
         }
         GrokPatternError::InvalidPattern => incomplete(piece),
-        GrokPatternError::InvalidPatternDefinition => {
-            "a part of this placeholder is empty, or its definition has a { or no end"
-        }
+        GrokPatternError::InvalidPatternDefinition => wrong_part(piece),
     };
     Ok((String::from_str(alloc, what)?, 0..end))
 }
@@ -136,6 +153,34 @@ fn malformed(
 /// Returns a range that lies so many bytes further on.
 fn moved(range: Range<usize>, by: usize) -> Range<usize> {
     range.start.saturating_add(by)..range.end.saturating_add(by)
+}
+
+/// Returns the first name of a path that comes in it for the second time.
+fn repeated<'x>(path: &[&'x str]) -> Option<&'x str> {
+    for (number, name) in path.iter().enumerate() {
+        if path.iter().take(number).any(|before| *before == *name) {
+            return Some(name);
+        }
+    }
+    None
+}
+
+/// Returns the report of placeholders that are nested too deeply, to which these definitions lead.
+fn too_deep(alloc: Global, path: &[&str]) -> Result<Report, AllocError> {
+    let Some(name) = repeated(path) else {
+        let what = "placeholders are nested more than 1,023 levels deep";
+        return Report::new(
+            alloc,
+            what,
+            "",
+            "use fewer definitions that use one another",
+        );
+    };
+    let what = format!(in alloc; "the definition {name} uses itself")?;
+    let advice = format!(in alloc;
+        "change {name}, or a definition that it uses, so that it doesn't lead back to {name}"
+    )?;
+    Report::new(alloc, what.as_str(), "", advice.as_str())
 }
 
 /// Returns the report of a structural fault, without its place.
@@ -160,11 +205,7 @@ fn structural_report(
                 range,
             ))
         }
-        Fault::TooDeep => {
-            let what = "placeholders are nested more than 1,023 levels deep";
-            let advice = "look for a definition that uses itself";
-            Ok((Report::new(alloc, what, "", advice)?, range))
-        }
+        Fault::TooDeep => Ok((too_deep(alloc, location.path.as_slice())?, range)),
     }
 }
 
@@ -178,9 +219,8 @@ fn located_report(
     let Some(location) = library.grok.locate(pattern)? else {
         return Ok(None);
     };
-    match location.fault.to_error(alloc) {
-        Ok(found) if found == *error => {}
-        _ => return Ok(None),
+    if location.fault.to_error(alloc)? != *error {
+        return Ok(None);
     }
     let (mut report, part) = structural_report(alloc, library, &location)?;
     report.place = place_of(alloc, library, location.path.as_slice())?;
@@ -193,7 +233,7 @@ fn advice_for_refusal(alloc: Global, text: &str) -> Result<&'static str, AllocEr
     Ok(if is_refused(alloc, text)? {
         FROM_LOGSTASH
     } else {
-        "write it as Rust's crate regex has it, where backreferences, among others, are missing"
+        "write it in the syntax of Rust's regex crate, which https://docs.rs/regex/#syntax shows"
     })
 }
 
@@ -242,8 +282,8 @@ fn refusal_report(
             }
             RefusalReason::TooBig => too_large(alloc),
         },
-        // The same text was refused before.
-        Ok(None) => too_large(alloc),
+        // The engine takes this text, so an allocation failed when it was refused before.
+        Ok(None) => Err(AllocError),
         // Compiling the pattern got as far as the engine, so only memory can have run out.
         Err(_) => Err(AllocError),
     }

@@ -38,7 +38,7 @@ pub struct Library<'a> {
 fn no_definition(alloc: Global, origin: Origin<'_>, line: &str) -> Result<Fault, AllocError> {
     let advice = "write NAME=DEF or NAME DEF, where a NAME has a-z A-Z 0-9 _";
     let place = format!(in alloc; "{origin}")?;
-    let mut report = Report::new(alloc, "this is no definition", place.as_str(), advice)?;
+    let mut report = Report::new(alloc, "this isn't a definition", place.as_str(), advice)?;
     report.excerpt = excerpt(alloc, line, 0..line.len())?;
     Ok(Fault::Pattern(report))
 }
@@ -116,9 +116,16 @@ impl<'a> Library<'a> {
         is_from_logstash: bool,
     ) -> Result<Library<'a>, Fault> {
         let definitions = collect(alloc, files, words)?;
+        let mut last = BTreeMap::new(alloc);
+        for (number, definition) in definitions.iter().enumerate() {
+            last.insert(definition.name, number)?;
+        }
         let mut library = Library::with_default_definitions(alloc, is_from_logstash)?;
-        for definition in &definitions {
-            library.set(alloc, *definition)?;
+        for (number, definition) in definitions.iter().enumerate() {
+            // One that is replaced means nothing, so its changes aren't noted either.
+            if last.get(definition.name).copied() == Some(number) {
+                library.set(alloc, *definition)?;
+            }
         }
         Ok(library)
     }
@@ -134,7 +141,7 @@ impl<'a> Library<'a> {
     }
 
     /// Returns a text as it is compiled: rewritten if it was made for Logstash. What is changed is
-    /// noted under this place.
+    /// noted under this place, and the same change at the same place once.
     ///
     /// # Errors
     ///
@@ -146,7 +153,9 @@ impl<'a> Library<'a> {
         let Rewritten { text, changes } = rewrite(alloc, text)?;
         for change in &changes {
             let note = format!(in alloc; "in {place}, {change}")?;
-            self.changes.push(note)?;
+            if !self.changes.iter().any(|noted| *noted == note) {
+                self.changes.push(note)?;
+            }
         }
         Ok(text)
     }

@@ -26,7 +26,7 @@ fn read_words(rt: &HostRuntime) -> Result<Vec<String>, Fault> {
         Err(error) if error.kind() == ErrorKind::OutOfMemory => Err(Fault::Memory),
         Err(_) => Err(Fault::Usage(Report::new(
             rt.alloc(),
-            "a word of the command line is no UTF-8",
+            "a word of the command line isn't UTF-8",
             "",
             "write patterns and names of files in UTF-8",
         )?)),

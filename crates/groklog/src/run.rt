@@ -28,9 +28,9 @@ fn file_fault(alloc: Global, file: &str, kind: ErrorKind) -> Result<Fault, Alloc
         ErrorKind::OutOfMemory => return Ok(Fault::Memory),
         ErrorKind::NotFound => (
             format!(in alloc; "there is no file {file}")?,
-            "another name",
+            "check its name, and the folder that you are in",
         ),
-        ErrorKind::InvalidData => (format!(in alloc; "{file} isn't UTF-8")?, ""),
+        ErrorKind::InvalidData => (format!(in alloc; "{file} isn't UTF-8")?, "save it as UTF-8"),
         kind => (format!(in alloc; "can't read {file}: {kind}")?, ""),
     };
     Ok(Fault::Read(Report::new(alloc, what.as_str(), "", advice)?))
