@@ -1,8 +1,9 @@
 //! Makes one call of the library or of the program's commands, the one that the words name.
 //!
-//! `timed` calls are what `bench/` times. Each other call is made twice, for `tests/refusals/run`, which refuses the first
-//! one each request for memory in turn. It stands between the lines `[call` and `[done` on standard error, so that no
-//! request of the preparations is counted; standard output has the answers.
+//! `timed` calls are what `bench/` times, and `pairs` compares the ways to match for `tests/pairs/run`. Each other call is
+//! made twice, for `tests/refusals/run`, which refuses the first one each request for memory in turn. It stands between
+//! the lines `[call` and `[done` on standard error, so that no request of the preparations is counted; standard output has
+//! the answers.
 #![tactic(auto)]
 
 /// The names of the two calls.
@@ -25,6 +26,7 @@ mod engines;
 mod errors;
 mod matches;
 mod measures;
+mod pairs;
 mod pieces;
 mod runs;
 mod timed;
@@ -70,8 +72,11 @@ fn main(rt: HostRuntime) -> Result<()> {
     let name = words.get(1).map(|word| word.as_str());
     let pattern = words.get(2).map(|word| word.as_str());
     match (group, name) {
+        (Some("pairs"), None) => pairs::call(&rt),
         (Some("timed"), Some(name)) => timed::call(&rt, name, pattern),
         (Some(group), Some(name)) => make_call(&rt, group, name),
-        _ => bail!("usage: grok_calls CALLS CALL | grok_calls timed CALL [PATTERN] < TEXT"),
+        _ => bail!(
+            "usage: grok_calls CALLS CALL | grok_calls timed CALL [PATTERN] < TEXT | grok_calls pairs < TEXT"
+        ),
     }
 }

@@ -62,7 +62,7 @@ fn time_regex(rt: &HostRuntime) -> Result<()> {
 }
 
 /// The library of these lines, `NAME=DEF` each. A later one of a name replaces an earlier one.
-fn library(alloc: Global, lines: &str) -> Result<Grok> {
+pub(crate) fn library(alloc: Global, lines: &str) -> Result<Grok> {
     let mut grok = Grok::empty(alloc);
     for line in lines.lines() {
         let Some((name, definition)) = line.split_once("=") else {

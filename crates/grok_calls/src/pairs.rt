@@ -1,0 +1,178 @@
+//! Pairs of a pattern and a line, which `tests/pairs/run` makes: every way to match has to return the same.
+use crate::timed::library;
+use anyhow::{Result, bail};
+use grok::{Grok, Matcher, Pattern};
+use std::alloc::{AllocError, Global};
+use std::{fmt, io};
+
+/// Stands between the definitions and the first pattern, and between two patterns.
+const BETWEEN_PATTERNS: char = '\u{1e}';
+
+/// Stands between the parts of a pattern: the letter `a` if only placeholders with an alias capture, its text, and its
+/// lines.
+const BETWEEN_PARTS: char = '\u{1f}';
+
+/// What each way to match returns for a line, as texts of all keys and values.
+#[derive(Drop)]
+struct Answers {
+    /// The pattern's own call, whose search is built by its second call and kept from then on.
+    own: String,
+    /// A matcher that is kept for all lines, by its `match_against`.
+    kept: String,
+    /// The same matcher, by its `find`.
+    found: String,
+    /// A matcher that is made for this line alone.
+    uncached: String,
+}
+
+impl Answers {
+    /// Matches a line in each way.
+    fn of(
+        alloc: Global,
+        pattern: &Pattern,
+        matcher: &mut Matcher<'_>,
+        line: &str,
+    ) -> Result<Answers, AllocError> {
+        Ok(Answers {
+            own: own_answer(alloc, pattern, line)?,
+            kept: kept_answer(alloc, matcher, line)?,
+            found: found_answer(alloc, matcher, line)?,
+            uncached: uncached_answer(alloc, pattern, line)?,
+        })
+    }
+
+    fn are_the_same(&self) -> bool {
+        self.own == self.uncached && self.kept == self.uncached && self.found == self.uncached
+    }
+
+    fn is_match(&self) -> bool {
+        self.uncached.as_str() != "None"
+    }
+}
+
+impl fmt::Display for Answers {
+    fn fmt<W: fmt::Write>(&self, f: &mut fmt::Formatter<W>) -> fmt::Result {
+        let own = self.own.as_str();
+        let kept = self.kept.as_str();
+        let found = self.found.as_str();
+        let uncached = self.uncached.as_str();
+        write!(
+            f,
+            "own {own}, kept {kept}, find {found}, uncached {uncached}"
+        )
+    }
+}
+
+fn own_answer<'a>(
+    alloc: Global,
+    pattern: &'a Pattern,
+    line: &'a str,
+) -> Result<String, AllocError> {
+    let found = pattern.match_against(line)?;
+    format!(in alloc; "{found:?}")
+}
+
+fn kept_answer<'p, 'a>(
+    alloc: Global,
+    matcher: &mut Matcher<'p>,
+    line: &'a str,
+) -> Result<String, AllocError>
+where
+    'p: 'a,
+{
+    let found = matcher.match_against(line)?;
+    format!(in alloc; "{found:?}")
+}
+
+fn found_answer<'p, 'm>(
+    alloc: Global,
+    matcher: &'m mut Matcher<'p>,
+    line: &'m str,
+) -> Result<String, AllocError>
+where
+    'p: 'm,
+{
+    let found = matcher.find(line)?;
+    format!(in alloc; "{found:?}")
+}
+
+fn uncached_answer<'a>(
+    alloc: Global,
+    pattern: &'a Pattern,
+    line: &'a str,
+) -> Result<String, AllocError> {
+    let mut matcher = pattern.matcher()?;
+    kept_answer(alloc, &mut matcher, line)
+}
+
+/// How many lines of a pattern were matched, how many of them match, and for how many the answers differ.
+#[derive(Clone, Copy, Default)]
+struct Counts {
+    lines: u64,
+    matches: u64,
+    different: u64,
+}
+
+impl fmt::Display for Counts {
+    fn fmt<W: fmt::Write>(&self, f: &mut fmt::Formatter<W>) -> fmt::Result {
+        let lines = self.lines;
+        let matches = self.matches;
+        let different = self.different;
+        write!(f, "lines {lines} matches {matches} different {different}")
+    }
+}
+
+impl Counts {
+    fn add(&mut self, answers: &Answers) {
+        self.lines = self.lines.saturating_add(1);
+        if answers.is_match() {
+            self.matches = self.matches.saturating_add(1);
+        }
+        if !answers.are_the_same() {
+            self.different = self.different.saturating_add(1);
+        }
+    }
+}
+
+/// Reads definitions and patterns with their lines from standard input. For each pattern it prints whether it was refused,
+/// or its counts, and before these a line for each pair whose answers differ.
+pub(crate) fn call(rt: &HostRuntime) -> Result<()> {
+    let text = io::read_to_string(rt.alloc(), rt.stdin())?;
+    let Some((definitions, patterns)) = text.split_once(BETWEEN_PATTERNS) else {
+        bail!("no pattern after the definitions");
+    };
+    let grok = library(rt.alloc(), definitions)?;
+    for pattern in patterns.split(BETWEEN_PATTERNS) {
+        compare_pattern(rt, &grok, pattern)?;
+    }
+    Ok(())
+}
+
+/// Compiles a pattern and compares the ways to match for each of its lines.
+fn compare_pattern(rt: &HostRuntime, grok: &Grok, parts: &str) -> Result<()> {
+    let Some((mode, parts)) = parts.split_once(BETWEEN_PARTS) else {
+        bail!("no parts");
+    };
+    let (text, lines) = parts.split_once(BETWEEN_PARTS).unwrap_or((parts, ""));
+    match grok.compile(text, mode == "a") {
+        Ok(pattern) => compare_lines(rt, &pattern, text, lines),
+        Err(error) => {
+            println!(rt; "refused: {error:?}")?;
+            Ok(())
+        }
+    }
+}
+
+fn compare_lines(rt: &HostRuntime, pattern: &Pattern, text: &str, lines: &str) -> Result<()> {
+    let mut matcher = pattern.matcher()?;
+    let mut counts = Counts::default();
+    for line in lines.split(BETWEEN_PARTS) {
+        let answers = Answers::of(rt.alloc(), pattern, &mut matcher, line)?;
+        if !answers.are_the_same() {
+            println!(rt; "different: {text:?} on {line:?}: {answers}")?;
+        }
+        counts.add(&answers);
+    }
+    println!(rt; "{counts}")?;
+    Ok(())
+}
