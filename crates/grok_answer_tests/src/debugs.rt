@@ -1,5 +1,5 @@
-//! What `{:#?}` shows of each type that has a Debug of its own. A pattern and a match take a line for each field or pair, as
-//! Rust's own structs and maps do. A library, a piece and a fault stay on one line.
+//! Tests of `{:#?}` for each type that implements `Debug` by hand. A pattern and a match take a line for each field or
+//! pair, as derived structs and maps do. A library, a piece and a fault stay on one line.
 
 use grok::parser::{GrokPatternError, grok_split};
 use grok::{Grok, Pattern};
@@ -7,7 +7,7 @@ use std::fmt;
 use std::process::Abort;
 use std::test::Fail;
 
-/// `{:#?}` shows the value so.
+/// Checks that `{:#?}` writes this text for the value.
 fn check_shown<T: fmt::Debug>(
     rt: &(impl Abort + AllocGlobal),
     value: &T,
@@ -41,7 +41,7 @@ fn patterns_by_field(rt: HostRuntime) -> Result<(), Fail> {
     )
 }
 
-/// A match of `aa` is shown so, by the pattern and by a matcher.
+/// The debug text of a match of `aa`, by the pattern and by a matcher.
 const TWO_PAIRS: &str = r#"Some(
     {
         "A": "a",
@@ -49,10 +49,10 @@ const TWO_PAIRS: &str = r#"Some(
     },
 )"#;
 
-/// A match without pairs.
+/// The debug text of a match without pairs.
 const NO_PAIRS: &str = "Some(\n    {},\n)";
 
-/// The match of the line is shown so by each of the three calls.
+/// Checks that the match of the line has this debug text, whichever of the three calls returned it.
 fn check_match(
     rt: &(impl Abort + AllocGlobal),
     pattern: &Pattern,
@@ -81,7 +81,7 @@ fn libraries_on_one_line(rt: HostRuntime) -> Result<(), Fail> {
     check_shown(&rt, &grok, r#"Grok {"A": "\"a\"", "B": "%{A}\n"}"#)
 }
 
-/// Texts, and what their only piece shows.
+/// Texts with one piece, and the debug text of that piece.
 const PIECES: &[(&str, &str)] = &[
     ("a\"\n", r#""a\"\n""#),
     ("%{A}", r#"%{ name="A" alias="" capture="" definition="" }"#),
@@ -94,7 +94,7 @@ const PIECES: &[(&str, &str)] = &[
     ("%{A:}", "<error InvalidPatternDefinition>"),
 ];
 
-/// The first piece of the text is shown so.
+/// Checks that the first piece of the text has this debug text.
 fn check_piece(rt: &(impl Abort + AllocGlobal), text: &str, expected: &str) -> Result<(), Fail> {
     let Some(piece) = grok_split(text).next() else {
         return Err("no piece")?;

@@ -1,14 +1,15 @@
-//! An expansion that writes every text out, by recursion over the pieces alone. It is slow and plain, and what the library answers is compared with it.
+//! A plain expansion of patterns, for tests: it writes out the whole text by recursion over the pieces. It is slow and
+//! simple, and the results of the library are compared with it.
 
 use grok::parser::{GrokComponent, grok_split};
 use grok::{Fault, Looks, Measure};
 use std::alloc::{AllocError, Global};
 use std::collections::{BTreeMap, BTreeSet};
 
-/// How many placeholders may stand in one another.
+/// How deeply placeholders may be nested.
 const LEVELS: usize = 1023;
 
-/// How many pieces an expansion may have here.
+/// How many pieces this expansion reads at most.
 const MOST_PIECES: usize = 100_000;
 
 /// Names with their texts, each name once.
@@ -22,25 +23,25 @@ pub struct Texts {
 pub enum Ending<'a> {
     Over,
     Fault(Fault<'a>),
-    /// It has more pieces than this expansion takes.
+    /// It has more pieces than this expansion reads.
     GivenUp,
 }
 
-/// What comes of one piece of a text.
+/// The result of reading one piece of a text.
 #[derive(Drop)]
 enum Step<'a> {
     Written,
     Fault(Fault<'a>),
-    /// The front of a placeholder is written, and what it stands for is to be opened.
+    /// The head of the group of a placeholder was written, and its definition has to be expanded next.
     Open {
         name: &'a str,
         meaning: &'a str,
-        /// The meaning is the name's stored text.
+        /// Whether the definition is a stored one, and not an inline one.
         is_stored: bool,
     },
 }
 
-/// What was written and given out so far.
+/// What was written so far, and the keys that were assigned so far.
 #[derive(Drop)]
 pub struct Expansion<'a> {
     alloc: Global,
@@ -52,10 +53,10 @@ pub struct Expansion<'a> {
     /// The keys of the capturing placeholders, in order.
     keys: Vec<String>,
     given: BTreeSet<String>,
-    /// The first key that was to be given twice.
+    /// The first key that two placeholders would get.
     clash: Option<String>,
     extracts: BTreeMap<String, &'a str>,
-    /// The names whose stored text was opened.
+    /// The names whose stored definition was expanded.
     reached: BTreeSet<&'a str>,
     pieces: usize,
 }
@@ -67,7 +68,7 @@ impl Texts {
         }
     }
 
-    /// Adds a name that isn't there yet.
+    /// Adds a name that doesn't have a text yet.
     pub(crate) fn add(&mut self, name: &'static str, text: String) -> Result<(), AllocError> {
         self.pairs.push((name, text))?;
         Ok(())
@@ -87,7 +88,7 @@ impl Texts {
     }
 }
 
-/// The last text of the name.
+/// Returns the last text of the name.
 fn last_of<'a>(pairs: &[(&'a str, &'a str)], name: &str) -> Option<&'a str> {
     let mut found = None;
     for (other, text) in pairs {
@@ -98,7 +99,7 @@ fn last_of<'a>(pairs: &[(&'a str, &'a str)], name: &str) -> Option<&'a str> {
     found
 }
 
-/// How many pieces a text has.
+/// Returns how many pieces a text has.
 fn count_pieces(text: &str) -> u64 {
     let mut pieces = 0u64;
     for _piece in grok_split(text) {
@@ -132,12 +133,12 @@ impl<'a> Expansion<'a> {
         self.text.as_str()
     }
 
-    /// The keys of the capturing placeholders, in order.
+    /// Returns the keys of the capturing placeholders, in order.
     pub(crate) fn keys(&self) -> &[String] {
         self.keys.as_slice()
     }
 
-    /// The first key that was to be given twice.
+    /// Returns the first key that two placeholders would get.
     pub(crate) fn clash(&self) -> Option<&str> {
         match &self.clash {
             Some(key) => Some(key.as_str()),
@@ -149,7 +150,7 @@ impl<'a> Expansion<'a> {
         self.extracts.get(key).copied()
     }
 
-    /// The key of one more placeholder with this base key.
+    /// Returns the key of the next placeholder with this base key.
     fn next_key(&mut self, base: &'a str) -> Result<String, AllocError> {
         let before = self.uses.get(&base).copied().unwrap_or(0);
         self.uses.insert(base, before.saturating_add(1))?;
@@ -160,7 +161,7 @@ impl<'a> Expansion<'a> {
         }
     }
 
-    /// Keeps the key as the clash, if it is the first that was given before.
+    /// Records the key as the clash, if another placeholder has it already and no clash was recorded before.
     fn note_clash(&mut self, key: &str) -> Result<(), AllocError> {
         if self.clash.is_none() && self.given.contains(key) {
             self.clash = Some(String::from_str(self.alloc, key)?);
@@ -168,7 +169,7 @@ impl<'a> Expansion<'a> {
         Ok(())
     }
 
-    /// Keeps the extract of a key, if it has one.
+    /// Records the extract of a key, if it isn't empty.
     fn note_extract(&mut self, key: &str, extract: &'a str) -> Result<(), AllocError> {
         if !extract.is_empty() {
             let key = String::from_str(self.alloc, key)?;
@@ -177,14 +178,14 @@ impl<'a> Expansion<'a> {
         Ok(())
     }
 
-    /// Keeps the key among those that were given.
+    /// Records that the key was assigned.
     fn note_key(&mut self, key: String) -> Result<(), AllocError> {
         self.given.insert(key.clone()?)?;
         self.keys.push(key)?;
         Ok(())
     }
 
-    /// Gives a capturing placeholder its number and its key.
+    /// Assigns a capturing placeholder its number and its key.
     fn record(&mut self, base: &'a str, extract: &'a str) -> Result<(), AllocError> {
         let number = self.keys.len();
         let key = self.next_key(base)?;
@@ -194,7 +195,7 @@ impl<'a> Expansion<'a> {
         write!(&mut self.text, "(?<_n_{number}>")
     }
 
-    /// Writes the front of a placeholder's group.
+    /// Writes the head of the group of a placeholder.
     fn begin(&mut self, name: &'a str, alias: &'a str, extract: &'a str) -> Result<(), AllocError> {
         if !alias.is_empty() {
             self.record(alias, extract)
@@ -205,7 +206,7 @@ impl<'a> Expansion<'a> {
         }
     }
 
-    /// Writes the front of a placeholder, and says what it stands for.
+    /// Writes the head of the group of a placeholder, and returns the definition that it stands for.
     fn place(
         &mut self,
         texts: &'a Texts,
@@ -226,7 +227,8 @@ impl<'a> Expansion<'a> {
         })
     }
 
-    /// Writes what stands for itself and the front of a placeholder, whose definition is one of the text's own.
+    /// Writes a piece: a regular piece as it is, and of a placeholder the head of its group. `own` has the inline
+    /// definitions of the text that were read so far.
     fn step(
         &mut self,
         texts: &'a Texts,
@@ -254,7 +256,7 @@ impl<'a> Expansion<'a> {
         }
     }
 
-    /// Keeps that a name was opened, where so many more levels were left.
+    /// Records that the definition of a name is expanded, with `levels` more levels allowed.
     fn enter(&mut self, name: &'a str, is_stored: bool, levels: usize) -> Result<(), AllocError> {
         self.nesting = self.nesting.max((LEVELS + 1).saturating_sub(levels));
         if is_stored {
@@ -263,7 +265,7 @@ impl<'a> Expansion<'a> {
         Ok(())
     }
 
-    /// Expands a text, where so many more levels are allowed.
+    /// Expands a text, with `levels` more levels allowed.
     fn expand(
         &mut self,
         texts: &'a Texts,
@@ -310,7 +312,7 @@ impl<'a> Expansion<'a> {
         Ok((expansion, ending))
     }
 
-    /// How many pieces and how many ends the pattern and the stored texts have that were opened.
+    /// Returns how many pieces and ends there are in the pattern and in the stored definitions that were expanded.
     pub(crate) fn looks(&self, texts: &Texts, pattern: &str) -> Looks {
         let mut pieces = count_pieces(pattern);
         let mut ends = 1u64;
@@ -322,7 +324,7 @@ impl<'a> Expansion<'a> {
         Looks { pieces, ends }
     }
 
-    /// The measure of an expansion that came to an end.
+    /// Returns the measure of an expansion, or `None` if the expansion was given up.
     pub(crate) fn measure(&self, ending: &Ending<'a>) -> Option<Measure<'a>> {
         match ending {
             Ending::Over => Some(Measure::Size {

@@ -1,5 +1,5 @@
-//! Tests of what patterns give. The table in `rows` is read by the checks of pieces, measures, compiled texts, answers and
-//! other engines; a pattern answers line after line; many small libraries, which a fixed rule makes, are compared with a
+//! Tests of what patterns find. The table in `rows` is used by the tests of pieces, measures, compiled texts, matches
+//! and other engines. Other tests match many lines with one pattern, and compare many small generated libraries with a
 //! plain expansion.
 #![tactic(auto)]
 

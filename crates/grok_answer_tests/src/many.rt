@@ -1,4 +1,4 @@
-//! Many small libraries, made by a fixed rule.
+//! Compares many small libraries, which are generated from a fixed seed, with a plain expansion.
 
 use crate::expansion::{Ending, Expansion, Texts};
 use crate::showing::shown;
@@ -12,7 +12,7 @@ use std::test::Fail;
 /// The names that have definitions.
 static NAMES: [&str; 5] = ["A", "B", "C", "D", "E"];
 
-/// What stands for itself.
+/// Regular pieces.
 const PLAIN: [&str; 10] = [
     "a",
     "é",
@@ -26,7 +26,7 @@ const PLAIN: [&str; 10] = [
     "(?<_n_0>c)",
 ];
 
-/// Placeholders, where a name stands in place of each `@`.
+/// Placeholders, in which each `@` is replaced by a name.
 const PLACEHOLDERS: [&str; 12] = [
     "%{@}",
     "%{@}",
@@ -42,7 +42,7 @@ const PLACEHOLDERS: [&str; 12] = [
     "%{@:x[1]:v=w}",
 ];
 
-/// What has a fault, where a name stands in place of each `@`.
+/// Malformed placeholders, and placeholders without a definition. Each `@` is replaced by a name.
 const BROKEN: [&str; 8] = [
     "%{",
     "%{@ }",
@@ -54,14 +54,14 @@ const BROKEN: [&str; 8] = [
     "%{nope:x}",
 ];
 
-/// Linear congruential numbers.
+/// A linear congruential generator of numbers.
 #[derive(Drop)]
 struct Numbers {
     state: u64,
 }
 
 impl Numbers {
-    /// The next number, below 2 to the power of 31.
+    /// Returns the next number, which is below 2^31.
     fn next(&mut self) -> usize {
         self.state = self
             .state
@@ -70,28 +70,28 @@ impl Numbers {
         (self.state >> 33) as usize
     }
 
-    /// The next number, below the count, or 0 for the count 0.
+    /// Returns the next number below `count`, or 0 if `count` is 0.
     fn below(&mut self, count: usize) -> usize {
         let number = self.next();
         if count == 0 { 0 } else { number % count }
     }
 
-    /// One of the choices.
+    /// Returns one of the choices.
     fn pick<'c>(&mut self, choices: &[&'c str]) -> &'c str {
         let place = self.below(choices.len());
         choices.get(place).copied().unwrap_or("")
     }
 }
 
-/// What the texts of a library may hold.
+/// What the texts of a generated library may contain.
 #[derive(Clone, Copy)]
 struct Kind {
-    /// A text may hold placeholders of every name, and not only of later ones.
+    /// Whether a text may use every name, and not only later ones.
     has_circles: bool,
     has_faults: bool,
 }
 
-/// Chooses a piece: one with a fault, plain text or a placeholder.
+/// Chooses a piece: one with a fault, a regular piece or a placeholder.
 fn choose(numbers: &mut Numbers, has_faults: bool, has_names: bool) -> &'static str {
     let choice = numbers.below(16);
     if choice == 0 && has_faults {
@@ -103,7 +103,7 @@ fn choose(numbers: &mut Numbers, has_faults: bool, has_names: bool) -> &'static 
     }
 }
 
-/// Puts a piece at the end of the text. The names from `first` on may stand in it.
+/// Appends a piece to the text. It may use the names from `first` on.
 fn add_piece(
     text: &mut String,
     numbers: &mut Numbers,
@@ -121,7 +121,7 @@ fn add_piece(
     }
 }
 
-/// A text of at most so many pieces, whose placeholders have the names from `first` on.
+/// Returns a text of at most `most` pieces, whose placeholders use the names from `first` on.
 fn made_text(
     alloc: Global,
     numbers: &mut Numbers,
@@ -137,7 +137,7 @@ fn made_text(
     Ok(text)
 }
 
-/// Adds the name at this place with a text, or leaves it out at times.
+/// Adds the name at this index with a generated text, or sometimes leaves it out.
 fn add_name(
     alloc: Global,
     texts: &mut Texts,
@@ -157,7 +157,7 @@ fn add_name(
     Ok(())
 }
 
-/// Some of the names, with texts.
+/// Returns some of the names, each with a generated text.
 fn made_texts(alloc: Global, numbers: &mut Numbers, kind: Kind) -> Result<Texts, AllocError> {
     let mut texts = Texts::new(alloc);
     for (place, name) in NAMES.iter().enumerate() {
@@ -166,7 +166,7 @@ fn made_texts(alloc: Global, numbers: &mut Numbers, kind: Kind) -> Result<Texts,
     Ok(texts)
 }
 
-/// The library of the texts.
+/// Returns the library with these texts.
 fn library_of(alloc: Global, texts: &Texts) -> Result<Grok, AllocError> {
     let mut grok = Grok::empty(alloc);
     for (name, text) in texts.pairs() {
@@ -199,7 +199,7 @@ impl Ends {
     }
 }
 
-/// `measure` measures the pattern as the expansion does.
+/// Checks that `measure` returns the measure of the expansion.
 fn check_measure(
     rt: &impl Abort,
     grok: &Grok,
@@ -216,7 +216,7 @@ fn check_measure(
     Ok(())
 }
 
-/// `measure_counted` measures the pattern as the expansion does, with these looks.
+/// Checks that `measure_counted` returns the measure of the expansion, with these looks.
 fn check_counted(
     rt: &impl Abort,
     grok: &Grok,
@@ -233,7 +233,7 @@ fn check_counted(
     Ok(looks)
 }
 
-/// The library looks as often as is allowed, and as often as that where there is no fault.
+/// Checks that the library doesn't make more looks than this, and that it makes exactly this many if there is no fault.
 fn check_looks(
     rt: &impl Abort,
     grok: &Grok,
@@ -248,7 +248,7 @@ fn check_looks(
     assert!(rt; is_right, "{pattern} {grok:?}: {looks:?} {most:?}");
 }
 
-/// The error of a fault.
+/// Returns the error of a fault.
 fn error_of(alloc: Global, fault: &Fault<'_>) -> Result<Error, AllocError> {
     match fault {
         Fault::Malformed(fault) => {
@@ -263,13 +263,13 @@ fn error_of(alloc: Global, fault: &Fault<'_>) -> Result<Error, AllocError> {
     }
 }
 
-/// The error of a key that was to be given twice.
+/// Returns the error of two placeholders that would get this key.
 fn clash_error(alloc: Global, key: &str) -> Result<Error, AllocError> {
     let words = format!(in alloc; "Alias {key} already exists")?;
     Ok(Error::GenericCompilationFailure(words))
 }
 
-/// The error of a pattern, if it has one.
+/// Returns the expected error of a pattern, if it has one.
 fn expected_error(
     alloc: Global,
     pattern: &str,
@@ -288,7 +288,7 @@ fn expected_error(
     }
 }
 
-/// The keys, each under the generated name of its group.
+/// Returns the keys, each under the generated name of its group.
 fn generated_names<'e>(
     alloc: Global,
     expansion: &'e Expansion<'_>,
@@ -301,13 +301,13 @@ fn generated_names<'e>(
     Ok(numbered)
 }
 
-/// The name of the first group of the text, and the text after it.
+/// Returns the name of the first group of the text, and the text after it.
 fn first_group(text: &str) -> Option<(&str, &str)> {
     let (_, head) = text.split_once("(?<")?;
     head.split_once(">")
 }
 
-/// The keys of the groups, each with the number of its last group.
+/// Returns the keys, each with the number of its last group.
 fn table_of(
     alloc: Global,
     expansion: &Expansion<'_>,
@@ -326,7 +326,7 @@ fn table_of(
     Ok(table)
 }
 
-/// Adds the keys of the table.
+/// Appends the keys of the table.
 fn show_keys(all: &mut String, table: &BTreeMap<String, usize>) -> Result<(), AllocError> {
     for (key, _) in table.iter() {
         write!(all, " {key}")?;
@@ -334,7 +334,7 @@ fn show_keys(all: &mut String, table: &BTreeMap<String, usize>) -> Result<(), Al
     Ok(())
 }
 
-/// Adds the pairs of a match in which each odd group took part, and no other, and how many they are.
+/// Appends the pairs of a match in which exactly the odd groups took part, and how many pairs there are.
 fn show_pairs(all: &mut String, table: &BTreeMap<String, usize>) -> Result<(), AllocError> {
     let mut count = 0u32;
     for (key, group) in table.iter() {
@@ -346,7 +346,7 @@ fn show_pairs(all: &mut String, table: &BTreeMap<String, usize>) -> Result<(), A
     write!(all, " {count} {count}")
 }
 
-/// What a pattern of the expansion shows.
+/// Returns the expected text for a pattern with this expansion, in the form of `shown`.
 fn expected_shown(alloc: Global, expansion: &Expansion<'_>) -> Result<String, AllocError> {
     let table = table_of(alloc, expansion)?;
     let mut all = String::from_str(alloc, expansion.text())?;
@@ -356,7 +356,7 @@ fn expected_shown(alloc: Global, expansion: &Expansion<'_>) -> Result<String, Al
     Ok(all)
 }
 
-/// The pattern shows what the expansion says.
+/// Checks that the pattern has the text that is expected from the expansion.
 fn check_shown(
     rt: &(impl Abort + AllocGlobal),
     pattern: &PatternOf<Heads>,
@@ -368,7 +368,7 @@ fn check_shown(
     Ok(())
 }
 
-/// The pattern has the extracts of the expansion.
+/// Checks that the pattern has the extracts of the expansion.
 fn check_extracts(rt: &impl Abort, pattern: &PatternOf<Heads>, expansion: &Expansion<'_>) {
     for key in expansion.keys() {
         let is_right = pattern.get_extract(key.as_str()) == expansion.extract(key.as_str());
@@ -376,7 +376,7 @@ fn check_extracts(rt: &impl Abort, pattern: &PatternOf<Heads>, expansion: &Expan
     }
 }
 
-/// The pattern has the text, the keys and the extracts of the expansion.
+/// Checks that the pattern has the text, the keys and the extracts of the expansion.
 fn check_compiled(
     rt: &(impl Abort + AllocGlobal),
     pattern: &PatternOf<Heads>,
@@ -387,7 +387,7 @@ fn check_compiled(
     Ok(())
 }
 
-/// The library compiles the pattern, or answers the error, as the expansion says.
+/// Checks that compiling the pattern returns the pattern or the error that is expected from the expansion.
 fn check_compiling(
     rt: &(impl Abort + AllocGlobal),
     grok: &Grok,
@@ -412,7 +412,7 @@ fn check_compiling(
     }
 }
 
-/// The library measures the pattern as the expansion does, and looks as often as is allowed.
+/// Checks that the measure of the pattern is that of the expansion, and that the library doesn't make too many looks.
 fn check_measuring(
     rt: &impl Abort,
     texts: &Texts,
@@ -428,7 +428,7 @@ fn check_measuring(
     check_measure(rt, grok, pattern, with_alias_only, expected)
 }
 
-/// The library measures and compiles the pattern as its expansion says, if that came to an end.
+/// Checks that the library measures and compiles the pattern as expected from its expansion, unless that was given up.
 fn check_expansion<'e>(
     rt: &(impl Abort + AllocGlobal),
     texts: &Texts,
@@ -445,7 +445,8 @@ fn check_expansion<'e>(
     check_compiling(rt, &grok, pattern, expansion, error)
 }
 
-/// The library of the texts answers as the expansion of the pattern says, whose ending is counted.
+/// Checks that the library of the texts returns what is expected from the expansion of the pattern, and counts how that
+/// expansion ended.
 fn check(
     rt: &(impl Abort + AllocGlobal),
     texts: &Texts,
@@ -461,7 +462,7 @@ fn check(
     check_expansion(rt, texts, pattern, &expansion, &ending)
 }
 
-/// The library of this number answers as the expansion says, in both modes.
+/// Checks the generated library with this number against the expansion, in both modes.
 fn check_number(
     rt: &(impl Abort + AllocGlobal),
     number: u32,

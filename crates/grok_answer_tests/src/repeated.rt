@@ -1,5 +1,5 @@
-//! What one pattern answers to line after line, while its search makes its tables and keeps them: the same as a kept matcher
-//! and as a pattern that is compiled for that line alone.
+//! Tests that one pattern finds the same in line after line while its search builds and fills its tables, as a kept
+//! matcher and a pattern that is compiled for that line alone.
 
 use crate::answers::check_answer;
 use crate::library::library;
@@ -8,13 +8,13 @@ use std::alloc::{AllocError, Global};
 use std::process::Abort;
 use std::test::Fail;
 
-/// How many lines a pattern is asked for, more than twice as many as go by before the tables are made.
+/// How many lines a pattern matches. They are more than twice as many as it matches before its tables are built.
 const CALLS: usize = 40;
 
 /// Names with their definitions.
 type Definitions = &'static [(&'static str, &'static str)];
 
-/// A pattern, and what it answers to lines.
+/// A pattern, and what it finds in some lines.
 #[derive(Clone, Copy)]
 struct Row {
     name: &'static str,
@@ -24,7 +24,7 @@ struct Row {
     lines: &'static [(&'static str, &'static str)],
 }
 
-/// What is asked for each line.
+/// What each line is matched by: the pattern, a kept matcher, and a new pattern that is compiled from the text.
 #[derive(Drop)]
 struct Asked<'p> {
     grok: &'p Grok,
@@ -34,7 +34,7 @@ struct Asked<'p> {
 }
 
 impl Asked<'_> {
-    /// The line has its answer each way.
+    /// Checks that each of them finds the expected pairs in the line.
     fn check(
         &mut self,
         rt: &(impl Abort + AllocGlobal),
@@ -49,7 +49,7 @@ impl Asked<'_> {
     }
 }
 
-/// The lines, over and over, have their answers from a new pattern.
+/// Checks that a new pattern finds the expected pairs in the lines, which it matches over and over.
 fn check_in_order(
     rt: &(impl Abort + AllocGlobal),
     grok: &Grok,
@@ -75,7 +75,7 @@ fn check_in_order(
     Ok(())
 }
 
-/// The lines have their answers in this order and in the other one.
+/// Checks the lines in this order and in the reverse order.
 fn check_both_orders(
     rt: &(impl Abort + AllocGlobal),
     definitions: Definitions,
@@ -90,7 +90,7 @@ fn check_both_orders(
     check_in_order(rt, &grok, name, text, &backwards)
 }
 
-/// Lines whose answers would show what an earlier line left behind.
+/// Lines whose results would be wrong if something of an earlier line were left behind.
 const ROWS: &[Row] = &[
     Row {
         name: "a group that takes no part in each line",
@@ -181,8 +181,8 @@ fn lines_asked_again_and_again(rt: HostRuntime) -> Result<(), Fail> {
     Ok(())
 }
 
-/// Lines about as long as the tables serve: how many `a`, what follows them, and the answer to the pattern
-/// `^a*(?<last>[^a!])?(?<end>z)?$`.
+/// Lines that are about as long as the tables can handle: the number of `a`s, the text after them, and what the pattern
+/// `^a*(?<last>[^a!])?(?<end>z)?$` finds.
 const LONG_LINES: [(usize, &str, &str); 14] = [
     // 399 bytes
     (399, "", ""),
@@ -193,19 +193,19 @@ const LONG_LINES: [(usize, &str, &str); 14] = [
     (398, "é", "last=é"),
     (396, "日z", "end=z, last=日"),
     (399, "!", "no match"),
-    // 401 bytes, the last ones with a character across the border
+    // 401 bytes, the last ones with a character across the limit
     (401, "", ""),
     (400, "!", "no match"),
     (399, "é", "last=é"),
     (398, "日", "last=日"),
     (398, "é!", "no match"),
-    // 402 bytes, with a character across the border
+    // 402 bytes, with a character across the limit
     (399, "éz", "end=z, last=é"),
-    // A short one, so that the tables are made soon.
+    // A short line, so that the tables are built soon.
     (2, "b", "last=b"),
 ];
 
-/// The text of a line.
+/// Returns the text of a line.
 fn long_line(alloc: Global, count: usize, tail: &str) -> Result<String, AllocError> {
     let mut line = String::new(alloc);
     for _ in 0..count {
@@ -215,7 +215,7 @@ fn long_line(alloc: Global, count: usize, tail: &str) -> Result<String, AllocErr
     Ok(line)
 }
 
-/// The texts of the long lines.
+/// Returns the texts of the long lines.
 fn long_lines(alloc: Global) -> Result<Vec<String>, AllocError> {
     let mut lines = Vec::new(alloc);
     for (count, tail, _) in LONG_LINES {
@@ -224,7 +224,7 @@ fn long_lines(alloc: Global) -> Result<Vec<String>, AllocError> {
     Ok(lines)
 }
 
-/// A line may be too long for the tables that answered the one before.
+/// A line may be too long for the tables that were used for the line before.
 #[test]
 fn lines_about_as_long_as_the_tables_serve(rt: HostRuntime) -> Result<(), Fail> {
     let texts = long_lines(rt.alloc())?;

@@ -1,9 +1,9 @@
-//! What a pattern shows, as one text.
+//! Writes what is known of a pattern as one text, for comparison.
 
 use grok::{Engine, MatchesOf, PatternOf};
 use std::alloc::{AllocError, Global};
 
-/// Adds the pairs of a match.
+/// Appends the pairs of a match.
 fn show_pairs<'a, E: Engine>(
     all: &mut String,
     found: &'a MatchesOf<'a, E>,
@@ -14,7 +14,7 @@ fn show_pairs<'a, E: Engine>(
     Ok(())
 }
 
-/// Adds how many pairs `collect` and `collect_map` give.
+/// Appends how many pairs `collect` and `collect_map` return.
 fn show_counts<'a, E: Engine>(
     alloc: Global,
     all: &mut String,
@@ -25,7 +25,7 @@ fn show_counts<'a, E: Engine>(
     write!(all, " {listed} {mapped}")
 }
 
-/// Adds the pairs of a match, and by how many `collect` and `collect_map` give them.
+/// Appends the pairs of a match, and how many of them `collect` and `collect_map` return.
 fn show_found<'a, E: Engine>(
     alloc: Global,
     all: &mut String,
@@ -35,7 +35,7 @@ fn show_found<'a, E: Engine>(
     show_counts(alloc, all, found)
 }
 
-/// Adds an answer to a line.
+/// Appends the match of a line.
 fn show_answer<E: Engine>(
     alloc: Global,
     all: &mut String,
@@ -47,7 +47,7 @@ fn show_answer<E: Engine>(
     }
 }
 
-/// Adds the keys of a pattern.
+/// Appends the keys of a pattern.
 fn show_keys<E: Engine>(all: &mut String, pattern: &PatternOf<E>) -> Result<(), AllocError> {
     for key in pattern.capture_names() {
         write!(all, " {key}")?;
@@ -55,7 +55,8 @@ fn show_keys<E: Engine>(all: &mut String, pattern: &PatternOf<E>) -> Result<(), 
     Ok(())
 }
 
-/// The text of a pattern, its keys, and its pairs on the line `q` with how many they are.
+/// Returns the expanded text of a pattern, its keys, and the pairs that it finds in the line `q`, with how many these
+/// are.
 pub(crate) fn shown<E: Engine>(
     alloc: Global,
     pattern: &PatternOf<E>,

@@ -1,4 +1,4 @@
-//! Definitions that are nested as deeply as is allowed, over the product's engine.
+//! Calls on definitions that are nested as deeply as is allowed, over `RegexEngine`.
 use anyhow::{Result, bail};
 use grok::{Error, Grok, Pattern};
 
@@ -9,7 +9,8 @@ pub(crate) fn call(rt: &HostRuntime, name: &str) -> Result<()> {
     }
 }
 
-/// Makes a library of so many definitions: each of `C1`, `C2` and so on stands for the next one, and the last for `x`.
+/// Makes a library with a chain of `count` definitions: each of `C1`, `C2` and so on uses the next one, and the last
+/// one is `x`.
 fn chain_library(rt: &HostRuntime, count: u32) -> Result<Grok> {
     let alloc = rt.alloc();
     let mut grok = Grok::empty(alloc);
@@ -22,7 +23,7 @@ fn chain_library(rt: &HostRuntime, count: u32) -> Result<Grok> {
     Ok(grok)
 }
 
-/// Tells how long the text of a pattern or of a refusal is, or the error.
+/// Prints the length of the text of a pattern or of a refusal, or the error.
 fn show_answer(rt: &HostRuntime, answer: &Result<Pattern, Error>) -> Result<()> {
     match answer {
         Ok(pattern) => println!(rt; "a pattern of {} bytes", pattern.text().len())?,
@@ -34,7 +35,7 @@ fn show_answer(rt: &HostRuntime, answer: &Result<Pattern, Error>) -> Result<()> 
     Ok(())
 }
 
-/// Measures and compiles a chain of so many definitions.
+/// Measures and compiles a chain of `count` definitions.
 fn chain(rt: &HostRuntime, count: u32) -> Result<()> {
     let grok = chain_library(rt, count)?;
     twice!(rt, grok.measure_counted("%{C1}", false));

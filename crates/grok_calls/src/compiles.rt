@@ -1,4 +1,4 @@
-//! Patterns, compiled by the product's engine and by engines for tests.
+//! Calls that compile patterns, over `RegexEngine` and over engines for tests.
 use crate::LABELS;
 use anyhow::{Result, bail};
 use grok::{Engine, Error, Grok, PatternOf, RegexEngine};
@@ -75,7 +75,7 @@ fn compile<E: Engine>(
     Ok(())
 }
 
-/// Compiles a text without a placeholder, so many pieces long, for an engine that makes one request of its own.
+/// Compiles a text of `count` pieces without a placeholder, over an engine that makes one allocation.
 fn compile_repeated(rt: &HostRuntime, count: usize) -> Result<()> {
     let mut pattern = String::new(rt.alloc());
     'pieces: for _ in 0..count {

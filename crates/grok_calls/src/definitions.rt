@@ -5,14 +5,14 @@ use grok::Grok;
 use grok_engines::Heads;
 use std::fmt;
 
-/// Three definitions, of which two have one name.
+/// Three definitions, of which two have the same name.
 const PAIRS: [(&str, &str); 3] = [
     ("A", "a"),
     ("B", "%{A:first}%{A:second:int}"),
     ("A", "(?:a|é)%{C=c}"),
 ];
 
-/// Patterns over them, and over a name that is still to be added.
+/// Patterns that use these definitions, and one that uses a name which is added later.
 const PATTERNS: [&str; 3] = ["%{A}", "%{B:key}-%{A}", "%{NEW}"];
 
 pub(crate) fn call(rt: &HostRuntime, name: &str) -> Result<()> {
@@ -77,7 +77,7 @@ fn show<T: fmt::Debug + Drop>(rt: &HostRuntime, when: &str, value: T) -> Result<
     Ok(())
 }
 
-/// Shows what all names stand for, and what the patterns measure and compile to.
+/// Prints the definitions of all names, and the measures and expanded texts of the patterns.
 fn show_library(rt: &HostRuntime, when: &str, grok: &Grok) -> Result<()> {
     show(rt, when, grok)?;
     'patterns: for pattern in PATTERNS {
@@ -87,7 +87,7 @@ fn show_library(rt: &HostRuntime, when: &str, grok: &Grok) -> Result<()> {
     Ok(())
 }
 
-/// Gives the name a definition, and shows before it and after each call what stands.
+/// Gives the name a definition, and prints the library before that and after each call.
 fn add_pattern(rt: &HostRuntime, name: &str) -> Result<()> {
     let mut grok = Grok::from_iter(rt.alloc(), &PAIRS)?;
     show_library(rt, "before", &grok)?;

@@ -1,4 +1,4 @@
-//! Calls on engines alone.
+//! Calls on engines, without a pattern.
 use anyhow::{Result, bail};
 use grok::{Engine, RegexEngine};
 use grok_engines::Bare;

@@ -1,4 +1,4 @@
-//! Matches of the pattern `%{MAC}` over the default definitions, and the calls on them.
+//! Calls that match lines with the pattern `%{MAC}` over the default definitions, and calls on the matches.
 use crate::LABELS;
 use anyhow::{Result, bail};
 use grok::{Engine, Grok, Matcher, Matches, Pattern, PatternOf};
@@ -11,13 +11,13 @@ const HALF_A_LINE: &str = "5E:FF";
 
 const LINE_WITH_DOTS: &str = "5EFF.56A2.AF15";
 
-/// How many calls a pattern answers before the one that builds its search.
+/// How many calls a pattern handles before the call that builds its shared search.
 const CALLS_BEFORE_TABLES: u32 = 1;
 
-/// So many calls that the search has all its tables.
+/// A number of calls after which the search has all of its tables.
 const CALLS_WITH_TABLES: u32 = 20;
 
-/// How many lines go by before a search has all its tables.
+/// A number of lines after which the search of a matcher has all of its tables.
 const WARM: usize = 100;
 
 pub(crate) fn call(rt: &HostRuntime, name: &str) -> Result<()> {
@@ -73,7 +73,7 @@ fn match_against<E: Engine>(rt: &HostRuntime, pattern: &PatternOf<E>, line: &str
     Ok(())
 }
 
-/// Asks for a line after so many calls for an earlier one.
+/// Matches a line after this many calls for another line.
 fn match_after(
     rt: &HostRuntime,
     pattern: &Pattern,
@@ -87,7 +87,7 @@ fn match_after(
     match_against(rt, pattern, line)
 }
 
-/// Makes a matcher twice, and shows what each answers.
+/// Makes a matcher twice, and prints what each of them finds.
 fn matcher(rt: &HostRuntime, pattern: &Pattern) -> Result<()> {
     'calls: for label in LABELS {
         eprintln!(rt; "[call")?;
@@ -98,7 +98,7 @@ fn matcher(rt: &HostRuntime, pattern: &Pattern) -> Result<()> {
     Ok(())
 }
 
-/// Shows what a matcher answers, or that there is none.
+/// Prints what a matcher finds, or that it couldn't be made.
 fn show_matcher(rt: &HostRuntime, label: &str, answer: Result<Matcher, AllocError>) -> Result<()> {
     match answer {
         Ok(mut matcher) => println!(rt; "{label}: {:?}", matcher.match_against(LINE))?,
@@ -107,7 +107,8 @@ fn show_matcher(rt: &HostRuntime, label: &str, answer: Result<Matcher, AllocErro
     Ok(())
 }
 
-/// Asks one matcher twice. What a refused line left behind doesn't change the next answer.
+/// Matches a line twice with one matcher. If an allocation failed in the first call, that doesn't change the result of
+/// the second one.
 fn match_lines<'t>(rt: &HostRuntime, pattern: &'t Pattern, line: &'t str) -> Result<()> {
     let mut matcher = pattern.matcher()?;
     ask_twice(rt, &mut matcher, line)
@@ -118,7 +119,7 @@ fn ask_twice<'t>(rt: &HostRuntime, matcher: &mut Matcher<'t>, line: &'t str) -> 
     Ok(())
 }
 
-/// Finds a line twice by one matcher, after so many lines before.
+/// Calls `find` for a line twice with one matcher, after this many other lines.
 fn find_lines<'t>(
     rt: &HostRuntime,
     pattern: &'t Pattern,

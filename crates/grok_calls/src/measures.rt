@@ -1,4 +1,4 @@
-//! The measure of a pattern or of several, and where the first fault of one stands.
+//! Calls that measure one pattern or several, and calls that locate the first fault of one.
 use anyhow::{Result, bail};
 use grok::Grok;
 
@@ -13,7 +13,7 @@ pub(crate) fn call(rt: &HostRuntime, name: &str) -> Result<()> {
     }
 }
 
-/// Two definitions, one over the other, so that a measure remembers a name.
+/// Makes a library of two definitions, of which one uses the other, so that measuring remembers a name.
 fn two_levels(rt: &HostRuntime) -> Result<Grok> {
     let pairs = [("A", "a"), ("B", "%{A}%{A}")];
     Ok(Grok::from_iter(rt.alloc(), &pairs)?)
@@ -31,7 +31,7 @@ fn counted(rt: &HostRuntime) -> Result<()> {
     Ok(())
 }
 
-/// The second pattern uses a definition that the first one has measured.
+/// Measures two patterns, of which the second one uses a definition that was measured for the first one.
 fn all(rt: &HostRuntime) -> Result<()> {
     let grok = two_levels(rt)?;
     let patterns = ["%{B}", "%{B}%{A:key}", "%{MISSING}"];

@@ -1,4 +1,4 @@
-//! The splitter, which takes no memory.
+//! Calls on the splitter, which makes no allocation.
 use anyhow::{Result, bail};
 use grok::parser;
 

@@ -1,4 +1,4 @@
-//! Runs of the program's commands, without input.
+//! Runs the commands of `grok_tool`, without input.
 use anyhow::{Result, bail};
 use grok_commands::run;
 use std::io;
@@ -11,7 +11,7 @@ pub(crate) fn call(rt: &HostRuntime, name: &str) -> Result<()> {
     }
 }
 
-/// Runs these words. Nothing is read, and what is written is thrown away.
+/// Runs these words. Nothing is read, and the output is discarded.
 fn run_words(rt: &HostRuntime, words: &[&str]) -> Result<()> {
     twice!(
         rt,

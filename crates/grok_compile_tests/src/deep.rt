@@ -1,4 +1,5 @@
-//! What compiling each row of the table gives, over an engine that takes every text, so that what stops it is the library.
+//! Compiles each row of the table over an engine that accepts every text, so that only the library can refuse a
+//! pattern.
 
 use crate::rows::{DEEPEST, Row, clashes, rows};
 use grok::Measure::Size;
@@ -8,7 +9,8 @@ use std::alloc::{AllocError, Global};
 use std::process::Abort;
 use std::test::Fail;
 
-/// The pattern is as long as its measure says, and has as many keys as that has groups.
+/// Checks that the expanded text is as long as the measure says, and that the pattern has as many keys as the measure
+/// has groups.
 fn check_pattern(rt: &impl Abort, row: &Row, pattern: &PatternOf<Heads>, measure: Measure<'_>) {
     assert!(rt; row.error.is_none(), "{}: a pattern", row.name);
     if let Size { length, groups, .. } = measure {
@@ -17,7 +19,7 @@ fn check_pattern(rt: &impl Abort, row: &Row, pattern: &PatternOf<Heads>, measure
     }
 }
 
-/// The error is that of the row.
+/// Checks that the error is that of the row.
 fn check_error(rt: &(impl Abort + AllocGlobal), row: &Row, error: &Error) -> Result<(), Fail> {
     let shown = format!(in rt.alloc(); "{error:?}")?;
     let is_right = row.error == Some(shown.as_str());
@@ -25,7 +27,7 @@ fn check_error(rt: &(impl Abort + AllocGlobal), row: &Row, error: &Error) -> Res
     Ok(())
 }
 
-/// Compiling over that engine gives a pattern of this measure, or the error of the row.
+/// Checks that compiling over that engine returns a pattern of this measure, or the error of the row.
 fn check_mode(
     rt: &(impl Abort + AllocGlobal),
     row: &Row,
@@ -42,7 +44,7 @@ fn check_mode(
     }
 }
 
-/// Over `regex` compiling has the error of the row too.
+/// Checks that compiling over `regex` returns the error of the row too.
 fn check_over_regex(
     rt: &(impl Abort + AllocGlobal),
     row: &Row,
@@ -58,7 +60,7 @@ fn check_over_regex(
     }
 }
 
-/// The row holds in both modes.
+/// Checks the row in both modes.
 fn check_row(rt: &(impl Abort + AllocGlobal), row: &Row) -> Result<(), Fail> {
     let grok = row.library(rt.alloc())?;
     check_mode(rt, row, &grok, false, row.every)?;
@@ -70,7 +72,7 @@ fn check_row(rt: &(impl Abort + AllocGlobal), row: &Row) -> Result<(), Fail> {
     Ok(())
 }
 
-/// What is too deep or too long is answered at once.
+/// Patterns that are too deep or too long are refused without expanding them.
 #[test]
 fn compiled_texts(rt: HostRuntime) -> Result<(), Fail> {
     for row in rows() {
@@ -87,7 +89,7 @@ fn compiled_clashes(rt: HostRuntime) -> Result<(), Fail> {
     Ok(())
 }
 
-/// Adds the fronts of so many groups, with numbers or without.
+/// Appends the heads of `count` groups, with numbers or without.
 fn push_fronts(all: &mut String, count: u32, with_alias_only: bool) -> Result<(), AllocError> {
     for number in 0..count {
         if with_alias_only {
@@ -99,7 +101,7 @@ fn push_fronts(all: &mut String, count: u32, with_alias_only: bool) -> Result<()
     Ok(())
 }
 
-/// The text of a chain of so many groups, with numbers or without.
+/// Returns the expanded text of a chain of `count` groups, with numbers or without.
 fn nested(alloc: Global, count: u32, with_alias_only: bool) -> Result<String, AllocError> {
     let mut all = String::new(alloc);
     push_fronts(&mut all, count, with_alias_only)?;
@@ -110,7 +112,7 @@ fn nested(alloc: Global, count: u32, with_alias_only: bool) -> Result<String, Al
     Ok(all)
 }
 
-/// The deepest chain has the text of its groups.
+/// Checks that the deepest chain expands to the text of its groups.
 fn check_deepest(
     rt: &(impl Abort + AllocGlobal),
     grok: &Grok,
@@ -123,7 +125,7 @@ fn check_deepest(
     Ok(())
 }
 
-/// `regex` may refuse the deepest chain, and nothing else may.
+/// Checks that if the deepest chain has an error, it is because `regex` refuses the expanded text.
 fn check_deepest_over_regex(rt: &impl Abort, grok: &Grok) {
     match grok.compile(DEEPEST.pattern, true) {
         Ok(pattern) => assert_eq!(rt; pattern.text().len(), 4093),

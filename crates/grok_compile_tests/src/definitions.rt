@@ -3,7 +3,7 @@ use std::alloc::{AllocError, Global};
 use std::process::Abort;
 use std::test::Fail;
 
-/// The default definitions with their names, written out.
+/// The default definitions with their names, spelled out.
 const DEFAULT_DEFINITIONS: [(&str, &str); 10] = [
     ("USERNAME", r"[a-zA-Z0-9._-]+"),
     ("USER", r"%{USERNAME}"),
@@ -23,7 +23,7 @@ const DEFAULT_DEFINITIONS: [(&str, &str); 10] = [
     ("COMMONMAC", r"(?:(?:[A-Fa-f0-9]{2}:){5}[A-Fa-f0-9]{2})"),
 ];
 
-/// What a library shows of its definitions, where its entries are those, in this order.
+/// Returns the debug text of a library with these definitions, in this order.
 fn library(alloc: Global, entries: &[(&str, &str)]) -> Result<String, AllocError> {
     let mut all = String::from_str(alloc, "Grok {")?;
     let mut separator = "";
@@ -35,7 +35,7 @@ fn library(alloc: Global, entries: &[(&str, &str)]) -> Result<String, AllocError
     Ok(all)
 }
 
-/// The pair of a name and its text is the expected one.
+/// Checks that a name and its text are the expected ones.
 fn check_pair(rt: &impl Abort, given: &(&str, &str), expected: &(&str, &str)) {
     let (name, text) = given;
     let (expected_name, expected_text) = expected;
@@ -52,7 +52,7 @@ fn default_definitions_are_these(rt: HostRuntime) {
     }
 }
 
-/// The library is shown so.
+/// Checks that the library has this debug text.
 fn check_shown(rt: &(impl Abort + AllocGlobal), grok: &Grok, expected: &str) -> Result<(), Fail> {
     let shown = format!(in rt.alloc(); "{grok:?}")?;
     assert_eq!(rt; shown.as_str(), expected);
@@ -83,7 +83,7 @@ fn default_libraries(rt: HostRuntime) -> Result<(), Fail> {
     check_shown(&rt, &Grok::empty(alloc), "Grok {}")
 }
 
-/// The names of a library, each with a line feed after it.
+/// Returns the names of a library, each followed by a line feed.
 fn listed(alloc: Global, grok: &Grok) -> Result<String, AllocError> {
     let mut all = String::new(alloc);
     for name in grok.names() {

@@ -1,4 +1,4 @@
-//! Errors, and how they are shown.
+//! Tests of errors, and of how they are displayed.
 
 use grok::Fault::{Malformed, Missing, TooDeep};
 use grok::parser::GrokPatternError::{InvalidCharacter, InvalidPattern, InvalidPatternDefinition};
@@ -8,7 +8,7 @@ use std::error;
 use std::process::Abort;
 use std::test::Fail;
 
-/// How an error is shown.
+/// The texts that an error is displayed as.
 #[derive(Clone, Copy)]
 struct Shown {
     name: &'static str,
@@ -16,7 +16,7 @@ struct Shown {
     debug: &'static str,
 }
 
-/// One row for each of `errors`, in their order.
+/// One row for each error that `errors` returns, in the same order.
 const SHOWN: &[Shown] = &[
     Shown {
         name: "too deep",
@@ -105,12 +105,12 @@ fn text(alloc: Global, text: &str) -> Result<String, AllocError> {
     String::from_str(alloc, text)
 }
 
-/// How any error is shown.
+/// Returns the text that an error is displayed as.
 fn displayed(alloc: Global, error: &impl error::Error) -> Result<String, AllocError> {
     format!(in alloc; "{error}")
 }
 
-/// One error of each kind, and two of some.
+/// Returns one error of each kind, and two of some kinds.
 fn errors(alloc: Global) -> Result<[Error; 8], AllocError> {
     Ok([
         Error::RecursionTooDeep,
@@ -124,7 +124,7 @@ fn errors(alloc: Global) -> Result<[Error; 8], AllocError> {
     ])
 }
 
-/// The error has this debug text.
+/// Checks that the error has this debug text.
 fn check_debug(
     rt: &(impl Abort + AllocGlobal),
     name: &str,
@@ -136,7 +136,7 @@ fn check_debug(
     Ok(())
 }
 
-/// The error is displayed so.
+/// Checks that the error is displayed as this text.
 fn check_display(
     rt: &(impl Abort + AllocGlobal),
     name: &str,
@@ -159,7 +159,7 @@ fn shown_errors(rt: HostRuntime) -> Result<(), Fail> {
     Ok(())
 }
 
-/// A clone of the error at this place equals it, and no other one.
+/// Checks that a clone of the error at this index equals that error and no other one.
 fn check_clone(rt: &impl Abort, errors: &[Error], place: usize, error: &Error) -> Result<(), Fail> {
     let copy = error.clone()?;
     for (other_place, other) in errors.iter().enumerate() {
@@ -169,7 +169,7 @@ fn check_clone(rt: &impl Abort, errors: &[Error], place: usize, error: &Error) -
     Ok(())
 }
 
-/// Refusals are shown and compared.
+/// Checks how refusals are displayed, and that they can be compared.
 fn check_refusals(rt: &(impl Abort + AllocGlobal)) -> Result<(), Fail> {
     let shown = format!(in rt.alloc(); "{:?} {:?}", Refusal::Refused, Refusal::Memory)?;
     assert_eq!(rt; shown.as_str(), "Refused Memory");
@@ -177,7 +177,7 @@ fn check_refusals(rt: &(impl Abort + AllocGlobal)) -> Result<(), Fail> {
     Ok(())
 }
 
-/// An error equals its clone, and no other one here.
+/// An error equals its clone, and none of the other errors.
 #[test]
 fn equal_errors(rt: HostRuntime) -> Result<(), Fail> {
     let errors = errors(rt.alloc())?;
@@ -187,7 +187,7 @@ fn equal_errors(rt: HostRuntime) -> Result<(), Fail> {
     check_refusals(&rt)
 }
 
-/// The error of a fault has its debug text.
+/// Checks that the error of a fault has the debug text of the row.
 fn check_fault(rt: &(impl Abort + AllocGlobal), row: &FaultRow) -> Result<(), Fail> {
     let error = row.fault.to_error(rt.alloc())?;
     check_debug(rt, row.name, &error, row.error)

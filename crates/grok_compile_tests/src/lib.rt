@@ -1,5 +1,5 @@
-//! Tests of what becomes of a text on its way to a pattern: its pieces, its size, and each error. Long chains and hostile
-//! libraries of definitions are among them.
+//! Tests of splitting, measuring and compiling patterns: the pieces, the size, and each error. Some of them use long
+//! chains of definitions and hostile libraries.
 #![tactic(auto)]
 
 #[cfg(test)]

@@ -1,9 +1,9 @@
-//! Long chains of definitions, and doublings.
+//! Makes libraries with long chains of definitions, and with doublings.
 
 use grok::Grok;
 use std::alloc::{AllocError, Global};
 
-/// Adds the link of this letter and number, which stands for the text.
+/// Adds the definition that is named by this letter and number, with this text.
 fn add_link(
     alloc: Global,
     grok: &mut Grok,
@@ -15,7 +15,7 @@ fn add_link(
     grok.add_pattern(name.as_str(), text)
 }
 
-/// Adds the link of this letter and number, which stands for the next one.
+/// Adds the definition that is named by this letter and number, and that uses the one with the next number.
 fn add_inner_link(
     alloc: Global,
     grok: &mut Grok,
@@ -27,7 +27,8 @@ fn add_inner_link(
     add_link(alloc, grok, letter, number, text.as_str())
 }
 
-/// Adds so many links, each named by the letter and its number from 1 on: each stands for the next one, and the one numbered `count` for `last`.
+/// Adds a chain of `count` definitions, which are named by the letter and the numbers from 1 on. Each uses the next
+/// one, and the last one is the text `last`.
 pub(crate) fn add_chain(
     alloc: Global,
     grok: &mut Grok,
@@ -41,13 +42,13 @@ pub(crate) fn add_chain(
     add_link(alloc, grok, letter, count, last)
 }
 
-/// Adds the doubling above the one of this number.
+/// Adds the definition that uses the doubling with this number twice.
 fn add_doubling(alloc: Global, grok: &mut Grok, below: u32) -> Result<(), AllocError> {
     let text = format!(in alloc; "%{{D{below}}}%{{D{below}}}")?;
     add_link(alloc, grok, "D", below.saturating_add(1), text.as_str())
 }
 
-/// Adds D0, which stands for this text, and D1 to D70, each of which stands for two of the one before.
+/// Adds `D0` with this text, and `D1` to `D70`, each of which uses the one before twice.
 pub(crate) fn add_doublings(
     alloc: Global,
     grok: &mut Grok,

@@ -1,5 +1,5 @@
-//! Where the first structural fault of a pattern stands: in the pattern, in a definition, below long
-//! chains and doublings, and in a circle.
+//! Tests of `locate`: where the first structural fault of a pattern is. It may be in the pattern, in a definition,
+//! below long chains and doublings, or in a circle.
 
 use crate::libraries::{add_chain, add_doublings};
 use grok::Fault::{Malformed, Missing, TooDeep};
@@ -8,7 +8,7 @@ use grok::{Fault, FaultLocation, Grok, Measure};
 use std::process::Abort;
 use std::test::Fail;
 
-/// A pattern, and where its first structural fault stands.
+/// A pattern, and where its first structural fault is.
 #[derive(Clone, Copy)]
 struct Located {
     name: &'static str,
@@ -22,8 +22,8 @@ struct Located {
     begin: usize,
 }
 
-/// Five definitions, one inside the other. Each ends in a placeholder without a definition, which is
-/// reached only if the ones inside have no fault.
+/// Five definitions, each of which uses the next one. Each ends in a placeholder without a definition, which is reached
+/// only if the definition that it uses has no fault.
 const FIVE: &[(&str, &str)] = &[
     ("A", "a%{B}%{nope}"),
     ("B", "%{C:c:int}%{nope}"),
@@ -33,10 +33,10 @@ const FIVE: &[(&str, &str)] = &[
     ("U", "u"),
 ];
 
-/// The path through these five.
+/// The path through these five definitions.
 const FIVE_NAMES: &[&str] = &["A", "B", "C", "D", "E"];
 
-/// The same five with other texts in the innermost one.
+/// The same five definitions, but for the text of the innermost one.
 const FIVE_MALFORMED: &[(&str, &str)] = &[
     ("A", "a%{B}%{nope}"),
     ("B", "%{C}%{nope}"),
@@ -206,7 +206,7 @@ const LOCATED: &[Located] = &[
     },
 ];
 
-/// The location is the one of the row.
+/// Checks that the location is that of the row.
 fn check_location(rt: &impl Abort, row: &Located, location: &FaultLocation<'_>) {
     assert_eq!(rt; location.fault, row.fault, "{}", row.name);
     assert_eq!(rt; location.path.as_slice(), row.path, "{}", row.name);
@@ -216,7 +216,7 @@ fn check_location(rt: &impl Abort, row: &Located, location: &FaultLocation<'_>) 
     assert_eq!(rt; location.range.start, row.begin, "{}", row.name);
 }
 
-/// The piece that was found has the same fault if it stands alone.
+/// Checks that the piece that was found has the same fault if it is measured alone.
 fn check_alone(rt: &impl Abort, grok: &Grok, row: &Located) -> Result<(), Fail> {
     let alone = grok.measure(row.piece, false)?;
     assert_eq!(rt; alone, Measure::Fault(row.fault), "{}", row.name);
@@ -240,15 +240,15 @@ fn located_faults(rt: HostRuntime) -> Result<(), Fail> {
     Ok(())
 }
 
-/// A pattern over a chain, whose first fault stands below many definitions.
+/// A pattern over a chain, whose first fault is nested in many definitions.
 #[derive(Clone, Copy)]
 struct Deep {
     name: &'static str,
-    /// The number of links of the chain C, and the text of the last one.
+    /// The number of definitions in the chain `C`, and the text of the last one.
     chain: (u32, &'static str),
     pattern: &'static str,
     fault: Fault<'static>,
-    /// How many names the path has, and the last of them.
+    /// How many names the path has, and the last one of them.
     path: (usize, &'static str),
     text: &'static str,
     range: (usize, usize),
@@ -320,7 +320,7 @@ const DEEP: &[Deep] = &[
     },
 ];
 
-/// The library of the row, with doublings of one letter.
+/// Returns the library of the row, with doublings of one letter.
 fn deep_library(rt: &impl AllocGlobal, row: &Deep) -> Result<Grok, Fail> {
     let mut grok = Grok::empty(rt.alloc());
     let (count, last) = row.chain;
@@ -356,7 +356,7 @@ fn located_in_depth(rt: HostRuntime) -> Result<(), Fail> {
     Ok(())
 }
 
-/// A fault in what doubles seventy times is in the first of all.
+/// A fault in the text that is doubled seventy times is found at its first use.
 #[test]
 fn located_in_a_doubling(rt: HostRuntime) -> Result<(), Fail> {
     let mut grok = Grok::empty(rt.alloc());
@@ -371,7 +371,7 @@ fn located_in_a_doubling(rt: HostRuntime) -> Result<(), Fail> {
     Ok(())
 }
 
-/// Patterns without a structural fault have no location: also a clash, and what is too long.
+/// A pattern without a structural fault has no location, even if it has a clash or is too long.
 #[test]
 fn nothing_to_locate(rt: HostRuntime) -> Result<(), Fail> {
     let mut grok = Grok::default(rt.alloc())?;
@@ -389,7 +389,7 @@ fn nothing_to_locate(rt: HostRuntime) -> Result<(), Fail> {
     Ok(())
 }
 
-/// A location is shown with all its parts.
+/// The debug text of a location has all of its parts.
 #[test]
 fn shown_location(rt: HostRuntime) -> Result<(), Fail> {
     let grok = Grok::from_iter(rt.alloc(), &[("A", "a%{nope}")])?;

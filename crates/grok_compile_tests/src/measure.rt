@@ -1,5 +1,5 @@
-//! What `measure` answers to each row of the table, to the default definitions, to many placeholders side by side and to
-//! the greatest length; and how measures are shown and compared.
+//! Tests of `measure` on each row of the table, on the default definitions, on many placeholders side by side, and on
+//! the greatest length. They also check how measures are displayed and compared.
 
 use crate::libraries::add_doublings;
 use crate::rows::{Row, clashes, rows};
@@ -12,7 +12,7 @@ use std::alloc::{AllocError, Global};
 use std::process::Abort;
 use std::test::Fail;
 
-/// A measure, and how it is shown.
+/// A measure, and its debug text.
 #[derive(Clone, Copy)]
 struct Shown {
     name: &'static str,
@@ -57,7 +57,7 @@ const SHOWN: &[Shown] = &[
     },
 ];
 
-/// The measure of a text of this length in bytes.
+/// Returns the measure with this length in bytes, number of groups, and nesting.
 fn size(length: usize, groups: usize, nesting: usize) -> Measure<'static> {
     Measure::Size {
         length,
@@ -66,13 +66,13 @@ fn size(length: usize, groups: usize, nesting: usize) -> Measure<'static> {
     }
 }
 
-/// The measure is as expected.
+/// Checks that the measure is the expected one.
 fn check_measure(rt: &impl Abort, name: &str, given: Measure<'_>, expected: Measure<'_>) {
     let is_right = given == expected;
     assert!(rt; is_right, "{name}: {given:?}");
 }
 
-/// The looks are those of the row, or at most those where there is a fault.
+/// Checks that the looks are those of the row, or at most those if there is a fault.
 fn check_looks(rt: &impl Abort, row: &Row, expected: Measure<'_>, looks: Looks) {
     let Some((pieces, ends)) = row.looks else {
         return;
@@ -83,7 +83,7 @@ fn check_looks(rt: &impl Abort, row: &Row, expected: Measure<'_>, looks: Looks) 
     assert!(rt; is_right, "{}: {looks:?}", row.name);
 }
 
-/// Both calls give the measure of the row, after as many looks as it says.
+/// Checks that `measure` and `measure_counted` return this measure, after as many looks as the row says.
 fn check_mode(
     rt: &impl Abort,
     row: &Row,
@@ -99,7 +99,7 @@ fn check_mode(
     Ok(())
 }
 
-/// The row holds in both modes.
+/// Checks the row in both modes.
 fn check_row(rt: &(impl Abort + AllocGlobal), row: &Row) -> Result<(), Fail> {
     let grok = row.library(rt.alloc())?;
     check_mode(rt, row, &grok, false, row.every)?;
@@ -122,7 +122,7 @@ fn measures_of_clashes(rt: HostRuntime) -> Result<(), Fail> {
     Ok(())
 }
 
-/// The text so many times.
+/// Returns the text repeated `times` times.
 fn repeated(alloc: Global, text: &str, times: u32) -> Result<String, AllocError> {
     let mut all = String::new(alloc);
     for _ in 0..times {
@@ -131,7 +131,7 @@ fn repeated(alloc: Global, text: &str, times: u32) -> Result<String, AllocError>
     Ok(all)
 }
 
-/// So many placeholders side by side have this measure.
+/// Checks that this many placeholders side by side have this measure.
 fn check_repeated(
     rt: &(impl Abort + AllocGlobal),
     grok: &Grok,
@@ -145,7 +145,7 @@ fn check_repeated(
     Ok(())
 }
 
-/// Many placeholders side by side, so that their numbers have up to four places.
+/// Many placeholders side by side, so that their numbers have up to four digits.
 #[test]
 fn long_numbers(rt: HostRuntime) -> Result<(), Fail> {
     let grok = Grok::from_iter(rt.alloc(), &[("A", "a")])?;
@@ -155,7 +155,7 @@ fn long_numbers(rt: HostRuntime) -> Result<(), Fail> {
     Ok(())
 }
 
-/// The placeholder of this name has the measure of the text that it compiles into.
+/// Checks that the placeholder with this name has the measure of the text that it is compiled to.
 fn check_default(
     rt: &impl Abort,
     grok: &Grok,
@@ -174,7 +174,7 @@ fn check_default(
     Ok(())
 }
 
-/// What the sizes are stands in the tests of `grok_tool check`.
+/// The sizes themselves are in the tests of `grok_tool check`.
 #[test]
 fn default_definitions(rt: HostRuntime) -> Result<(), Fail> {
     let grok = Grok::default(rt.alloc())?;
@@ -186,7 +186,7 @@ fn default_definitions(rt: HostRuntime) -> Result<(), Fail> {
     Ok(())
 }
 
-/// Adds the doubling of the number `top`, and the two below it.
+/// Appends placeholders for the doubling with the number `top` and for the two below it.
 fn add_turn(pattern: &mut String, top: u32) -> Result<(), AllocError> {
     for down in 0..3u32 {
         let number = top.saturating_sub(down);
@@ -195,7 +195,8 @@ fn add_turn(pattern: &mut String, top: u32) -> Result<(), AllocError> {
     Ok(())
 }
 
-/// For 60, 54, and so on down to 6, the doubling of that number and the two below it; then so many letters.
+/// Returns a pattern with a turn for 60, 54, and so on down to 6, followed by this many letters. A turn has the
+/// doubling with that number and the two below it.
 fn turns_and_letters(alloc: Global, letters: u32) -> Result<String, AllocError> {
     let mut pattern = String::new(alloc);
     for turn in 1..11u32 {
@@ -207,7 +208,7 @@ fn turns_and_letters(alloc: Global, letters: u32) -> Result<String, AllocError> 
     Ok(pattern)
 }
 
-/// Those turns with so many letters have this measure.
+/// Checks that those turns with this many letters have this measure.
 fn check_letters(
     rt: &(impl Abort + AllocGlobal),
     grok: &Grok,
@@ -221,7 +222,7 @@ fn check_letters(
     Ok(())
 }
 
-/// The greatest length that there is, and one byte more.
+/// The greatest length that fits into a `usize`, and one byte more.
 #[test]
 fn greatest_length(rt: HostRuntime) -> Result<(), Fail> {
     let mut grok = Grok::empty(rt.alloc());
@@ -237,7 +238,7 @@ fn greatest_length(rt: HostRuntime) -> Result<(), Fail> {
     Ok(())
 }
 
-/// The measure is shown so, and equals its clone.
+/// Checks that the measure has the debug text of the row, and that it equals its clone.
 fn check_shown(rt: &(impl Abort + AllocGlobal), row: &Shown) -> Result<(), Fail> {
     let shown = format!(in rt.alloc(); "{:?}", row.measure)?;
     assert_eq!(rt; shown.as_str(), row.debug, "{}", row.name);
@@ -246,7 +247,7 @@ fn check_shown(rt: &(impl Abort + AllocGlobal), row: &Shown) -> Result<(), Fail>
     Ok(())
 }
 
-/// Looks are shown, cloned and compared.
+/// Checks that looks can be displayed, cloned and compared.
 fn check_shown_looks(rt: &(impl Abort + AllocGlobal)) -> Result<(), Fail> {
     let looks = Looks { pieces: 2, ends: 1 };
     let shown = format!(in rt.alloc(); "{looks:?}")?;
@@ -265,7 +266,7 @@ fn shown_measures(rt: HostRuntime) -> Result<(), Fail> {
     check_shown_looks(&rt)
 }
 
-/// The measure equals the one at this place, and no other one.
+/// Checks that the measure equals the one at this index, and no other one.
 fn check_equal<'m>(rt: &impl Abort, measures: &[Measure<'m>], place: usize, measure: &Measure<'m>) {
     for (other_place, other) in measures.iter().enumerate() {
         let is_same = measure == other;
@@ -273,7 +274,7 @@ fn check_equal<'m>(rt: &impl Abort, measures: &[Measure<'m>], place: usize, meas
     }
 }
 
-/// A fault is shown, and equals its clone.
+/// Checks that a fault has its debug text, and that it equals its clone.
 fn check_shown_fault(rt: &(impl Abort + AllocGlobal)) -> Result<(), Fail> {
     let fault: Fault<'_> = Missing("a");
     let copy = fault.clone()?;

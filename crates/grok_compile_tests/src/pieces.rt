@@ -1,4 +1,4 @@
-//! The pieces of texts, with their ranges, parts and faults, and how they are shown.
+//! Tests of the pieces of texts: their ranges, parts and faults, and how they are displayed.
 
 use grok::parser::GrokPatternError::{InvalidCharacter, InvalidPattern, InvalidPatternDefinition};
 use grok::parser::{GrokComponent, GrokPatternError, grok_split};
@@ -11,7 +11,7 @@ use std::test::Fail;
 struct Split {
     name: &'static str,
     text: &'static str,
-    /// The range, the text and the parts of each piece, with a line feed after it.
+    /// The range, the text and the parts of each piece, followed by a line feed.
     pieces: &'static str,
 }
 
@@ -61,7 +61,7 @@ const SPLITS: &[Split] = &[
 /// A placeholder and its parts.
 #[derive(Clone, Copy)]
 struct Placeholder {
-    /// What the row shows.
+    /// What the row is a test of.
     shows: &'static str,
     text: &'static str,
     name: &'static str,
@@ -145,7 +145,7 @@ const LEGAL: &[Placeholder] = &[
     },
 ];
 
-/// A placeholder that is malformed, and its fault.
+/// A malformed placeholder, and its fault.
 #[derive(Clone, Copy)]
 struct Malformed {
     name: &'static str,
@@ -256,7 +256,7 @@ const ILLEGAL: &[Malformed] = &[
     },
 ];
 
-/// A text, and how its pieces are shown, each with a line feed after it.
+/// A text, and how its pieces are displayed, each followed by a line feed.
 #[derive(Clone, Copy)]
 struct Shown {
     name: &'static str,
@@ -304,7 +304,7 @@ const SHOWN: &[Shown] = &[
     },
 ];
 
-/// A placeholder with a character that is not allowed, and how its fault is shown.
+/// A placeholder with a character that isn't allowed, and how its fault is displayed.
 #[derive(Clone, Copy)]
 struct OddCharacter {
     name: &'static str,
@@ -371,7 +371,8 @@ const VIEWS: &str =
 const QUERIES: &str =
     r"%{NUMBER:ts}\t%{NOTSPACE:uid}\t%{IP:orig_h}\t%{INT:orig_p}\t%{IP:resp_h}\t%{INT:resp_p}\t%{WORD:proto}\t%{INT:trans_id}\t%{GREEDYDATA:query}\t%{GREEDYDATA:qclass}\t%{GREEDYDATA:qclass_name}\t%{GREEDYDATA:qtype}\t%{GREEDYDATA:qtype_name}\t%{GREEDYDATA:rcode}\t%{GREEDYDATA:rcode_name}\t%{GREEDYDATA:AA}\t%{GREEDYDATA:TC}\t%{GREEDYDATA:RD}\t%{GREEDYDATA:RA}\t%{GREEDYDATA:Z}\t%{GREEDYDATA:answers}\t%{GREEDYDATA:TTLs}\t%{GREEDYDATA:rejected}";
 
-/// What a piece has, field by field: its range, its text, the parts of a placeholder; or its fault.
+/// Returns the fields of a piece as one text: its range, its text, and the parts of a placeholder. For a malformed
+/// placeholder it is the fault.
 fn row(alloc: Global, piece: &GrokComponent<'_>) -> Result<String, AllocError> {
     match piece {
         GrokComponent::RegularExpression { range, string } => {
@@ -392,14 +393,14 @@ fn row(alloc: Global, piece: &GrokComponent<'_>) -> Result<String, AllocError> {
     }
 }
 
-/// Adds the row of a piece, with a line feed after it.
+/// Appends the fields of a piece, followed by a line feed.
 fn push_row(alloc: Global, all: &mut String, piece: &GrokComponent<'_>) -> Result<(), AllocError> {
     let row = row(alloc, piece)?;
     all.push_str(row.as_str())?;
     all.push_str("\n")
 }
 
-/// The rows of the pieces of the text, each with a line feed after it.
+/// Returns the fields of each piece of the text, each followed by a line feed.
 fn rows(alloc: Global, text: &str) -> Result<String, AllocError> {
     let mut all = String::new(alloc);
     for piece in grok_split(text) {
@@ -408,7 +409,7 @@ fn rows(alloc: Global, text: &str) -> Result<String, AllocError> {
     Ok(all)
 }
 
-/// The pieces of the text have these rows.
+/// Checks that the pieces of the text have these fields.
 fn check_rows(
     rt: &(impl Abort + AllocGlobal),
     name: &str,
@@ -420,7 +421,7 @@ fn check_rows(
     Ok(())
 }
 
-/// The fault of a text, if it is all that a split gives, and nothing comes after it.
+/// Returns the fault of a text, if it is the only piece of the text.
 fn only_fault(text: &str) -> Option<GrokPatternError> {
     let mut split = grok_split(text);
     let first = split.next()?;
@@ -439,7 +440,7 @@ fn pieces_with_ranges_and_parts(rt: HostRuntime) -> Result<(), Fail> {
     Ok(())
 }
 
-/// The text is one placeholder with the parts of the row.
+/// Checks that the text is one placeholder with the parts of the row.
 fn check_placeholder(rt: &(impl Abort + AllocGlobal), row: &Placeholder) -> Result<(), Fail> {
     let expected = format!(in rt.alloc();
         "0..{} {} name={} alias={} extract={} definition={}\n",
@@ -469,7 +470,7 @@ fn illegal_placeholders(rt: HostRuntime) {
     }
 }
 
-/// The pieces of the text as Display writes them, each with a line feed after it.
+/// Returns the pieces of the text as `Display` writes them, each followed by a line feed.
 fn displayed(alloc: Global, text: &str) -> Result<String, AllocError> {
     let mut all = String::new(alloc);
     for piece in grok_split(text) {
@@ -478,7 +479,7 @@ fn displayed(alloc: Global, text: &str) -> Result<String, AllocError> {
     Ok(all)
 }
 
-/// The pieces of the text as Debug writes them, each with a line feed after it.
+/// Returns the pieces of the text as `Debug` writes them, each followed by a line feed.
 fn debugged(alloc: Global, text: &str) -> Result<String, AllocError> {
     let mut all = String::new(alloc);
     for piece in grok_split(text) {
@@ -487,7 +488,7 @@ fn debugged(alloc: Global, text: &str) -> Result<String, AllocError> {
     Ok(all)
 }
 
-/// The pieces of the text are displayed so.
+/// Checks that the pieces of the text are displayed as this text.
 fn check_display(
     rt: &(impl Abort + AllocGlobal),
     name: &str,
@@ -499,7 +500,7 @@ fn check_display(
     Ok(())
 }
 
-/// The pieces of the text have this debug text.
+/// Checks that the pieces of the text have this debug text.
 fn check_debug(
     rt: &(impl Abort + AllocGlobal),
     name: &str,
@@ -520,14 +521,14 @@ fn shown_pieces(rt: HostRuntime) -> Result<(), Fail> {
     Ok(())
 }
 
-/// A fault is shown the same in both ways.
+/// Checks that `Display` and `Debug` write the same text for a fault.
 fn check_shown_fault(rt: &(impl Abort + AllocGlobal), row: &OddCharacter) -> Result<(), Fail> {
     let line = format!(in rt.alloc(); "{}\n", row.fault)?;
     check_display(rt, row.name, row.text, line.as_str())?;
     check_debug(rt, row.name, row.text, line.as_str())
 }
 
-/// Rust's debug text of each character, within the name of the fault.
+/// The text of the fault has the character as Rust's `Debug` writes it.
 #[test]
 fn odd_characters(rt: HostRuntime) -> Result<(), Fail> {
     for row in ODD_CHARACTERS {
@@ -536,7 +537,7 @@ fn odd_characters(rt: HostRuntime) -> Result<(), Fail> {
     Ok(())
 }
 
-/// The text has no fault, and its pieces are its parts in their order.
+/// Checks that the text has no fault, and that its pieces, joined in their order, are the text.
 fn check_joined(rt: &(impl Abort + AllocGlobal), text: &str) -> Result<(), Fail> {
     let mut joined = String::new(rt.alloc());
     for piece in grok_split(text) {
@@ -548,7 +549,7 @@ fn check_joined(rt: &(impl Abort + AllocGlobal), text: &str) -> Result<(), Fail>
     Ok(())
 }
 
-/// The rows of the pieces of `VIEWS`.
+/// Returns the fields of the pieces of `VIEWS`.
 fn rows_of_views(alloc: Global) -> Result<String, AllocError> {
     let mut all = String::new(alloc);
     for row in [

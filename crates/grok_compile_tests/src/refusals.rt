@@ -1,4 +1,5 @@
-//! Why `regex` refuses an expanded text, and where in that text: in the pattern, and in definitions.
+//! Tests of `why_refused`: why `regex` refuses an expanded text, and where in that text. The error may come from the
+//! pattern or from a definition.
 
 use grok::{Error, Grok, RefusalReason, RegexRefusal};
 use regex_syntax::ErrorKind;
@@ -162,7 +163,7 @@ const REFUSED: &[Refused] = &[
     },
 ];
 
-/// The refusal is the one of the row.
+/// Checks that the refusal is that of the row.
 fn check_refusal(rt: &impl Abort, row: &Refused, refusal: &RegexRefusal) {
     assert_eq!(rt; refusal.text.as_str(), row.text, "{}", row.name);
     match refusal.reason {
@@ -199,7 +200,7 @@ fn refused_texts(rt: HostRuntime) -> Result<(), Fail> {
     Ok(())
 }
 
-/// A text that would need too large an automaton has no range.
+/// The refusal of a text that is too big has no range.
 #[test]
 fn too_big(rt: HostRuntime) -> Result<(), Fail> {
     let grok = Grok::from_iter(rt.alloc(), &[("A", "a{1000}")])?;
@@ -212,7 +213,7 @@ fn too_big(rt: HostRuntime) -> Result<(), Fail> {
     Ok(())
 }
 
-/// What compiles isn't refused.
+/// A pattern that compiles isn't refused.
 #[test]
 fn nothing_refused(rt: HostRuntime) -> Result<(), Fail> {
     let grok = Grok::default(rt.alloc())?;
@@ -223,7 +224,7 @@ fn nothing_refused(rt: HostRuntime) -> Result<(), Fail> {
     Ok(())
 }
 
-/// Every other error is the one of compiling.
+/// All other errors are those of compiling.
 #[test]
 fn other_errors(rt: HostRuntime) -> Result<(), Fail> {
     let grok = Grok::default(rt.alloc())?;

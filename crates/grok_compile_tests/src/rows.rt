@@ -1,4 +1,4 @@
-//! The table of long chains and doubled definitions: what a pattern over them measures and compiles into.
+//! A table of patterns over long chains and doubled definitions, with their measures and the errors of compiling them.
 
 use crate::libraries::{add_chain, add_doublings};
 use grok::Fault::{Malformed, Missing, TooDeep};
@@ -7,29 +7,29 @@ use grok::parser::GrokPatternError::{InvalidCharacter, InvalidPattern};
 use grok::{Grok, Measure};
 use std::alloc::{AllocError, Global};
 
-/// A pattern, and what it gives.
+/// A pattern over a library of definitions, with its measures and its error.
 #[derive(Clone, Copy)]
 pub struct Row {
-    /// What the row shows.
+    /// What the row is a test of.
     pub name: &'static str,
     /// Names with their definitions.
     pub definitions: &'static [(&'static str, &'static str)],
-    /// The letter of each chain, the number of its links, and what the last one stands for.
+    /// The letter of each chain, the number of its definitions, and the text of the last one.
     pub chains: &'static [(&'static str, u32, &'static str)],
-    /// What the first of the doublings stands for, if there are any.
+    /// The text of `D0`, if the library has doublings.
     pub doubled: Option<&'static str>,
     pub pattern: &'static str,
-    /// The measure where each placeholder captures.
+    /// The measure if every placeholder captures.
     pub every: Measure<'static>,
-    /// The measure where those with an alias do, and no others.
+    /// The measure if only placeholders with an alias capture.
     pub aliased: Measure<'static>,
-    /// How many pieces and ends `measure_counted` reads, or at most where there is a fault.
+    /// How many pieces and ends `measure_counted` reads, or the most that it may read if there is a fault.
     pub looks: Option<(u64, u64)>,
-    /// The debug text of the error of compiling in either mode, if there is one.
+    /// The debug text of the error of compiling, in both modes, if there is one.
     pub error: Option<&'static str>,
 }
 
-/// What a row has where it says nothing else: nothing that is long.
+/// The defaults of a row: an empty pattern over an empty library.
 const BLANK: Row = Row {
     name: "the empty pattern",
     definitions: &[],
@@ -50,8 +50,8 @@ const BLANK: Row = Row {
     error: Some("CompiledPatternIsEmpty(\"\")"),
 };
 
-/// As many placeholders in one another as are allowed: 8 bytes each and 10 + 180 + 2,700 + 92 digits of their numbers
-/// where they capture, 4 bytes each where they don't, and the one letter.
+/// As many nested placeholders as are allowed. If they capture, each takes 8 bytes, and their numbers take 10 + 180 +
+/// 2,700 + 92 digits. If they don't, each takes 4 bytes. The letter takes one byte.
 pub const DEEPEST: Row = Row {
     name: "1,023 placeholders in one another",
     chains: &[("C", 1023, "x")],
@@ -71,7 +71,7 @@ pub const DEEPEST: Row = Row {
     ..BLANK
 };
 
-/// What opens one placeholder too many in another.
+/// A pattern with one nested placeholder too many.
 const DEEPER: Row = Row {
     name: "1,024 placeholders in one another",
     every: Fault(TooDeep),
@@ -81,10 +81,10 @@ const DEEPER: Row = Row {
     ..BLANK
 };
 
-/// 500 links, and 600 above them.
+/// A chain of 500 definitions, and one of 600 that ends in it.
 const TWO_CHAINS: &[(&str, u32, &str)] = &[("H", 500, "x"), ("C", 600, "%{H1}")];
 
-/// What has a text far too long.
+/// A pattern whose expanded text is far too long.
 const LONGER: Row = Row {
     name: "a text that is far too long",
     doubled: Some("a"),
@@ -96,7 +96,7 @@ const LONGER: Row = Row {
     ..BLANK
 };
 
-/// A base key that is used in very many texts, and a missing definition after them.
+/// A base key that is used very often, followed by a missing definition.
 const MANY_KEYS: Row = Row {
     name: "a key that is used 2^44 times",
     definitions: &[("A", "a")],
@@ -109,7 +109,7 @@ const MANY_KEYS: Row = Row {
     ..BLANK
 };
 
-/// Definitions that together use a key 2^64 - 1 times, and a missing one after them.
+/// Definitions that together use a key 2^64 - 1 times, followed by a missing one.
 const MOST_USES: &str =
     "%{A:y[1]}%{D63}%{D62}%{D61}%{D60}%{D59}%{D58}%{D57}%{D56}%{D55}%{D54}%{D53}%{D52}%{D51}%{D50}%{D49}%{D48}%{D47}%{D46}%{D45}%{D44}%{D43}%{D42}%{D41}%{D40}%{D39}%{D38}%{D37}%{D36}%{D35}%{D34}%{D33}%{D32}%{D31}%{D30}%{D29}%{D28}%{D27}%{D26}%{D25}%{D24}%{D23}%{D22}%{D21}%{D20}%{D19}%{D18}%{D17}%{D16}%{D15}%{D14}%{D13}%{D12}%{D11}%{D10}%{D9}%{D8}%{D7}%{D6}%{D5}%{D4}%{D3}%{D2}%{D1}%{D0}%{missing}";
 
@@ -173,7 +173,7 @@ const ROWS: &[Row] = &[
         pattern: "%{A:x[2]}%{A:x}%{C1}",
         ..DEEPER
     },
-    // How deep a name stands counts anew wherever it is used.
+    // The nesting of a definition is counted anew wherever it is used.
     Row {
         name: "a chain alone and then below another one",
         chains: TWO_CHAINS,
@@ -187,7 +187,7 @@ const ROWS: &[Row] = &[
         ..DEEPER
     },
     Row {
-        // 500 groups: 8 bytes each, 10 + 180 + 1,200 places of their numbers, and the one letter.
+        // 500 groups take 8 bytes each, their numbers take 10 + 180 + 1,200 digits, and the letter takes one byte.
         name: "a chain alone",
         chains: TWO_CHAINS,
         pattern: "%{H1}",
@@ -237,7 +237,7 @@ const ROWS: &[Row] = &[
         looks: Some((604, 602)),
         ..DEEPER
     },
-    // Texts that double ten times and more.
+    // Texts that are doubled ten times and more.
     Row {
         name: "a text that doubles ten times",
         doubled: Some("a"),
@@ -247,7 +247,7 @@ const ROWS: &[Row] = &[
             groups: 2047,
             nesting: 11,
         },
-        // 2,047 placeholders of 4 bytes each, and 1,024 letters.
+        // 2,047 placeholders take 4 bytes each, and there are 1,024 letters.
         aliased: Size {
             length: 9212,
             groups: 0,
@@ -334,7 +334,8 @@ const ROWS: &[Row] = &[
         looks: Some((1096, 1025)),
         ..DEEPER
     },
-    // Keys that are used very often, up to a missing definition: no walk takes each of their placeholders.
+    // Keys that are used very often before a missing definition. Visiting each of their placeholders would take
+    // forever.
     MANY_KEYS,
     Row {
         name: "a key that the second of 2^44 placeholders is to get",
@@ -422,8 +423,8 @@ const ROWS: &[Row] = &[
     },
 ];
 
-/// Clashes in texts without a structural fault, which are found before room for the text is reserved. They are a table of
-/// their own because the prover can't take a longer one.
+/// Clashes in patterns without a structural fault. They are found before memory for the expanded text is reserved. They
+/// are in a table of their own because the prover can't handle a longer table.
 const CLASHES: &[Row] = &[
     Row {
         name: "a clash in a text that is far too long",
@@ -498,18 +499,18 @@ const CLASHES: &[Row] = &[
     },
 ];
 
-/// The rows of clashes in texts without a structural fault.
+/// Returns the rows of clashes in patterns without a structural fault.
 pub(crate) fn clashes() -> &'static [Row] {
     CLASHES
 }
 
-/// All other rows.
+/// Returns all other rows.
 pub(crate) fn rows() -> &'static [Row] {
     ROWS
 }
 
 impl Row {
-    /// The library of the row.
+    /// Returns the library of the row.
     pub(crate) fn library(&self, alloc: Global) -> Result<Grok, AllocError> {
         let mut grok = Grok::from_iter(alloc, self.definitions)?;
         for (letter, count, last) in self.chains {

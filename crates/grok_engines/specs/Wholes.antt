@@ -1,12 +1,12 @@
--- What the engines of this crate find.
+-- What the engines of this crate capture.
 use Rattle.std.specs.Prelude.{◌≡◌, ℕ, ◌≤◌, List, [], ◌∷◌, Option, None, Some, map, length, ◌||◌, ◌==◌, ◌%◌, if◌then◌else◌, slice_range}
 use Rattle.std.specs.List.{range_with_len}
 
--- the whole line at place 0
+-- Group 0 captures the whole line, and there is no other group.
 abbrev pub whole_line : List ℕ → Option (List (Option (List ℕ)))
 whole_line line = Some (Some line ∷ [])
 
--- the whole line at place 0 and at each odd place, and nothing at the others
+-- What the group with this number captures: the whole line for 0 and for each odd number, and nothing for the others.
 abbrev pub line_at : List ℕ → ℕ → Option (List ℕ)
 line_at line place = if (place == 0) || (place % 2 == 1) then Some line else None
 

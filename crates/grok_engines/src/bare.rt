@@ -1,4 +1,4 @@
-//! An engine with group 0 alone.
+//! An engine that has only group 0.
 ghost use Rattle.std.specs.Prelude.{◌≡◌, length, string_bytes};
 ghost use Rattle.grok.specs.Captures.{name_texts};
 ghost use Rattle.grok_engines.specs.Wholes.{whole_line};
@@ -6,8 +6,8 @@ ghost use Rattle.grok_engines.specs.Wholes.{whole_line};
 use grok::{Engine, Refusal};
 use std::alloc::{AllocError, Global};
 
-/// Takes every text, has group 0 alone, and finds each line whole. Its `build` keeps the text and
-/// asks for memory once.
+/// An engine that accepts every text, has only group 0, and matches each line as a whole. Its `build` keeps the text
+/// and makes one allocation.
 #[derive(Drop)]
 pub struct Bare {
     text: String,

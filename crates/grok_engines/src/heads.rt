@@ -1,4 +1,4 @@
-//! An engine that reads the names of groups, and nothing else.
+//! An engine that reads only the names of the groups of a text.
 ghost use Rattle.std.specs.Prelude.{◌≡◌, length, vec_len, map, string_bytes, option_map, IfOk, IfSome, OnOk};
 ghost use Rattle.std.specs.List.{range_with_len};
 ghost use Rattle.std.specs.Option.{ForSome};
@@ -9,8 +9,8 @@ ghost use Rattle.grok_engines.specs.Wholes.{line_at, whole_at_odd};
 use grok::{Engine, EngineMatcher, HasMatcher, Refusal};
 use std::alloc::{AllocError, Global};
 
-/// Takes every text. Its names are those between `(?<` and `>`, from left to right. It finds each
-/// line whole, at place 0 and at each odd place, and nothing at the others.
+/// An engine that accepts every text. Its groups are named by what is between `(?<` and `>`, from left to right. It
+/// matches each line: group 0 and each odd group capture the whole line, and the other groups capture nothing.
 #[derive(Drop)]
 pub struct Heads {
     text: String,
@@ -55,7 +55,8 @@ impl Engine for Heads {
     }
 }
 
-/// The line at place 0 and at each odd place, and nothing at the others.
+/// Returns what group number `place` captures: the whole line for 0 and for each odd number, and nothing for the
+/// others.
 #[tactic(auto, using(crate::proofs::WholeLines::whole))]
 fn whole_at(line: &str, place: usize) -> Option<&str>
     ensures text { option_map text_of result ≡ line_at line.now place }
@@ -68,7 +69,8 @@ fn whole_at(line: &str, place: usize) -> Option<&str>
     }
 }
 
-/// Where the whole line stands, at place 0 and at each odd place, and nothing at the others.
+/// Returns the byte range that group number `place` captures: that of the whole line for 0 and for each odd number, and
+/// nothing for the others.
 #[tactic(auto, using(crate::proofs::WholeLines::whole_place, crate::proofs::WholeLines::whole_text))]
 fn location_at(line: &str, place: usize) -> Option<(usize, usize)>
     ensures text { option_map (located_text line.now) result ≡ line_at line.now place }
@@ -81,7 +83,7 @@ fn location_at(line: &str, place: usize) -> Option<(usize, usize)>
     }
 }
 
-/// Writes where so many groups stand in the line, in the place of what the list has.
+/// Replaces the contents of the list by what this many groups capture in the line.
 fn write_locations(
     locations: &mut Vec<Option<(usize, usize)>>,
     line: &str,
@@ -99,18 +101,19 @@ fn write_locations(
     Ok(())
 }
 
-/// What stands between the first `(?<` and the next `>`, and what stands after that.
+/// Returns the text between the first `(?<` and the next `>`, and the text after that.
 fn split_head(text: &str) -> Option<(&str, &str)> {
     let (_, head) = text.split_once("(?<")?;
     split_close(head)
 }
 
-/// What stands before the first `>`, and what stands after it.
+/// Returns the text before the first `>`, and the text after it.
 fn split_close(head: &str) -> Option<(&str, &str)> {
     head.split_once(">")
 }
 
-/// The text with its names: none, and then each run between `(?<` and the next `>`.
+/// Returns the engine for a text. Group 0 has no name, and each further group is named by what is between `(?<` and the
+/// next `>`.
 fn read_heads(alloc: Global, text: &str) -> Result<Heads, AllocError>
     ensures { IfOk result (λ engine. string_bytes engine.text ≡ text.now) }
 {
@@ -130,7 +133,7 @@ fn read_heads(alloc: Global, text: &str) -> Result<Heads, AllocError>
     })
 }
 
-/// A search that asks its engine for each line.
+/// A matcher that asks its engine for each line.
 #[derive(Drop)]
 pub struct HeadsMatcher<'e> {
     engine: &'e Heads,

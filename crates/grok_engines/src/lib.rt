@@ -1,4 +1,5 @@
-//! Engines for tests of what stands on the trait `Engine`: each keeps its laws, and none searches.
+//! Engines for tests of code that is generic over the trait `Engine`. Each of them fulfills the contract of the trait,
+//! and none really searches.
 #![tactic(auto)]
 
 mod bare;

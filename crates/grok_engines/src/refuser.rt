@@ -1,9 +1,9 @@
-//! An engine that refuses.
+//! An engine that refuses every text.
 use crate::bare::Bare;
 use grok::{Engine, Refusal};
 use std::alloc::{AllocError, Global};
 
-/// Refuses every text. No value of it is ever made; it would answer as `Bare` does.
+/// An engine that refuses every text, so that no value of this type is ever made. Its methods are those of `Bare`.
 #[derive(Drop)]
 pub struct Refuser {
     bare: Bare,

@@ -9,7 +9,8 @@ use std::io::ErrorKind;
 use std::process::ExitCode;
 use std::{env, io};
 
-/// Words that are no UTF-8 are a wrong use. A failed allocation is reported as such.
+/// Returns the fault of words that can't be read. Words that aren't UTF-8 are reported as a wrong use, and a failed
+/// allocation as such.
 fn words_fault(error: io::Error) -> ToolFault {
     if error.kind() == ErrorKind::OutOfMemory {
         ToolFault::Memory
@@ -18,7 +19,7 @@ fn words_fault(error: io::Error) -> ToolFault {
     }
 }
 
-/// Runs the program's words on its input and its output.
+/// Runs the words of the command line on standard input and standard output.
 fn work(rt: &HostRuntime) -> Result<(), ToolFault> {
     let alloc = rt.alloc();
     let mut arguments: Vec<String> = Vec::new(alloc);
@@ -36,7 +37,7 @@ fn main(rt: HostRuntime) -> ExitCode {
     match work(&rt) {
         Ok(()) => ExitCode::SUCCESS,
         Err(fault) => {
-            // Nothing is left to do where standard error fails too.
+            // If writing to standard error fails too, there is nothing left to do.
             let _ = eprintln!(rt; "{fault}");
             match fault {
                 ToolFault::Pattern(_) => ExitCode::from(1),

@@ -1,4 +1,4 @@
-//! Tests of `run`, by its commands and by its devices, and of what stands around it.
+//! Tests of `run`, with each command and with various devices, and of the texts of its faults.
 mod cases;
 mod cuts;
 mod default_sizes;
@@ -17,7 +17,7 @@ use outcome::{Ending, check_untouched, outcome_of};
 use std::process::Abort;
 use std::test::Fail;
 
-/// Words that are no command.
+/// Runs whose words are no command.
 const MISUSES: &[Run] = &[
     UNREAD,
     Run {
@@ -87,7 +87,7 @@ fn wrong_words(rt: HostRuntime) -> Result<(), Fail> {
     Ok(())
 }
 
-/// The fault prints this text.
+/// Checks that the fault is displayed as this text.
 fn check_text(
     rt: &(impl Abort + AllocGlobal),
     fault: ToolFault,

@@ -1,5 +1,5 @@
-//! An engine of one's own, which knows no regular expressions: it finds its text at the front of a
-//! line.
+//! An example of an engine of one's own. It knows no regular expressions: it matches lines that
+//! begin with its text.
 ghost use Rattle.std.specs.Prelude.{◌≡◌, length, string_bytes};
 ghost use Rattle.grok.specs.{name_texts};
 ghost use Rattle.grok_uses.specs.Uses.{prefix_answer};
@@ -7,7 +7,7 @@ ghost use Rattle.grok_uses.specs.Uses.{prefix_answer};
 use grok::{Engine, Refusal};
 use std::alloc::{AllocError, Global};
 
-/// Finds its text where a line begins with it. Group 0 is all that it has.
+/// An engine that matches a line if the line begins with its text. It has only group 0.
 #[derive(Drop)]
 pub(crate) struct Prefix {
     text: String,

@@ -1,11 +1,12 @@
-//! A filter by extracts: of a match, only the values of one kind.
+//! An example of a filter by extracts: it keeps only the values of a match whose key has one
+//! extract.
 ghost use Rattle.std.specs.Prelude.{◌≡◌, IfOk, map, string_bytes};
 ghost use Rattle.grok_uses.specs.Uses.{pairs_in, values_of_kind};
 
 use grok::{Engine, PatternOf};
 use std::alloc::{AllocError, Global};
 
-/// The values of this kind, by the extract of their key, that the pattern finds in the line, in
+/// Returns the values that the pattern finds in the line and whose key has this extract, in the
 /// byte order of their keys. It fails only if an allocation fails.
 pub(crate) fn values_of_kind<E: Engine>(
     alloc: Global,

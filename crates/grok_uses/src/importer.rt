@@ -1,11 +1,11 @@
-//! An importer: one matcher for many lines, and a count of a key.
+//! An example of an importer: it uses one matcher for many lines, and counts those that have a key.
 ghost use Rattle.std.specs.Prelude.{◌≡◌, IfOk, count_by};
 ghost use Rattle.grok_uses.specs.Uses.{has_key};
 
 use grok::{HasMatcher, MatcherOf, PatternOf};
 use std::alloc::AllocError;
 
-/// Whether the line gives the key a text.
+/// Returns whether the key has a value in the line.
 fn gives_key<'p, E: HasMatcher<'p>>(
     matcher: &mut MatcherOf<'p, E>,
     key: &str,
@@ -21,7 +21,7 @@ fn gives_key<'p, E: HasMatcher<'p>>(
     }
 }
 
-/// How many of the lines give the key a text. It fails only if an allocation fails.
+/// Returns in how many of the lines the key has a value. It fails only if an allocation fails.
 #[tactic(auto, using(std::proofs::lemmas::List::Sums::count_by_more_yes, std::proofs::lemmas::List::Sums::count_by_more_no))]
 pub(crate) fn count_of_key<'p, E: HasMatcher<'p>>(
     pattern: &'p PatternOf<E>,

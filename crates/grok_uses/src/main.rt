@@ -1,4 +1,5 @@
-//! The library example of README. The modules beside it are further callers of the library.
+//! The example of the library in README. The other modules of this crate are further callers of the
+//! library.
 #![tactic(auto)]
 
 mod engine;

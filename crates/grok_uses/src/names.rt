@@ -1,4 +1,4 @@
-//! A user of the splitter: the names that a pattern asks for.
+//! An example that uses the splitter: it lists the names of the placeholders of a pattern.
 ghost use Rattle.std.specs.Prelude.{◌≡◌, IfOk, filter_map, map};
 ghost use Rattle.grok.specs.{pieces, text_of};
 ghost use Rattle.grok_uses.specs.Uses.{name_of};
@@ -6,7 +6,8 @@ ghost use Rattle.grok_uses.specs.Uses.{name_of};
 use grok::parser::{GrokComponent, grok_split};
 use std::alloc::{AllocError, Global};
 
-/// The names of the placeholders of a pattern, in its order. It fails only if an allocation fails.
+/// Returns the names of the placeholders of a pattern, in their order. It fails only if an
+/// allocation fails.
 pub(crate) fn placeholder_names<'a>(
     alloc: Global,
     pattern: &'a str,

@@ -1,4 +1,4 @@
--- What follows a name is read by its first character.
+-- The first character after a name decides how the rest is read.
 use Rattle.std.proofs.Common.{◌≡◌, ℕ, ◌<◌, Bool, true, false, List, [], ◌∷◌, ◌++◌, length, Option, Some, None, refl, sym, ap, ◌∙◌, arith, length-append}
 use lib.Utf8.{encode}
 use Rattle.std.proofs.lemmas.Str.{char_from_byte, length-encode, len_utf8_bounds, encode_ascii}
@@ -24,7 +24,7 @@ after_tab text more e = rw (starts_with text more 9 e (omega arith)) refl
 char_nonempty : (c : ℕ) (more : List ℕ) → 0 < length (encode c ++ more)
 char_nonempty c more = let h = len_utf8_bounds c in omega (arith, length-append (encode c) more, length-encode c)
 
--- another byte than these three
+-- If the first character of a text isn't the ASCII character `d`, its first byte isn't `d` either.
 other_byte : (b c d : ℕ) (bs more : List ℕ) → (b ∷ bs) ≡ encode c ++ more → d < 128 → ¬ (c ≡ d) → ¬ (b ≡ d)
 other_byte b c d bs more e low n = λ same.
     let found : c ≡ b = char_from_byte (b ∷ bs) more c e (rw same low) (omega arith) in n (found ∙ same)

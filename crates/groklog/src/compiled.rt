@@ -1,4 +1,4 @@
-//! The patterns of a run.
+//! Compiles the patterns of a run.
 
 use crate::diagnosis::report_of;
 use crate::fault::{Fault, Report};
@@ -6,7 +6,7 @@ use crate::library::Library;
 use grok::{Error, Pattern};
 use std::alloc::{AllocError, Global};
 
-/// Returns the fault of a pattern that can't be compiled for this reason.
+/// Returns the fault that the program reports for this error of compiling a pattern.
 fn pattern_fault(
     alloc: Global,
     library: &Library<'_>,
@@ -23,7 +23,7 @@ fn pattern_fault(
     }
 }
 
-/// Compiles a pattern.
+/// Compiles one pattern.
 fn compile(
     alloc: Global,
     library: &Library<'_>,
@@ -40,7 +40,8 @@ fn compile(
 ///
 /// # Errors
 ///
-/// The fault of the first pattern that can't be compiled, or a failed allocation.
+/// Returns the fault of the first pattern that can't be compiled, or an error if an allocation
+/// fails.
 pub fn compile_all(
     alloc: Global,
     library: &Library<'_>,
@@ -59,7 +60,7 @@ fn has_key(pattern: &Pattern, key: &str) -> bool {
     pattern.capture_names().any(|name| name == key)
 }
 
-/// Returns the fault of an option whose key is also a key of a pattern, if there is one.
+/// Returns a fault if the key of an option is also a key of a pattern.
 ///
 /// # Errors
 ///

@@ -1,4 +1,4 @@
-//! Definitions as users write them: lines of a file, and the words after `-D`.
+//! Reads definitions as users write them: in the lines of a file, and in the words after `-D`.
 ghost use Rattle.std.specs.Prelude.{◌≡◌, drop, option_map};
 ghost use Rattle.std.specs.List.{prefix_len, take_while};
 ghost use Rattle.grok.specs.Maps.{pair_texts};
@@ -45,7 +45,7 @@ fn split_name(text: &str) -> (&str, &str)
     text.split_at(name_len(text.as_bytes()))
 }
 
-/// Returns the text without the blanks that it begins with.
+/// Returns the text without its leading blanks.
 #[tactic(auto, using(crate::proofs::NamesAndBlanksEndAtBoundaries::run_ends))]
 fn skip_blanks(text: &str) -> &str
     ensures { result.now ≡ without_blanks text.now }
@@ -54,7 +54,7 @@ fn skip_blanks(text: &str) -> &str
     rest
 }
 
-/// Returns the definition after a name: what follows `=`, or what follows blanks.
+/// Returns the definition that follows a name: the text after `=`, or the text after blanks.
 #[tactic(auto, using(crate::proofs::TextsAfterNames::texts_after_names))]
 fn definition_after(text: &str) -> Option<&str>
     ensures { option_map (λ definition. definition.now) result ≡ definition_after text.now }
@@ -67,7 +67,7 @@ fn definition_after(text: &str) -> Option<&str>
     }
 }
 
-/// Reads `NAME=DEF` or `NAME DEF`.
+/// Reads a definition of the form `NAME=DEF` or `NAME DEF`, and returns its name and its text.
 pub fn read_definition(text: &str) -> Option<(&str, &str)>
     ensures { option_map pair_texts result ≡ definition_of text.now }
 {
@@ -82,11 +82,11 @@ pub fn read_definition(text: &str) -> Option<(&str, &str)>
 /// Where a definition was given.
 #[derive(Clone, Copy)]
 pub enum Origin<'a> {
-    /// It is always there.
+    /// It is one of the default definitions.
     Default,
-    /// On this line of this file. Lines are counted from 1.
+    /// It is on this line of this file. Lines are counted from 1.
     Line { file: &'a str, number: u64 },
-    /// In the word after `-D`.
+    /// It is a word after `-D`.
     Word,
 }
 
@@ -113,14 +113,14 @@ fn without_return(line: &str) -> &str {
     line.strip_suffix('\r').unwrap_or(line)
 }
 
-/// Returns whether a line has no definition: a comment, or nothing but blanks.
+/// Returns whether a line is skipped because it is a comment or has nothing but blanks.
 fn is_skipped(line: &str) -> bool {
     let text = skip_blanks(line);
     text.is_empty() || text.starts_with('#')
 }
 
-/// Adds the definitions of a file's text to those found. Returns the first line that is neither a
-/// definition nor skipped, if there is one, and where it is.
+/// Appends the definitions in the text of a file to `found`. Returns the first line that is neither
+/// a definition nor skipped, if there is one, and where it is.
 ///
 /// # Errors
 ///

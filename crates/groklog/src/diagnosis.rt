@@ -1,4 +1,4 @@
-//! What is wrong with a pattern that can't be compiled, where, and what to do.
+//! Reports what is wrong with a pattern that can't be compiled, where, and what to do.
 
 use crate::excerpt::excerpt;
 use crate::expansion::Expansion;
@@ -11,21 +11,21 @@ use std::alloc::{AllocError, Global};
 use std::ops::Range;
 use strsim::levenshtein;
 
-/// Names that need more edits than this aren't suggested.
+/// The largest edit distance at which a name is still suggested.
 const MOST_EDITS: usize = 3;
 
-/// How many definitions that lead to a fault are named at most.
+/// How many of the definitions that lead to a fault are named at most.
 const MOST_STEPS: usize = 8;
 
-/// What may stand in a placeholder.
+/// The advice for a malformed placeholder.
 const PLACEHOLDERS: &str =
     "write %{NAME}, %{NAME:alias} or %{NAME:alias:extract}, where a NAME has a-z A-Z 0-9 _, and an alias or extract a-z A-Z 0-9 _ - . [ ]; give definitions that have braces by -D or -d";
 
-/// What to do about forms that only Logstash's engine knows.
+/// The advice for a form that only Logstash's engine knows.
 const FROM_LOGSTASH: &str =
     "use --from-logstash, which rewrites lookarounds, atomic groups and \\h, and reports each change";
 
-/// Returns the known name that needs the fewest edits, if it needs few.
+/// Returns the known name with the smallest edit distance from this one, if it is close enough.
 fn nearest_name(alloc: Global, grok: &Grok, name: &str) -> Result<Option<String>, AllocError> {
     let mut nearest = None;
     let mut fewest = MOST_EDITS;
@@ -39,7 +39,7 @@ fn nearest_name(alloc: Global, grok: &Grok, name: &str) -> Result<Option<String>
     Ok(nearest)
 }
 
-/// Returns what to do about a name without a definition.
+/// Returns the advice for a name that has no definition.
 fn advice_for_name(alloc: Global, grok: &Grok, name: &str) -> Result<String, AllocError> {
     match nearest_name(alloc, grok, name)? {
         Some(nearest) => format!(in alloc;
@@ -49,8 +49,8 @@ fn advice_for_name(alloc: Global, grok: &Grok, name: &str) -> Result<String, All
     }
 }
 
-/// Returns the words for a text: the pattern, or the last definition of a path, with where it was given
-/// and the definitions that lead to it.
+/// Returns the words that describe where a fault is: in the pattern, or in the last definition of
+/// the path. For a definition they say where it was given, and which definitions lead to it.
 fn place_of(alloc: Global, library: &Library<'_>, path: &[&str]) -> Result<String, AllocError> {
     let Some((name, through)) = path.split_last() else {
         return String::from_str(alloc, "the pattern");
@@ -77,7 +77,8 @@ fn name_len(text: &str) -> usize {
         .count()
 }
 
-/// Returns how many bytes at the start of a text belong to aliases and extracts, with their colons.
+/// Returns how many bytes at the start of a text belong to aliases and extracts, including their
+/// colons.
 fn words_len(text: &str) -> usize {
     text.bytes()
         .take_while(|b| {
@@ -86,8 +87,8 @@ fn words_len(text: &str) -> usize {
         .count()
 }
 
-/// Returns where the words of a malformed placeholder end: the byte that can't stand there, or the
-/// length of the placeholder.
+/// Returns where the name, the alias and the extract of a malformed placeholder end: at the first
+/// byte that isn't allowed in them, or at the end of the placeholder.
 fn words_end(piece: &str) -> usize {
     let end = name_len(piece.get(2..).unwrap_or("")).saturating_add(2);
     let rest = piece.get(end..).unwrap_or("");
@@ -98,7 +99,7 @@ fn words_end(piece: &str) -> usize {
     }
 }
 
-/// Returns what is wrong with a placeholder that has no name, no end, or too many parts.
+/// Describes what is wrong with a placeholder that has no name, no end, or too many parts.
 fn incomplete(piece: &str) -> &'static str {
     if words_end(piece) >= piece.len() {
         "this placeholder isn't closed by }"
@@ -109,8 +110,8 @@ fn incomplete(piece: &str) -> &'static str {
     }
 }
 
-/// Returns what is wrong with a placeholder that has an empty part, or whose own definition can't be
-/// read.
+/// Describes what is wrong with a placeholder that has an empty part, or whose inline definition
+/// can't be read.
 fn wrong_part(piece: &str) -> &'static str {
     let rest = piece.get(words_end(piece)..).unwrap_or("");
     let Some(definition) = rest.strip_prefix('=') else {
@@ -128,7 +129,7 @@ fn wrong_part(piece: &str) -> &'static str {
     }
 }
 
-/// Returns what is wrong with a malformed placeholder, in words, and the part of it that is wrong.
+/// Describes what is wrong with a malformed placeholder, and returns the part of it that is wrong.
 fn malformed(
     alloc: Global,
     fault: GrokPatternError,
@@ -150,12 +151,12 @@ fn malformed(
     Ok((String::from_str(alloc, what)?, 0..end))
 }
 
-/// Returns a range that lies so many bytes further on.
+/// Returns the range moved `by` bytes further on.
 fn moved(range: Range<usize>, by: usize) -> Range<usize> {
     range.start.saturating_add(by)..range.end.saturating_add(by)
 }
 
-/// Returns the first name of a path that comes in it for the second time.
+/// Returns the first name that the path repeats.
 fn repeated<'x>(path: &[&'x str]) -> Option<&'x str> {
     for (number, name) in path.iter().enumerate() {
         if path.iter().take(number).any(|before| *before == *name) {
@@ -165,7 +166,7 @@ fn repeated<'x>(path: &[&'x str]) -> Option<&'x str> {
     None
 }
 
-/// Returns the report of placeholders that are nested too deeply, to which these definitions lead.
+/// Reports that placeholders are nested too deeply. These are the definitions that lead to them.
 fn too_deep(alloc: Global, path: &[&str]) -> Result<Report, AllocError> {
     let Some(name) = repeated(path) else {
         let what = "placeholders are nested more than 1,023 levels deep";
@@ -183,7 +184,7 @@ fn too_deep(alloc: Global, path: &[&str]) -> Result<Report, AllocError> {
     Report::new(alloc, what.as_str(), "", advice.as_str())
 }
 
-/// Returns the report of a structural fault, without its place.
+/// Returns the report of a structural fault, without where it is.
 fn structural_report(
     alloc: Global,
     library: &Library<'_>,
@@ -228,7 +229,7 @@ fn located_report(
     Ok(Some(report))
 }
 
-/// Returns what to do about a text that the engine refuses.
+/// Returns the advice for a text that the engine refuses.
 fn advice_for_refusal(alloc: Global, text: &str) -> Result<&'static str, AllocError> {
     Ok(if is_refused(alloc, text)? {
         FROM_LOGSTASH
@@ -237,7 +238,7 @@ fn advice_for_refusal(alloc: Global, text: &str) -> Result<&'static str, AllocEr
     })
 }
 
-/// Returns the report of a text that the engine can't read.
+/// Reports a text whose syntax the engine refuses.
 fn syntax_report<'x>(
     alloc: Global,
     library: &'x Library<'_>,
@@ -258,7 +259,7 @@ fn syntax_report<'x>(
     Ok(report)
 }
 
-/// Returns the report of a pattern that the engine can't hold.
+/// Reports a pattern that is too large for the engine.
 fn too_large(alloc: Global) -> Result<Report, AllocError> {
     Report::new(
         alloc,
@@ -268,7 +269,7 @@ fn too_large(alloc: Global) -> Result<Report, AllocError> {
     )
 }
 
-/// Returns the report of a pattern whose expanded text the engine refuses.
+/// Reports a pattern whose expanded text the engine refuses.
 fn refusal_report(
     alloc: Global,
     library: &Library<'_>,
@@ -282,14 +283,15 @@ fn refusal_report(
             }
             RefusalReason::TooBig => too_large(alloc),
         },
-        // The engine takes this text, so an allocation failed when it was refused before.
+        // The engine accepts this text now, so it was refused before because an allocation failed.
         Ok(None) => Err(AllocError),
-        // Compiling the pattern got as far as the engine, so only memory can have run out.
+        // Compiling the pattern had already reached the engine, so only an allocation can have
+        // failed here.
         Err(_) => Err(AllocError),
     }
 }
 
-/// Returns the report of a pattern that can't be compiled for this reason.
+/// Reports why a pattern can't be compiled. `error` is the error of compiling it.
 ///
 /// # Errors
 ///
@@ -314,7 +316,7 @@ pub fn report_of(
             "",
             "write a regular expression, with placeholders such as %{USERNAME:user}",
         ),
-        // What is left are two equal keys.
+        // All other causes of this error are handled above, so two placeholders have the same key.
         Error::GenericCompilationFailure(words) => Report::new(
             alloc,
             words.as_str(),

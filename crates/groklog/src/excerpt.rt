@@ -1,4 +1,4 @@
-//! Shows a part of a text: the text around it, and carets under it.
+//! Shows a part of a text, with some of the text around it and carets under it.
 
 use std::alloc::{AllocError, Global};
 use std::ops::Range;
@@ -6,20 +6,21 @@ use std::ops::Range;
 /// How many characters are shown before a part, and how many after it.
 const CONTEXT: usize = 30;
 
-/// How many carets stand under a part at most.
+/// The largest number of carets under a part.
 const MOST_CARETS: usize = 40;
 
-/// Returns what is shown for a character. One that moves the cursor would misplace the carets.
+/// Returns the character that is shown for this one. A control character is shown as a space,
+/// because it could move the cursor, and the carets would then be in the wrong column.
 fn shown(c: char) -> char {
     if c.is_control() { ' ' } else { c }
 }
 
-/// Returns how many characters of a text begin before this byte.
+/// Returns how many characters of a text begin before this byte position.
 fn chars_before(text: &str, end: usize) -> usize {
     text.char_indices().take_while(|(at, _)| *at < end).count()
 }
 
-/// Appends so many copies of a character.
+/// Appends `count` copies of a character.
 fn push_many(line: &mut String, c: char, count: usize) -> Result<(), AllocError> {
     for _ in 0..count {
         line.push(c)?;
@@ -27,7 +28,7 @@ fn push_many(line: &mut String, c: char, count: usize) -> Result<(), AllocError>
     Ok(())
 }
 
-/// Appends so many characters of a text, from one of them on.
+/// Appends `count` characters of a text, beginning with the character number `first`.
 fn push_part(line: &mut String, text: &str, first: usize, count: usize) -> Result<(), AllocError> {
     for c in text.chars().skip(first).take(count) {
         line.push(shown(c))?;
@@ -35,8 +36,8 @@ fn push_part(line: &mut String, text: &str, first: usize, count: usize) -> Resul
     Ok(())
 }
 
-/// Returns a line that shows this byte range of a text and what is around it, and a line that has carets
-/// under that range.
+/// Returns two lines: one shows this byte range of a text and some characters around it, and the
+/// other has carets under that range.
 ///
 /// # Errors
 ///

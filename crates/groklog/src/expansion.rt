@@ -1,4 +1,5 @@
-//! Reads a pattern beside the text that it expands to: which definition each part of that text is from.
+//! Finds out which definition each part of an expanded text comes from. For that, it reads the
+//! pattern and the expanded text side by side.
 
 use crate::library::Library;
 use grok::parser::{GrokComponent, GrokSplit, grok_split};
@@ -8,11 +9,11 @@ use std::ops::Range;
 /// A text that is being read: the pattern, or the definition of a placeholder.
 #[derive(Drop)]
 struct Frame<'a> {
-    /// The name of the placeholder; empty for the pattern itself.
+    /// The name of the placeholder. For the pattern itself it is empty.
     name: &'a str,
     text: &'a str,
     pieces: GrokSplit<'a>,
-    /// The names and texts that placeholders of this text have defined so far.
+    /// The inline definitions of this text that were read so far: names and texts.
     inline: Vec<(&'a str, &'a str)>,
 }
 
@@ -22,12 +23,12 @@ pub struct Placeholder<'a> {
     pub name: &'a str,
     pub alias: &'a str,
     definition: &'a str,
-    /// Whether it became a named group.
+    /// Whether it captures, so that it became a named group.
     pub is_capturing: bool,
 }
 
 impl<'a> Placeholder<'a> {
-    /// Returns the key that it asks for: its alias, or its name if it has none.
+    /// Returns the base key of the placeholder: its alias, or its name if it has none.
     pub fn key(&self) -> &'a str {
         if self.alias.is_empty() {
             self.name
@@ -37,24 +38,24 @@ impl<'a> Placeholder<'a> {
     }
 }
 
-/// A step of reading.
+/// One step of reading the expanded text.
 #[derive(Clone, Copy)]
 pub enum Step<'a> {
     /// A part without placeholders, which begins at this byte of its text.
     Text { begin: usize },
-    /// The begin of a placeholder's group.
+    /// The start of the group of a placeholder.
     Open(Placeholder<'a>),
-    /// The end of a placeholder's group.
+    /// The end of the group of a placeholder.
     Close,
 }
 
-/// Where a byte of the expanded text is from.
+/// Where a part of the expanded text comes from.
 #[derive(Drop)]
 pub struct Origin<'a> {
-    /// The names of the placeholders that lead from the pattern to the text, outermost first.
+    /// The names of the placeholders that lead from the pattern to the definition, outermost first.
     pub path: Vec<&'a str>,
     pub text: &'a str,
-    /// The part of that text.
+    /// The byte range in that text.
     pub range: Range<usize>,
 }
 
@@ -64,12 +65,13 @@ pub struct Expansion<'a, 'd> {
     alloc: Global,
     library: &'a Library<'d>,
     expanded: &'a str,
-    /// Where the next step begins in the expanded text.
+    /// The byte position in the expanded text where the next step begins.
     at: usize,
     frames: Vec<Frame<'a>>,
 }
 
-/// Returns the length of the group's head that a text begins with, and whether the group has a name.
+/// Returns how long the head of a group is that the text begins with, in bytes, and whether the
+/// group has a name.
 fn group_head(text: &str) -> (usize, bool) {
     if text.starts_with("(?:") {
         return (3, false);
@@ -90,20 +92,20 @@ impl<'a> Frame<'a> {
         }
     }
 
-    /// Returns what a name means in this text.
+    /// Returns the definition that a name has in this text.
     fn meaning(&self, library: &'a Library<'_>, name: &str) -> &'a str {
         let defined = self.inline.iter().rev().find(|(known, _)| *known == name);
         match (defined, library.source(name)) {
             (Some((_, text)), _) => text,
             (None, Some(source)) => source.text.as_str(),
-            // The pattern was expanded, so the name is known.
+            // This doesn't happen: the pattern was expanded, so the name has a definition.
             (None, None) => "",
         }
     }
 }
 
 impl<'a, 'd> Expansion<'a, 'd> {
-    /// Begins to read a pattern that has no fault, and the text that it expands to.
+    /// Begins to read a pattern that has no fault, side by side with the text that it expands to.
     ///
     /// # Errors
     ///
@@ -125,12 +127,12 @@ impl<'a, 'd> Expansion<'a, 'd> {
         })
     }
 
-    /// Skips so many bytes of the expanded text.
+    /// Skips `count` bytes of the expanded text.
     fn skip(&mut self, count: usize) {
         self.at = self.at.saturating_add(count);
     }
 
-    /// Returns the expanded text that is left.
+    /// Returns the part of the expanded text that wasn't read yet.
     fn rest(&self) -> &'a str {
         self.expanded.get(self.at..).unwrap_or("")
     }
@@ -154,7 +156,8 @@ impl<'a, 'd> Expansion<'a, 'd> {
         Ok(Step::Open(placeholder))
     }
 
-    /// Reads the next piece of the innermost text, or its end. Returns `None` at the end of the pattern.
+    /// Reads the next piece of the innermost open text, or its end. Returns `None` at the end of
+    /// the pattern.
     ///
     /// # Errors
     ///
@@ -199,7 +202,7 @@ impl<'a, 'd> Expansion<'a, 'd> {
         }
     }
 
-    /// Returns the names of the texts that are being read, outermost first.
+    /// Returns the names of the open definitions, outermost first.
     fn path(&self) -> Result<Vec<&'a str>, AllocError> {
         let mut path = Vec::new(self.alloc);
         for frame in self.frames.iter().skip(1) {
@@ -208,7 +211,7 @@ impl<'a, 'd> Expansion<'a, 'd> {
         Ok(path)
     }
 
-    /// Returns the part of the innermost text, or the whole of it.
+    /// Returns this range of the innermost open text, or all of that text if there is no range.
     fn origin(&self, range: Option<Range<usize>>) -> Result<Option<Origin<'a>>, AllocError> {
         let path = self.path()?;
         Ok(match self.frames.last() {
@@ -221,14 +224,14 @@ impl<'a, 'd> Expansion<'a, 'd> {
         })
     }
 
-    /// Returns where a part of the expanded text is from. The brackets of a placeholder's group belong
-    /// to the whole definition of that placeholder.
+    /// Returns where a part of the expanded text comes from. The brackets of the group of a
+    /// placeholder count as its whole definition.
     ///
     /// # Errors
     ///
     /// If an allocation fails.
     pub fn locate(&mut self, part: Range<usize>) -> Result<Option<Origin<'a>>, AllocError> {
-        // Each group takes four bytes at least, and is opened and closed.
+        // This many steps are enough: each group takes at least four bytes and two steps.
         for _ in 0..self.expanded.len().saturating_add(2) {
             let before = self.at;
             let closing = self.origin(None)?;

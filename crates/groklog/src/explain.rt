@@ -1,4 +1,4 @@
-//! Shows what patterns mean, without reading lines.
+//! Explains patterns for `--explain`, without reading lines.
 
 use crate::expansion::{Expansion, Step};
 use crate::library::Library;
@@ -7,7 +7,8 @@ use regex::Regex;
 use std::alloc::{AllocError, Global};
 use std::collections::BTreeMap;
 
-/// Returns the key of a placeholder that asks for this one, as so many have done before it.
+/// Returns the key of a placeholder with this base key, if `before` placeholders before it have the
+/// same base key.
 fn numbered(alloc: Global, key: &str, before: u64) -> Result<String, AllocError> {
     if before == 0 {
         return String::from_str(alloc, key);
@@ -15,7 +16,7 @@ fn numbered(alloc: Global, key: &str, before: u64) -> Result<String, AllocError>
     format!(in alloc; "{key}[{before}]")
 }
 
-/// Returns the keys of the placeholders that became named groups, in the order of their numbers.
+/// Returns the keys of the capturing placeholders, in the order of their numbers.
 fn keys_of<'x>(
     alloc: Global,
     library: &'x Library<'_>,
@@ -25,7 +26,7 @@ fn keys_of<'x>(
     let mut keys = Vec::new(alloc);
     let mut uses = BTreeMap::new(alloc);
     let mut expansion = Expansion::new(alloc, library, text, expanded)?;
-    // Each group takes four bytes at least, and is opened and closed.
+    // This many steps are enough: each group takes at least four bytes and two steps.
     for _ in 0..expanded.len().saturating_add(2) {
         let Some(step) = expansion.next()? else {
             break;
@@ -42,12 +43,13 @@ fn keys_of<'x>(
     Ok(keys)
 }
 
-/// Returns the number in the name `_n_NUMBER` of a placeholder's group.
+/// Returns the number of a placeholder from the name `_n_NUMBER` of its group, if the name has that
+/// form.
 fn number_of(group: &str) -> Option<usize> {
     group.strip_prefix("_n_")?.parse().ok()
 }
 
-/// Appends the line of a key.
+/// Appends the line that shows a key, with its group and its extract.
 fn push_key(
     alloc: Global,
     lines: &mut String,
@@ -62,7 +64,7 @@ fn push_key(
     lines.push_str(line.as_str())
 }
 
-/// Appends a line for each named group, with its key.
+/// Appends a line for each named group that shows its key.
 fn push_keys(
     alloc: Global,
     lines: &mut String,
@@ -86,7 +88,7 @@ fn push_keys(
     Ok(())
 }
 
-/// Returns the line of the size of a pattern.
+/// Returns the line that shows the size of a pattern.
 fn size_line(
     alloc: Global,
     library: &Library<'_>,
@@ -99,12 +101,12 @@ fn size_line(
             groups,
             nesting,
         } => format!(in alloc; "size: length {length}, groups {groups}, nesting {nesting}\n"),
-        // It was compiled, so it has a size.
+        // This doesn't happen: the pattern was compiled, so it has a size.
         _ => Ok(String::new(alloc)),
     }
 }
 
-/// Returns lines that explain a pattern: its text, what that expands to, its size, and its keys.
+/// Returns lines that explain a pattern: its text, its expanded text, its size, and its keys.
 ///
 /// # Errors
 ///

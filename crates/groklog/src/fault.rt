@@ -1,4 +1,4 @@
-//! Faults, as users read them: what is wrong, where, and what to do.
+//! Faults as the program reports them to users: what is wrong, where, and what to do.
 
 ghost use Rattle.std.specs.Prelude.{◌≡◌};
 ghost use Rattle.groklog.specs.Faults.{fault_status};
@@ -11,9 +11,9 @@ use std::fmt;
 #[derive(Debug, Drop)]
 pub struct Report {
     pub what: String,
-    /// The text that is wrong, in words, such as the name of a file.
+    /// Where it is wrong, in words, such as the name of a file.
     pub place: String,
-    /// Two lines: a part of that text, and carets under what is wrong in it.
+    /// Two lines: a part of the text that is wrong, and carets under the faulty part.
     pub excerpt: String,
     pub advice: String,
 }
@@ -23,18 +23,18 @@ pub struct Report {
 pub enum Fault {
     /// A pattern or a definition has a fault.
     Pattern(Report),
-    /// The words of the command line can't be followed.
+    /// The words of the command line are wrong.
     Usage(Report),
     /// An allocation failed.
     Memory,
     /// A file can't be read.
     Read(Report),
-    /// The output failed.
+    /// The output can't be written.
     Write(Report),
 }
 
 impl Report {
-    /// Makes a report of these texts, without an excerpt.
+    /// Makes a report without an excerpt.
     ///
     /// # Errors
     ///
@@ -50,8 +50,8 @@ impl Report {
 }
 
 impl Fault {
-    /// Returns the exit status: 1 for a fault of a pattern or a definition, 2 for wrong options, and
-    /// 3 if memory, reading or writing fails.
+    /// Returns the exit status: 1 for a fault of a pattern or a definition, 2 for wrong options,
+    /// and 3 if an allocation, reading or writing failed.
     pub fn status(&self) -> u8
         ensures { result ≡ fault_status self.now }
     {

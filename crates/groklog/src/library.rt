@@ -1,5 +1,5 @@
-//! The library that patterns are compiled with: the default definitions, those of files, and those of
-//! the words after `-D`.
+//! Builds the library of definitions that patterns are compiled with: the default definitions,
+//! those from files, and those from the words after `-D`.
 
 use crate::definitions::{Definition, Origin, read_file, read_word};
 use crate::excerpt::excerpt;
@@ -9,14 +9,14 @@ use grok::{Grok, patterns};
 use std::alloc::{AllocError, Global};
 use std::collections::BTreeMap;
 
-/// A file of definitions, as it was read.
+/// The name and the text of a file of definitions.
 #[derive(Drop)]
 pub struct DefinitionFile<'a> {
     pub name: &'a str,
     pub text: String,
 }
 
-/// A definition as it is stored, and where it was given.
+/// A stored definition, and where it was given.
 #[derive(Drop)]
 pub struct Source<'a> {
     pub text: String,
@@ -28,13 +28,13 @@ pub struct Source<'a> {
 pub struct Library<'a> {
     pub grok: Grok,
     sources: BTreeMap<&'a str, Source<'a>>,
-    /// Whether definitions and patterns are rewritten that were made for Logstash.
+    /// Whether definitions and patterns are rewritten, because they were made for Logstash.
     is_from_logstash: bool,
-    /// What was changed in each of them, with its place, ready to be shown.
+    /// The notes on what was rewritten, and where, ready to be shown.
     pub changes: Vec<String>,
 }
 
-/// Returns the fault of a line or a word that is no definition.
+/// Returns the fault of a line or a word that isn't a definition.
 fn no_definition(alloc: Global, origin: Origin<'_>, line: &str) -> Result<Fault, AllocError> {
     let advice = "write NAME=DEF or NAME DEF, where a NAME has a-z A-Z 0-9 _";
     let place = format!(in alloc; "{origin}")?;
@@ -43,7 +43,7 @@ fn no_definition(alloc: Global, origin: Origin<'_>, line: &str) -> Result<Fault,
     Ok(Fault::Pattern(report))
 }
 
-/// Adds the definitions of a file.
+/// Appends the definitions of a file.
 fn add_file<'a>(
     alloc: Global,
     found: &mut Vec<Definition<'a>>,
@@ -55,7 +55,7 @@ fn add_file<'a>(
     }
 }
 
-/// Adds the definition of a word after `-D`.
+/// Appends the definition in a word after `-D`.
 fn add_word<'a>(
     alloc: Global,
     found: &mut Vec<Definition<'a>>,
@@ -67,7 +67,7 @@ fn add_word<'a>(
     }
 }
 
-/// Returns the definitions of the files, and after them those of the words.
+/// Returns the definitions of the files, followed by those of the words.
 fn collect<'a>(
     alloc: Global,
     files: &'a [DefinitionFile<'a>],
@@ -103,12 +103,12 @@ impl<'a> Library<'a> {
         })
     }
 
-    /// Makes the library of the default definitions, those of the files, and those of the words. A
-    /// later definition of a name replaces an earlier one.
+    /// Makes the library with the default definitions, those of the files, and those of the words.
+    /// A later definition of a name replaces an earlier one.
     ///
     /// # Errors
     ///
-    /// A line or a word that is no definition, or a failed allocation.
+    /// Returns an error if a line or a word isn't a definition, or if an allocation fails.
     pub fn new(
         alloc: Global,
         files: &'a [DefinitionFile<'a>],
@@ -122,7 +122,8 @@ impl<'a> Library<'a> {
         }
         let mut library = Library::with_default_definitions(alloc, is_from_logstash)?;
         for (number, definition) in definitions.iter().enumerate() {
-            // One that is replaced means nothing, so its changes aren't noted either.
+            // A definition that a later one replaces isn't used, so what would be rewritten in it
+            // isn't reported either.
             if last.get(definition.name).copied() == Some(number) {
                 library.set(alloc, *definition)?;
             }
@@ -140,8 +141,9 @@ impl<'a> Library<'a> {
         Ok(())
     }
 
-    /// Returns a text as it is compiled: rewritten if it was made for Logstash. What is changed is
-    /// noted under this place, and the same change at the same place once.
+    /// Returns the text that is compiled: rewritten if it was made for Logstash, and otherwise as
+    /// it is. Each change is noted with this place. If a place has the same change several times,
+    /// it is noted once.
     ///
     /// # Errors
     ///

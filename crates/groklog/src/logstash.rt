@@ -1,35 +1,35 @@
-//! Rewrites texts made for Logstash, whose engine knows forms that `regex` refuses.
+//! Rewrites texts that were made for Logstash, whose engine knows forms that `regex` refuses.
 ghost use Rattle.std.specs.Prelude.{◌≡◌, ◌≤◌, ◌+◌, ◌++◌, [], OnOk, IfOk, IfSome, None, false, string_bytes, vec_len};
 ghost use Rattle.groklog.specs.Rewriting.{spelled, taken};
 
 use std::alloc::{AllocError, Global};
 use std::fmt;
 
-/// A form that is rewritten, or that decides what is.
+/// A form that is rewritten, or that has to be recognized to tell what is rewritten.
 #[derive(Clone, Copy)]
 enum Form {
     Atomic,
     Lookahead,
     Lookbehind,
     Possessive,
-    /// The begin of a class of characters, with a `]` that belongs to it.
+    /// The start of a character class, including a `]` that is its first character.
     Class,
 }
 
-/// A part of a regular expression, as far as rewriting has to know it.
+/// A token of a regular expression, as rewriting distinguishes them.
 #[derive(Clone, Copy)]
 enum Token<'a> {
-    /// A placeholder, by what is between its `%{` and `}`.
+    /// A placeholder: the text between its `%{` and `}`.
     Placeholder(&'a str),
     /// A backslash and the character after it.
     Escape(char),
-    /// A form, as it is spelled.
+    /// A form, and how it is spelled.
     Form(Form, &'static str),
     /// Any other character.
     Plain(char),
 }
 
-/// How the forms are spelled. One that begins with another one comes before it.
+/// The forms with their spellings. If a spelling begins with another one, it comes before that one.
 const FORMS: [(Form, &str); 12] = [
     (Form::Atomic, "(?>"),
     (Form::Lookahead, "(?="),
@@ -55,7 +55,7 @@ pub enum ChangeKind {
     Lookbehind,
 }
 
-/// A change, and the text that it replaced.
+/// A change, and the text that was replaced or dropped.
 #[derive(Drop)]
 pub struct Change {
     pub kind: ChangeKind,
@@ -89,7 +89,7 @@ impl fmt::Display for Change {
     }
 }
 
-/// A definition after rewriting.
+/// The rewritten text, and what was changed in it.
 #[derive(Drop)]
 pub struct Rewritten {
     pub text: String,
@@ -110,10 +110,10 @@ struct Rewriter {
     alloc: Global,
     text: String,
     changes: Vec<Change>,
-    /// How many brackets of classes are open.
+    /// How many brackets of character classes are open.
     classes: usize,
     dropped: Option<Dropped>,
-    /// Whether a lookaround was dropped just before.
+    /// Whether the last token ended a lookaround that was dropped.
     is_after_dropped: bool,
 }
 
@@ -138,7 +138,7 @@ fn strip_form(text: &str) -> Option<(Token<'_>, &str)>
 }
 
 /// Returns the escape or the character that a text begins with, and the text after it. A backslash
-/// before a placeholder escapes nothing.
+/// before a placeholder doesn't escape it.
 fn strip_plain(text: &str) -> Option<(Token<'_>, &str)>
     ensures { IfSome result (λ found. text.now ≡ spelled found.0 ++ found.1.now) }
 {
@@ -153,8 +153,8 @@ fn strip_plain(text: &str) -> Option<(Token<'_>, &str)>
     Some((Token::Plain(first), rest))
 }
 
-/// Returns the token that a text begins with, and the text after it. In a class of characters no form
-/// has a meaning of its own.
+/// Returns the token that a text begins with, and the text after it. In a character class the forms
+/// have no special meaning.
 fn next_token(text: &str, is_in_class: bool) -> Option<(Token<'_>, &str)>
     ensures { IfSome result (λ found. text.now ≡ spelled found.0 ++ found.1.now) }
 {
@@ -167,7 +167,7 @@ fn next_token(text: &str, is_in_class: bool) -> Option<(Token<'_>, &str)>
     strip_plain(text)
 }
 
-/// Appends a token to a text as it is spelled.
+/// Appends the spelling of a token to a text.
 fn push_token(text: &mut String, token: Token<'_>) -> Result<(), AllocError>
     ensures { OnOk result (string_bytes text.new ≡ string_bytes text.old ++ spelled token.entry) }
 {
@@ -186,7 +186,7 @@ fn push_token(text: &mut String, token: Token<'_>) -> Result<(), AllocError>
     }
 }
 
-/// Returns whether a token repeats what is before it.
+/// Returns whether a token is a quantifier, which repeats what is before it.
 fn is_quantifier(token: Token<'_>) -> bool {
     matches!(
         token,
@@ -209,7 +209,7 @@ impl Rewriter {
         }
     }
 
-    /// Notes a change of this text.
+    /// Records a change of this text.
     fn note(&mut self, kind: ChangeKind, text: &str) -> Result<(), AllocError>
         ensures { OnOk result (vec_len self.new.changes ≡ vec_len self.old.changes + 1) }
     {
@@ -218,7 +218,7 @@ impl Rewriter {
         Ok(())
     }
 
-    /// Counts the brackets of classes.
+    /// Updates the number of open brackets of character classes.
     fn count_bracket(&mut self, token: Token<'_>)
         ensures text { self.new.text ≡ self.old.text }
         ensures changes { self.new.changes ≡ self.old.changes }
@@ -234,7 +234,7 @@ impl Rewriter {
         }
     }
 
-    /// Drops a token of a lookaround, and notes the change where the lookaround ends.
+    /// Drops a token of a lookaround. If the lookaround ends with it, records the change.
     fn drop_token(&mut self, mut dropped: Dropped, token: Token<'_>) -> Result<(), AllocError>
         ensures grows { OnOk result (vec_len self.old.changes ≤ vec_len self.new.changes) }
         ensures taken { OnOk result (vec_len self.new.changes ≡ 0 → taken self.new
@@ -277,7 +277,7 @@ impl Rewriter {
         Ok(())
     }
 
-    /// Writes a text in place of one that is changed.
+    /// Writes `new` in place of `old`, and records the change.
     fn replace(&mut self, kind: ChangeKind, old: &str, new: &str) -> Result<(), AllocError>
         ensures { OnOk result (vec_len self.new.changes ≡ vec_len self.old.changes + 1) }
     {
@@ -285,7 +285,8 @@ impl Rewriter {
         self.note(kind, old)
     }
 
-    /// Writes a token. In Logstash's engine `\h` is a hexadecimal digit.
+    /// Writes a token, rewritten if it is a form that `regex` refuses. In Logstash's engine `\h` is
+    /// a hexadecimal digit.
     fn write_token(&mut self, token: Token<'_>) -> Result<(), AllocError>
         ensures grows { OnOk result (vec_len self.old.changes ≤ vec_len self.new.changes) }
         ensures taken { OnOk result (vec_len self.new.changes ≡ 0 → self.old.dropped ≡ None →
@@ -310,7 +311,8 @@ impl Rewriter {
         }
     }
 
-    /// Takes the next token. A quantifier after a dropped lookaround repeats nothing.
+    /// Processes the next token. A quantifier after a dropped lookaround gets an empty group to
+    /// repeat, so that it doesn't repeat what is before the lookaround.
     fn take(&mut self, token: Token<'_>) -> Result<(), AllocError>
         ensures grows { OnOk result (vec_len self.old.changes ≤ vec_len self.new.changes) }
         ensures taken { OnOk result (vec_len self.new.changes ≡ 0 → self.old.is_after_dropped ≡ false →
@@ -328,8 +330,8 @@ impl Rewriter {
         self.write_token(token)
     }
 
-    /// Ends the text with what is left of it. A lookaround that nothing closes stays, for the engine to
-    /// refuse.
+    /// Appends the rest of the text and returns the result. A lookaround that isn't closed stays in
+    /// the text, so that the engine refuses it.
     fn finish(mut self, rest: &str) -> Result<Rewritten, AllocError>
         ensures text { IfOk result (λ rewritten.
             string_bytes rewritten.text ≡ taken self ++ rest.now) }
@@ -346,8 +348,8 @@ impl Rewriter {
     }
 }
 
-/// Rewrites a text made for Logstash. Its placeholders stay as they are, and if no change is reported,
-/// so does all of it.
+/// Rewrites a text that was made for Logstash. Its placeholders stay as they are. If no change is
+/// reported, the whole text stays as it is.
 ///
 /// # Errors
 ///
@@ -358,7 +360,7 @@ pub fn rewrite(alloc: Global, text: &str) -> Result<Rewritten, AllocError>
 {
     let mut rewriter = Rewriter::new(alloc);
     let mut rest = text;
-    // A token has at least one byte, so nothing is left in the end.
+    // A token has at least one byte, so this many steps read the whole text.
     'tokens: for _ in 0..text.len() {
         let Some((token, after)) = next_token(rest, rewriter.classes > 0) else {
             break;

@@ -1,4 +1,4 @@
-//! Reads logs by grok patterns.
+//! Reads logs with grok patterns, and writes what they find.
 #![tactic(auto)]
 
 mod compiled;
@@ -19,7 +19,7 @@ use std::env;
 use std::io::ErrorKind;
 use std::process::ExitCode;
 
-/// Reads the words of the command line, of which the first is the program's name.
+/// Reads the words of the command line. The first one is the name of the program.
 fn read_words(rt: &HostRuntime) -> Result<Vec<String>, Fault> {
     match env::args(rt) {
         Ok(words) => Ok(words.collect(rt.alloc())?),
@@ -33,7 +33,7 @@ fn read_words(rt: &HostRuntime) -> Result<Vec<String>, Fault> {
     }
 }
 
-/// Does what these words ask for.
+/// Runs the program with the words of its command line.
 fn work(rt: &HostRuntime) -> Result<(), Fault> {
     let words = read_words(rt)?;
     match options::read_options(rt.alloc(), words.as_slice()) {
@@ -50,7 +50,7 @@ fn main(rt: HostRuntime) -> ExitCode {
     match work(&rt) {
         Ok(()) => ExitCode::SUCCESS,
         Err(fault) => {
-            // Nothing is left to do where standard error fails too.
+            // If writing to standard error fails too, there is nothing left to do.
             let _ = eprint!(rt; "{fault}");
             ExitCode::from(fault.status())
         }

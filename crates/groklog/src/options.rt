@@ -1,4 +1,4 @@
-//! The options of the program.
+//! Reads the options of the program.
 
 use crate::fault::{Fault, Report};
 use clap::error::ErrorKind;
@@ -6,14 +6,14 @@ use clap::{Arg, ArgAction, ArgMatches, Command, Error};
 use groklog_answers::Lines;
 use std::alloc::{AllocError, Global};
 
-/// The program's own words of help.
+/// The description of the program in its help.
 const ABOUT: &str = "Reads lines of logs by grok patterns and writes what they found.";
 
-/// How the program is called.
+/// The usage lines in the help.
 const USAGE: &str =
     "groklog [OPTIONS] PATTERN [FILE]...\n       groklog [OPTIONS] -e PATTERN... [FILE]...";
 
-/// Examples at the end of the help.
+/// The examples at the end of the help.
 const EXAMPLES: &str =
     "A pattern is a regular expression with placeholders: %{NAME}, %{NAME:key} or %{NAME:key:int}.\n\
     Standard input is read if no file is named, and for the file -.\n\n\
@@ -23,7 +23,7 @@ const EXAMPLES: &str =
     groklog --typed -D 'NUM=\\d+' '%{NUM:n:int}' counts.log\n\n\
     Exit status: 0, 1 for a fault of a pattern or a definition, 2 for wrong options, 3 if memory, reading or writing fails.";
 
-/// What the words of the command line ask for.
+/// The options and arguments of the command line.
 #[derive(Drop)]
 pub struct Options<'a> {
     pub patterns: Vec<&'a str>,
@@ -36,13 +36,13 @@ pub struct Options<'a> {
     pub tag: Option<&'a str>,
     pub are_pairs: bool,
     pub is_typed: bool,
-    /// Whether placeholders without an alias give values too.
+    /// Whether placeholders without an alias capture too.
     pub is_all: bool,
     pub is_explained: bool,
     pub is_from_logstash: bool,
 }
 
-/// An option with one value.
+/// Makes an option that takes one value.
 fn with_value<'a>(alloc: Global, id: &'a str, value: &'a str, help: &'a str) -> Arg<'a> {
     Arg::new(alloc, id)
         .long(id)
@@ -51,7 +51,7 @@ fn with_value<'a>(alloc: Global, id: &'a str, value: &'a str, help: &'a str) -> 
         .action(ArgAction::Set)
 }
 
-/// An option that may come several times, each time with a value.
+/// Makes an option that may be given several times, each time with a value.
 fn repeated<'a>(alloc: Global, id: &'a str, short: char, value: &'a str, help: &'a str) -> Arg<'a> {
     Arg::new(alloc, id)
         .short(short)
@@ -61,7 +61,7 @@ fn repeated<'a>(alloc: Global, id: &'a str, short: char, value: &'a str, help: &
         .allow_hyphen_values(true)
 }
 
-/// An option without a value.
+/// Makes an option without a value.
 fn flag<'a>(alloc: Global, id: &'a str, help: &'a str) -> Arg<'a> {
     Arg::new(alloc, id)
         .long(id)
@@ -108,7 +108,7 @@ fn with_sources<'a>(alloc: Global, command: Command<'a>) -> Result<Command<'a>, 
         ))
 }
 
-/// Adds the options that say what is written.
+/// Adds the options that choose what is written.
 fn with_output<'a>(alloc: Global, command: Command<'a>) -> Result<Command<'a>, AllocError> {
     command
         .arg(flag(
@@ -143,7 +143,7 @@ fn with_output<'a>(alloc: Global, command: Command<'a>) -> Result<Command<'a>, A
         ))
 }
 
-/// Makes the description of the command line.
+/// Describes the command line to clap.
 fn describe<'a>(alloc: Global) -> Result<Command<'a>, AllocError> {
     let command = Command::new(alloc, "groklog")
         .version("1.0.0")
@@ -154,7 +154,7 @@ fn describe<'a>(alloc: Global) -> Result<Command<'a>, AllocError> {
     with_output(alloc, command)
 }
 
-/// Returns the values of an option, in the order of the words.
+/// Returns the values of an option, in the order of the command line.
 fn values_of<'a>(
     alloc: Global,
     matches: &ArgMatches<'a>,
@@ -166,7 +166,7 @@ fn values_of<'a>(
     }
 }
 
-/// Returns which lines the words choose.
+/// Returns which lines are answered, by `--matched` and `--unmatched`.
 fn chosen_lines(matches: &ArgMatches<'_>) -> Lines {
     if matches.get_flag("matched") {
         Lines::Matched
@@ -177,7 +177,7 @@ fn chosen_lines(matches: &ArgMatches<'_>) -> Lines {
     }
 }
 
-/// Returns the patterns and the files: the first word is the pattern, unless an option gave one.
+/// Returns the patterns and the files. The first word is the pattern, unless `-e` gave one.
 fn patterns_and_files<'a>(
     alloc: Global,
     matches: &ArgMatches<'a>,
@@ -196,11 +196,11 @@ fn patterns_and_files<'a>(
     }
 }
 
-/// Reads the words of the command line, of which the first is the program's name.
+/// Reads the options from the words of the command line. The first word is the name of the program.
 ///
 /// # Errors
 ///
-/// If the words are no command line of the program, ask for its help or its version, or if an
+/// Returns an error if the words are wrong, if they ask for the help or the version, or if an
 /// allocation fails.
 pub fn read_options<'a>(alloc: Global, words: &'a [String]) -> Result<Options<'a>, Error> {
     let mut command = describe(alloc)?;
@@ -225,7 +225,7 @@ pub fn read_options<'a>(alloc: Global, words: &'a [String]) -> Result<Options<'a
     })
 }
 
-/// Returns the fault of a key that both `--tag` and `--keep` name.
+/// Returns a fault if `--tag` and `--keep` name the same key.
 ///
 /// # Errors
 ///
@@ -241,7 +241,7 @@ pub fn repeated_key(alloc: Global, options: &Options<'_>) -> Result<Option<Fault
     }
 }
 
-/// Returns whether clap's error is the help or the version that the words ask for.
+/// Returns whether the error of clap is the help or the version that the words ask for.
 pub fn is_answer(error: &Error) -> bool {
     matches!(
         error.kind(),
@@ -249,7 +249,7 @@ pub fn is_answer(error: &Error) -> bool {
     )
 }
 
-/// Returns the fault of words that clap can't follow.
+/// Returns the fault of words that clap refuses.
 ///
 /// # Errors
 ///

@@ -1,4 +1,4 @@
-//! A run over files, or over standard input.
+//! Runs the program over files, or over standard input.
 
 use crate::compiled::{compile_all, taken_key};
 use crate::explain::explain;
@@ -13,12 +13,12 @@ use std::alloc::{AllocError, Global};
 use std::fs::{self, File};
 use std::io::{self, ErrorKind, Read, Write};
 
-/// What came of answering an input.
+/// How answering an input ended, if nothing failed.
 #[derive(Clone, Copy, PartialEq, Eq)]
 enum Answered {
-    /// All its lines were answered.
+    /// All of its lines were answered.
     All,
-    /// The reader of the answers has enough of them.
+    /// The reader of the answers closed the pipe, because it has enough of them.
     Enough,
 }
 
@@ -36,7 +36,7 @@ fn file_fault(alloc: Global, file: &str, kind: ErrorKind) -> Result<Fault, Alloc
     Ok(Fault::Read(Report::new(alloc, what.as_str(), "", advice)?))
 }
 
-/// Returns the fault of an output that can't be written, or nothing if its reader has enough.
+/// Returns the fault of an output that can't be written, or `None` if its reader closed the pipe.
 fn write_fault(alloc: Global, error: &io::Error) -> Result<Option<Fault>, AllocError> {
     if error.kind() == ErrorKind::BrokenPipe {
         return Ok(None);
@@ -53,7 +53,7 @@ fn read_definitions<'a>(rt: &HostRuntime, name: &'a str) -> Result<DefinitionFil
     }
 }
 
-/// Reads the files of definitions.
+/// Reads all files of definitions.
 fn read_all_definitions<'a>(
     rt: &HostRuntime,
     names: &[&'a str],
@@ -65,7 +65,8 @@ fn read_all_definitions<'a>(
     Ok(files)
 }
 
-/// Returns the patterns as they are compiled.
+/// Returns the texts of the patterns as they are compiled, rewritten if they were made for
+/// Logstash.
 fn adapt_patterns(
     alloc: Global,
     library: &mut Library<'_>,
@@ -78,15 +79,15 @@ fn adapt_patterns(
     Ok(adapted)
 }
 
-/// Shows these notes on standard error.
+/// Writes these notes to standard error.
 fn show_notes(rt: &HostRuntime, notes: &[String]) {
     for note in notes {
-        // A note that can't be shown ends nothing.
+        // The run goes on if a note can't be written.
         let _ = eprintln!(rt; "groklog: {note}");
     }
 }
 
-/// Returns a note for each key of a pattern whose extract `--typed` doesn't know.
+/// Returns a note for each key of a pattern that has an extract which `--typed` doesn't know.
 fn notes_of_extracts(alloc: Global, pattern: &Pattern) -> Result<Vec<String>, AllocError> {
     let mut notes = Vec::new(alloc);
     for key in pattern.capture_names() {
@@ -115,7 +116,7 @@ fn with_texts<'p>(
     Ok(named)
 }
 
-/// Returns what the options say of the output.
+/// Returns the layout that the options ask for.
 fn layout_of<'a>(options: &Options<'a>) -> Layout<'a> {
     Layout {
         lines: options.lines,
@@ -130,7 +131,7 @@ fn layout_of<'a>(options: &Options<'a>) -> Layout<'a> {
     }
 }
 
-/// Checks that no key of an option is another one's, or a pattern's.
+/// Checks that the keys of the options differ from each other and from the keys of the patterns.
 fn check_keys(alloc: Global, options: &Options<'_>, patterns: &[Pattern]) -> Result<(), Fault> {
     if let Some(fault) = repeated_key(alloc, options)? {
         return Err(fault);
@@ -144,8 +145,8 @@ fn check_keys(alloc: Global, options: &Options<'_>, patterns: &[Pattern]) -> Res
     Ok(())
 }
 
-/// Returns the fault of an input whose answering ended early, or nothing if the reader of the answers
-/// has enough. Where reading failed, `failure` says why.
+/// Returns the fault of an input whose lines weren't all answered, or `None` if the reader of the
+/// answers closed the pipe. If reading failed, `failure` says why.
 fn lines_fault(
     alloc: Global,
     name: &str,
@@ -180,7 +181,7 @@ fn answer_input<R: Read>(
     }
 }
 
-/// Watches a file, and shows its progress if that is wanted.
+/// Watches a file while it is read, and shows the progress if `shows` is set.
 fn watch<'a>(rt: &'a HostRuntime, file: File, name: &'a str, shows: bool) -> Watched<'a, File> {
     let size = match file.metadata() {
         Ok(metadata) => metadata.len(),
@@ -194,7 +195,7 @@ fn watch<'a>(rt: &'a HostRuntime, file: File, name: &'a str, shows: bool) -> Wat
     }
 }
 
-/// Answers each line of a file, where `-` is standard input.
+/// Answers each line of a file. The name `-` means standard input.
 fn answer_file(
     rt: &HostRuntime,
     answers: &mut LogAnswers<'_>,
@@ -259,8 +260,8 @@ fn explain_all(
 ///
 /// # Errors
 ///
-/// The first fault of a definition, a pattern or a key, before any line is read. After that a failed
-/// allocation, and a file or an output that fails.
+/// Returns the first fault of a definition, a pattern or a key before any line is read. After that,
+/// returns an error if an allocation, a file or the output fails.
 pub fn run(rt: &HostRuntime, options: &Options<'_>) -> Result<(), Fault> {
     let alloc = rt.alloc();
     let files = read_all_definitions(rt, &options.definition_files)?;

@@ -1,19 +1,20 @@
-//! An input that is watched while it is read: why a read failed, and a line of progress on a terminal.
+//! Watches an input while it is read: remembers why a read failed, and shows a line of progress on
+//! a terminal.
 
 use memchr::memchr_iter;
 use std::fs;
 use std::io::{self, ErrorKind, Read};
 use std::time::{Duration, Instant};
 
-/// How many seconds a file has to take before its progress is shown, and how long a line of progress stands.
+/// How many seconds pass before progress is first shown, and between two updates of it.
 const WAIT_SECONDS: u64 = 1;
 
-/// Where standard output and standard error lead on Linux.
+/// The links to the open files of standard output and standard error on Linux.
 const OUTPUT: &str = "/proc/self/fd/1";
 
 const ERRORS: &str = "/proc/self/fd/2";
 
-/// Returns whether this open file is a terminal, as far as its name says.
+/// Returns whether the open file behind this link is a terminal, judged by its name.
 fn is_terminal(rt: &HostRuntime, link: &str) -> bool {
     match fs::read_link(rt, link) {
         Ok(target) => {
@@ -24,17 +25,17 @@ fn is_terminal(rt: &HostRuntime, link: &str) -> bool {
     }
 }
 
-/// Returns whether progress is shown: standard error is a terminal, and the answers don't go there.
+/// Returns whether progress is shown: standard error is a terminal, and standard output isn't.
 pub fn shows_progress(rt: &HostRuntime) -> bool {
     is_terminal(rt, ERRORS) && !is_terminal(rt, OUTPUT)
 }
 
-/// How far reading has come.
+/// How far reading a file has come.
 #[derive(Drop)]
 struct Progress<'a> {
     rt: &'a HostRuntime,
     name: &'a str,
-    /// How many bytes the file has.
+    /// The size of the file, in bytes.
     size: u64,
     begun: Instant,
     shown: Option<Instant>,
@@ -42,7 +43,7 @@ struct Progress<'a> {
     lines: u64,
 }
 
-/// An input that is watched.
+/// An input that is watched while it is read.
 #[derive(Drop)]
 pub struct Watched<'a, R> {
     input: R,
@@ -52,7 +53,8 @@ pub struct Watched<'a, R> {
 }
 
 impl<'a> Progress<'a> {
-    /// Counts what was read, and shows a line of progress once a second.
+    /// Counts the bytes and lines of a block that was read, and shows a line of progress once a
+    /// second.
     fn count(&mut self, block: &[u8]) {
         self.bytes = self.bytes.saturating_add(block.len() as u64);
         let ended = memchr_iter(b'\n', block).count();
@@ -67,11 +69,11 @@ impl<'a> Progress<'a> {
         }
     }
 
-    /// Shows a line of progress in place of the one before.
+    /// Writes a line of progress over the previous one.
     fn show(&self, passed: Duration) {
         let seconds = passed.as_secs().max(1);
         let rate = self.lines / seconds;
-        // Nothing depends on the line of progress.
+        // It doesn't matter if the line of progress can't be written.
         let _ = eprint!(self.rt;
             "\r\x1b[Kgroklog: {}: {} of {} MB, {rate} lines a second",
             self.name,
@@ -80,7 +82,7 @@ impl<'a> Progress<'a> {
         );
     }
 
-    /// Takes the line of progress away.
+    /// Clears the line of progress.
     fn end(&self) {
         if self.shown.is_some() {
             let _ = eprint!(self.rt; "\r\x1b[K");
@@ -89,7 +91,7 @@ impl<'a> Progress<'a> {
 }
 
 impl<'a, R> Watched<'a, R> {
-    /// Watches an input for failures alone.
+    /// Watches an input without showing progress.
     pub fn new(input: R) -> Watched<'a, R> {
         Watched {
             input,
@@ -120,7 +122,7 @@ impl<'a, R> Watched<'a, R> {
         self
     }
 
-    /// Takes the line of progress away, and returns why the last read failed.
+    /// Clears the line of progress, and returns why the last read failed, if it did.
     pub fn finish(&self) -> Option<ErrorKind> {
         if let Some(progress) = &self.progress {
             progress.end();

@@ -1,4 +1,4 @@
--- The laws of which pattern answers, and of which lines are answered.
+-- Proves the laws on which pattern answers a line, and on which lines are answered.
 use Rattle.std.proofs.Common.{◌≡◌, ◌≢◌, ◌⊎◌, inl, inr, ℕ, List, [], ◌∷◌, ◌++◌, Bool, true, false, Option, Some, None, if◌then◌else◌, codes, refl, flat_map}
 use Rattle.std.specs.Option.{option_or}
 use Rattle.std.specs.Str.{is_utf8}
@@ -25,7 +25,7 @@ none_that_matches_is_no_match (pattern ∷ patterns) line none = rw none.0 (none
 
 -- ---- which lines are answered
 
--- an answer that is written is written in the same way, whichever lines are answered
+-- Which lines are answered doesn't change how an answer is written.
 match_is_same : (format : OutputFormat) (a b : Lines) (layout : LayoutValue) (found : MatchText) (line : List ℕ)
     → match_text format (with_lines a layout) found line ≡ match_text format (with_lines b layout) found line
 match_is_same Json a b layout found line = refl
@@ -53,7 +53,7 @@ each_answer_is_of_one_kind layout patterns line = shared (is_utf8 line) layout (
 
 -- ---- with `All` each line has an answer
 
--- a list whose end isn't empty isn't empty
+-- A list whose end isn't empty isn't empty itself.
 filled : (a b : List ℕ) → b ≢ [] → a ++ b ≢ []
 filled [] b h e = h e
 filled (x ∷ a) b h e = cc

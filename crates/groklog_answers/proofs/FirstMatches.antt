@@ -4,7 +4,7 @@ use Rattle.std.specs.Option.{option_or, is_some}
 use Rattle.std.proofs.lemmas.List.{drop_more, drop-map}
 use Rattle.groklog_answers.specs.Patterns.{PatternText, match_of, first_match}
 
--- the patterns that are left begin with that of the search at this index
+-- The patterns from this index on begin with the pattern of the search at this index.
 next_pattern : {A : Type 0} (f : A → PatternText) (xs : List A) (patterns : List PatternText) (i : ℕ) (d : A)
     → map f xs ≡ patterns → i < length xs → drop i patterns ≡ f (get_or xs i d) ∷ drop (i + 1) patterns
 next_pattern f xs patterns i d are inside =
@@ -20,7 +20,8 @@ none_or : {A : Type 0} (found other : Option A) → false ≡ is_some found → 
 none_or None other h = refl
 none_or (Some x) other h = cc
 
--- the first match is that of the pattern at this index, if none before it matches and it does
+-- If the pattern at this index matches and none before it does, the first match is the one of this
+-- pattern.
 pub found_at : {A : Type 0} (f : A → PatternText) (xs : List A) (patterns : List PatternText) (i : ℕ) (d : A) (line : List ℕ)
     → map f xs ≡ patterns → i < length xs → first_match (drop i patterns) line ≡ first_match patterns line
     → true ≡ is_some (match_of (f (get_or xs i d)) line) → first_match patterns line ≡ match_of (f (get_or xs i d)) line
@@ -28,7 +29,7 @@ found_at f xs patterns i d line are inside rest is =
     sym rest ∙ ap (λ ps. first_match ps line) (next_pattern f xs patterns i d are inside)
     ∙ some_or (match_of (f (get_or xs i d)) line) (first_match (drop (i + 1) patterns) line) is
 
--- the first match is one of a pattern after this index, if none up to there matches
+-- If no pattern up to this index matches, the first match is the one of a later pattern.
 pub left_after : {A : Type 0} (f : A → PatternText) (xs : List A) (patterns : List PatternText) (i : ℕ) (d : A) (line : List ℕ)
     → map f xs ≡ patterns → i < length xs → first_match (drop i patterns) line ≡ first_match patterns line
     → false ≡ is_some (match_of (f (get_or xs i d)) line) → first_match (drop (i + 1) patterns) line ≡ first_match patterns line

@@ -26,7 +26,7 @@ one : (c : ℕ) (t : List ℕ) → (c == 10) ≡ false → (head t == c) ≡ tru
 one c [] other e h = tt
 one c (x ∷ xs) other e h = (ap (λ y. y == 10) (eqb-true x c e) ∙ other, h)
 
--- what follows a part is a line, where there is such a part
+-- A part was read from the start of a text, and the rest of the text is a line.
 abbrev Then : Option (List ℕ) → Type 0
 Then None = ⊥
 Then (Some rest) = IsLine rest

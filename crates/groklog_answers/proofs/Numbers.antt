@@ -36,7 +36,7 @@ left : (a b : Bool) → (a && b) ≡ true → a ≡ true
 left true b h = refl
 left false b h = cc
 
--- what is written as a number is one
+-- A value that is written as a number is a JSON number.
 pub written_is_number : (extract : Option (List ℕ)) (value : List ℕ) → is_written_as_number extract value ≡ true → IsNumber value
 written_is_number None value h = cc
 written_is_number (Some extract) value h =

@@ -1,4 +1,4 @@
--- The object of a line is one line.
+-- The JSON object of a line of a log is itself one line.
 use Rattle.std.proofs.Common.{◌≡◌, ◌⊎◌, inl, inr, ℕ, zero, suc, ◌<◌, ◌≤◌, not, ◌&&◌, subst, Bool, true, false, ◌==◌, cond, List, [], ◌∷◌, ◌++◌, Option, Some, None, if◌then◌else◌, codes, flat_map, refl, sym, ap, ◌∙◌, arith}
 use Rattle.std.proofs.lemmas.Bool.{cases_eq, cases_lt}
 use Rattle.std.proofs.lemmas.Bool.Decides.{nat_tests}
@@ -39,7 +39,7 @@ line_by_test : (xs : List ℕ) → has_no_feed xs ≡ true → IsLine xs
 line_by_test [] h = tt
 line_by_test (x ∷ xs) h = let parts = both (x == 10) (has_no_feed xs) h in (parts.0, line_by_test xs parts.1)
 
--- the escape of each byte below n has no line feed, counted down from the top
+-- The escape of each byte below n has no line feed. The bytes are tried from n - 1 down.
 abbrev Each : ℕ → Type 0
 Each zero = Unit {0}
 Each (suc n) = (has_no_feed (escape_byte n) ≡ true) × Each n

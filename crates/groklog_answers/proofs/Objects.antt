@@ -21,7 +21,7 @@ tokens_append (pair ∷ more) b =
     ap (λ ts. member_tokens pair ++ ts) (tokens_append more b)
     ∙ sym (append_assoc (member_tokens pair) (flat_map member_tokens more) (flat_map member_tokens b))
 
--- the members are written in three parts
+-- The members are written in three parts: the tag, the pairs, and the line itself.
 pub object_in_parts : (a b c : KeyValues)
     → json_tokens (object (members_of (a ++ (b ++ c))))
     ≡ Token.begin_object ∷ (((flat_map member_tokens a ++ flat_map member_tokens b) ++ flat_map member_tokens c) ++ Token.end_object ∷ [])

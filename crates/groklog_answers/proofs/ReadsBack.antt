@@ -12,7 +12,7 @@ use Rattle.groklog_answers.specs.Objects.{KeyValues, members_of, typed_pair, ext
 use Rattle.groklog_answers.specs.AnswerLaws.{MatchesReadBack, UnmatchedLinesReadBack}
 use Rattle.groklog_answers.proofs.Numbers.{written_is_number}
 
--- the value is a string, or a number whose text is one
+-- The value of the member is a string, or a number whose text is a JSON number.
 abbrev pub IsFlat : List ℕ × Json → Type 0
 IsFlat pair = HasNumbers pair.1 × (depth pair.1 ≡ 0)
 

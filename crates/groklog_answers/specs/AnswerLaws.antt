@@ -13,24 +13,24 @@ use Rattle.groklog_answers.specs.declared.layout.OutputFormat.TheVariants.{Json}
 
 -- ---- which pattern answers
 
--- the pattern doesn't match the line
+-- The pattern doesn't match the line.
 abbrev pub DoesNotMatch : List ℕ → PatternText → Type 0
 DoesNotMatch line pattern = match_of pattern line ≡ None
 
--- Where no pattern before this one matches and this one does, its match is the one that is written.
+-- If a pattern matches the line and none before it does, its match is the one that is written.
 abbrev pub FirstThatMatchesAnswers : Type 0
 FirstThatMatchesAnswers = (before after : List PatternText) (pattern : PatternText) (line : List ℕ) (found : MatchText)
     → AllByRecursion (DoesNotMatch line) before → match_of pattern line ≡ Some found
     → first_match (before ++ pattern ∷ after) line ≡ Some found
 
--- Where no pattern matches, nothing does.
+-- If no pattern matches the line, there is no first match.
 abbrev pub NoneThatMatchesIsNoMatch : Type 0
 NoneThatMatchesIsNoMatch = (patterns : List PatternText) (line : List ℕ)
     → AllByRecursion (DoesNotMatch line) patterns → first_match patterns line ≡ None
 
 -- ---- which lines are answered
 
--- the same layout for these lines
+-- The same layout, but for which lines are answered.
 abbrev pub with_lines : Lines → LayoutValue → LayoutValue
 with_lines lines layout = record {
   lines = lines;
@@ -45,12 +45,12 @@ abbrev pub EachLineIsAnswered : Type 0
 EachLineIsAnswered = (layout : LayoutValue) (patterns : List PatternText) (line : List ℕ)
     → log_answer (with_lines All layout) patterns line ≢ []
 
--- the answer to a line with the lines `Matched` and that with `Unmatched` share the one with `All`: one of them is it, and
--- the other one is empty
+-- One of the two answers is the answer with `All`, and the other one is empty.
 abbrev pub Share : List ℕ → List ℕ → List ℕ → Type 0
 Share matched unmatched all = ((matched ≡ all) × (unmatched ≡ [])) ⊎ ((matched ≡ []) × (unmatched ≡ all))
 
--- Each line is answered with `Matched` or with `Unmatched`, as with `All`, and not at all with the other one.
+-- For each line, either `Matched` or `Unmatched` gives the same answer as `All`, and the other one
+-- of the two gives none.
 abbrev pub EachAnswerIsOfOneKind : Type 0
 EachAnswerIsOfOneKind = (layout : LayoutValue) (patterns : List PatternText) (line : List ℕ)
     → Share (log_answer (with_lines Matched layout) patterns line)
@@ -59,12 +59,12 @@ EachAnswerIsOfOneKind = (layout : LayoutValue) (patterns : List PatternText) (li
 
 -- ---- JSON
 
--- Read as JSON, the object of a match is an object with these members in this order.
+-- If the object of a match is read as JSON, it has these members in this order.
 abbrev pub MatchesReadBack : Type 0
 MatchesReadBack = (layout : LayoutValue) (found : MatchText) (line : List ℕ)
     → document (object_text (match_members layout found line)) ≡ Some (object (members_of (match_members layout found line)))
 
--- So is that of a line in which nothing matches.
+-- The same holds for the object of a line that no pattern matches.
 abbrev pub UnmatchedLinesReadBack : Type 0
 UnmatchedLinesReadBack = (layout : LayoutValue) (line : List ℕ)
     → document (object_text (unmatched_members layout line)) ≡ Some (object (members_of (unmatched_members layout line)))

@@ -4,13 +4,13 @@ use Rattle.groklog_answers.specs.declared.layout.Lines.{Lines}
 use Rattle.groklog_answers.specs.declared.layout.OutputFormat.{OutputFormat}
 use Rattle.groklog_answers.specs.declared.layout.Layout.{Layout}
 
--- what contracts see of a `Layout`
+-- What contracts see of a `Layout`.
 pub record LayoutValue : Type 0 where
   pub lines : Lines
   pub format : OutputFormat
-  -- the key of the line itself, if it is kept
+  -- the key under which the line itself is written, if it is
   pub keep : Option (List ℕ)
-  -- the key of the tag, if it is written
+  -- the key under which the tag is written, if it is
   pub tag : Option (List ℕ)
   pub typed : Bool
 

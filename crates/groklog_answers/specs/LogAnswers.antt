@@ -1,4 +1,5 @@
--- What is written for a line of a log: by the first pattern that matches, or as a line in which nothing matches.
+-- What is written for a line of a log: the match of the first pattern that matches, or the answer
+-- to a line that none matches.
 use Rattle.std.specs.Prelude.{ℕ, List, [], ◌++◌, Option, Some, None, if◌then◌else◌, codes}
 use Rattle.std.specs.Str.{is_utf8}
 use Rattle.std.specs.Str.Lossy.{utf8_lossy}
@@ -11,34 +12,35 @@ use Rattle.groklog_answers.specs.declared.layout.Lines.TheVariants.{All, Matched
 use Rattle.groklog_answers.specs.declared.layout.OutputFormat.{OutputFormat}
 use Rattle.groklog_answers.specs.declared.layout.OutputFormat.TheVariants.{Json, Pairs}
 
--- how a match is written
+-- How a match is written.
 abbrev pub match_text : OutputFormat → LayoutValue → MatchText → List ℕ → List ℕ
 match_text Json layout found line = object_text (match_members layout found line) ++ codes "\n"
 match_text Pairs layout found line = match_lines layout found line
 
--- how a line is written in which nothing matches
+-- How a line is written that no pattern matches.
 abbrev pub unmatched_text : OutputFormat → LayoutValue → List ℕ → List ℕ
 unmatched_text Json layout line = object_text (unmatched_members layout line) ++ codes "\n"
 unmatched_text Pairs layout line = unmatched_lines layout line
 
--- the answer to a match: nothing where only unmatched lines are answered
+-- The answer to a match. It is empty if only unmatched lines are answered.
 abbrev pub match_answer : Lines → LayoutValue → MatchText → List ℕ → List ℕ
 match_answer All layout found line = match_text layout.format layout found line
 match_answer Matched layout found line = match_text layout.format layout found line
 match_answer Unmatched layout found line = []
 
--- the answer to a line in which nothing matches: nothing where only matched lines are answered
+-- The answer to a line that no pattern matches. It is empty if only matched lines are answered.
 abbrev pub unmatched_answer : Lines → LayoutValue → List ℕ → List ℕ
 unmatched_answer All layout line = unmatched_text layout.format layout line
 unmatched_answer Matched layout line = []
 unmatched_answer Unmatched layout line = unmatched_text layout.format layout line
 
--- the answer to a line with this match, or with none
+-- The answer to a line with this match, or to a line with none.
 abbrev pub answer_by : LayoutValue → Option MatchText → List ℕ → List ℕ
 answer_by layout None line = unmatched_answer layout.lines layout line
 answer_by layout (Some found) line = match_answer layout.lines layout found line
 
--- THE ANSWER to a line. A line that isn't UTF-8 counts as unmatched, and is kept with U+FFFD for each wrong part.
+-- THE ANSWER to a line. A line that isn't UTF-8 counts as unmatched. If the line itself is written,
+-- each wrong part of it becomes U+FFFD.
 abbrev pub log_answer : LayoutValue → List PatternText → List ℕ → List ℕ
 log_answer layout patterns line =
     if is_utf8 line then answer_by layout (first_match patterns line) line

@@ -10,30 +10,31 @@ use Rattle.groklog_answers.specs.Values.{json_value}
 use Rattle.groklog_answers.specs.Layouts.{LayoutValue}
 use Rattle.groklog_answers.specs.Patterns.{MatchText}
 
--- the members of an object: keys with their values
+-- The members of an object: keys with their values.
 abbrev pub KeyValues : Type 0
 KeyValues = List (List ℕ × Json)
 
--- the extract by which a value is written: none without `typed`
+-- The extract that decides how a value is written. Without `typed` there is none.
 abbrev pub extract_for : Bool → Texts → List ℕ → Option (List ℕ)
 extract_for typed extracts name = if typed then finite.get extracts name else None
 
--- a pair of a match, with its value as the extract of its key says
+-- The member of a pair of a match. The extract of its key decides how its value is written.
 abbrev pub typed_pair : Bool → Texts → List ℕ × List ℕ → List ℕ × Json
 typed_pair typed extracts pair = (pair.0, json_value (extract_for typed extracts pair.0) pair.1)
 
--- the member whose key is optional, such as the tag or the kept line; none without that key
+-- The member of an optional key, such as that of the tag or of the line itself. If there is no key,
+-- there is no member.
 abbrev pub optional_member : Option (List ℕ) → List ℕ → KeyValues
 optional_member None text = []
 optional_member (Some name) text = (name, string text) ∷ []
 
--- the members of a match: the tag, the pairs in their order, and the kept line
+-- The members of a match: the tag, the pairs in their order, and the line itself.
 abbrev pub match_members : LayoutValue → MatchText → List ℕ → KeyValues
 match_members layout found line =
     optional_member layout.tag found.tag
     ++ (map (typed_pair layout.typed found.extracts) found.pairs ++ optional_member layout.keep line)
 
--- the members of a line in which nothing matches: the kept line alone
+-- The members for a line that no pattern matches: the line itself alone.
 abbrev pub unmatched_members : LayoutValue → List ℕ → KeyValues
 unmatched_members layout line = optional_member layout.keep line
 
@@ -41,10 +42,10 @@ abbrev pub members_of : KeyValues → Members
 members_of [] = no_members
 members_of (pair ∷ more) = member pair.0 pair.1 (members_of more)
 
--- the tokens that write a member
+-- The tokens of a member.
 abbrev pub member_tokens : List ℕ × Json → List Token
 member_tokens pair = Token.key pair.0 ∷ json_tokens pair.1
 
--- the object of these members, with no space in it
+-- The compact JSON object with these members.
 abbrev pub object_text : KeyValues → List ℕ
 object_text members = print (json_tokens (object (members_of members)))

@@ -5,26 +5,27 @@ use Rattle.grok.specs.Maps.{Texts}
 use Rattle.grok.specs.KeyTable.{Entries}
 use Rattle.grok.specs.Answers.{walk}
 
--- a pattern with its tag: what the engine captures in each line, the groups of the keys, and the keys' extracts
+-- What contracts see of a pattern: its tag, what the engine captures in each line, the groups of
+-- the keys, and the extracts of the keys.
 pub record PatternText : Type 0 where
   pub tag : List ℕ
   pub finds : List ℕ → Option (List (Option (List ℕ)))
   pub keys : Entries
   pub extracts : Texts
 
--- a match: the tag and the extracts of its pattern, and its pairs
+-- What contracts see of a match: the tag and the extracts of its pattern, and its pairs.
 pub record MatchText : Type 0 where
   pub tag : List ℕ
   pub extracts : Texts
   pub pairs : List (List ℕ × List ℕ)
 
--- the match of this pattern in the line
+-- The match of this pattern in the line, if it matches.
 abbrev pub match_of : PatternText → List ℕ → Option MatchText
 match_of pattern line = option_map
     (λ captures. record { tag = pattern.tag; extracts = pattern.extracts; pairs = walk pattern.keys captures })
     (pattern.finds line)
 
--- the match of the first pattern that has one
+-- The match of the first pattern that matches the line.
 abbrev pub first_match : List PatternText → List ℕ → Option MatchText
 first_match [] line = None
 first_match (pattern ∷ more) line = option_or (match_of pattern line) (first_match more line)

@@ -1,4 +1,4 @@
--- What contracts see of patterns, of their matches, and of what answers the lines of a log.
+-- What contracts see of patterns, of their matches, and of a `LogAnswers`.
 use Rattle.std.specs.Prelude.{ℕ, List, Option, length, map}
 use Rattle.grok.specs.Strings.{regex_pattern, regex_names}
 use Rattle.grok.specs.Engines.{engine_regex}
@@ -13,7 +13,7 @@ use Rattle.groklog_answers.specs.declared.log_answers.NamedPattern.{NamedPattern
 use Rattle.groklog_answers.specs.declared.log_answers.Search.{Search}
 use Rattle.groklog_answers.specs.declared.log_answers.LogAnswers.{LogAnswers}
 
--- what `regex` captures in each line
+-- What `regex` captures in each line.
 abbrev pub finds_of : RegexEngine → List ℕ → Option (List (Option (List ℕ)))
 finds_of engine = let regex = engine_regex engine in captures_in (regex_pattern regex) (length (regex_names regex))
 
@@ -25,7 +25,7 @@ pattern_text named = record {
   extracts = named.pattern.now.extracts;
 }
 
--- a match of this pattern
+-- What contracts see of a match of this pattern.
 abbrev pub match_text_of : NamedPattern → MatchesRef → MatchText
 match_text_of named matches = record {
   tag = named.tag.now;
@@ -33,7 +33,7 @@ match_text_of named matches = record {
   pairs = walk (borrowed_keys matches) (borrowed_captures matches);
 }
 
--- a pattern as its matcher searches for it
+-- What contracts see of a pattern with its matcher.
 abbrev pub searched : Search → PatternText
 searched search = record {
   tag = search.named.tag.now;
@@ -42,10 +42,10 @@ searched search = record {
   extracts = search.named.pattern.now.extracts;
 }
 
--- the patterns by which lines are answered, in order
+-- The patterns of a `LogAnswers`, in the order in which they are tried.
 abbrev pub patterns_of : LogAnswers → List PatternText
 patterns_of answers = map searched answers.searches.items
 
--- the layout of the answers
+-- The layout of the answers.
 abbrev pub layout_of : LogAnswers → LayoutValue
 layout_of answers = layout_value answers.layout

@@ -25,9 +25,9 @@ pub enum OutputFormat {
 pub struct Layout<'a> {
     pub lines: Lines,
     pub format: OutputFormat,
-    /// The key of the line itself, if it is kept.
+    /// The key under which the line itself is written, if it is.
     pub keep: Option<&'a str>,
-    /// The key of the tag of the pattern that matches, if it is written.
+    /// The key under which the tag of the matching pattern is written, if it is.
     pub tag: Option<&'a str>,
     /// Whether a value whose key has the extract `int` or `float` is written as a JSON number, if
     /// it is one.

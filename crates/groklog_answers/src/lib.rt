@@ -1,7 +1,8 @@
-//! What is written for each line of a log.
+//! Writes the answer to each line of a log.
 //!
-//! [`LogAnswers`] searches each line for its patterns, in order, and answers by the first one that
-//! matches. A [`Layout`] says which lines are answered, and how. `grok_lines` reads the lines:
+//! [`LogAnswers`] searches each line for its patterns, in order, and answers with the match of the
+//! first one that matches. A [`Layout`] says which lines are answered, and how. `grok_lines` reads
+//! the lines:
 //!
 //! ```text
 //! let patterns = [NamedPattern { tag: "%{IP:client}", pattern: &pattern }];

@@ -1,4 +1,4 @@
-//! The answer to a line, by the first pattern that matches.
+//! Answers each line with the match of the first pattern that matches it.
 ghost use Rattle.std.specs.Prelude.{◌≡◌, ◌++◌, OnOk, OnErr, IfOk, map, true, false};
 ghost use Rattle.std.specs.Option.{is_some};
 ghost use Rattle.std.specs.Str.Lossy.{utf8_lossy};
@@ -15,7 +15,8 @@ use grok_lines::LineAnswers;
 use std::alloc::{AllocError, Global};
 use std::mem;
 
-/// A pattern with its tag, a text that names it, such as the one that it was compiled from.
+/// A pattern with its tag. The tag is a text that names the pattern, such as the one that it was
+/// compiled from.
 #[derive(Clone, Copy)]
 pub struct NamedPattern<'p> {
     pub tag: &'p str,
@@ -28,7 +29,8 @@ struct Search<'p> {
     matcher: Matcher<'p>,
 }
 
-// By hand, since a list of these has no proof with a derived one.
+// This is written by hand because the kit can't prove the drop of a list of these if `Drop` is
+// derived.
 impl Drop for Search<'_> {
     fn drop(self) {
         let Search {
@@ -38,18 +40,18 @@ impl Drop for Search<'_> {
     }
 }
 
-/// Answers each line by the first of some patterns that matches it.
+/// Answers each line with the match of the first of its patterns that matches it.
 #[derive(Drop)]
 pub struct LogAnswers<'p> {
     alloc: Global,
     layout: Layout<'p>,
     searches: Vec<Search<'p>>,
-    /// Where the answer to a line is put together. What it holds from the line before is lost.
+    /// The buffer for the answer to one line. It is cleared before each line.
     answer: Vec<u8>,
 }
 
 impl Layout<'_> {
-    /// Appends the answer to a line in which nothing matches.
+    /// Appends the answer to a line that no pattern matches.
     fn append_unmatched(
         self,
         alloc: Global,
@@ -95,7 +97,8 @@ impl Layout<'_> {
 }
 
 impl<'p> Search<'p> {
-    /// Appends the answer to the match of this pattern in the line, and returns whether there is one.
+    /// Searches the line for this pattern. If it matches, appends the answer to the match. Returns
+    /// whether it matched.
     #[inline(always)]
     fn append_answer(
         &mut self,
@@ -121,7 +124,8 @@ impl<'p> Search<'p> {
     }
 }
 
-/// Appends the answer to the first match that one of these has in the line, and returns whether there is one.
+/// Tries these patterns on the line, in order, and appends the answer to the match of the first one
+/// that matches. Returns whether one matched.
 #[inline(always)]
 fn append_first_match(
     searches: &mut [Search<'_>],
@@ -146,7 +150,7 @@ fn append_first_match(
 }
 
 impl<'p> LogAnswers<'p> {
-    /// Makes what answers lines by these patterns, tried in their order.
+    /// Makes a `LogAnswers` that tries these patterns on each line, in their order.
     ///
     /// # Errors
     ///

@@ -1,4 +1,4 @@
-//! The JSON object of a line.
+//! Writes the JSON object of a line.
 ghost use Rattle.std.specs.Prelude.{◌≡◌, ◌++◌, OnOk, IfOk, option_map, flat_map, map};
 ghost use Rattle.grok.specs.Answers.{walk};
 ghost use Rattle.grok.specs.BorrowedMatches.{borrowed_keys, borrowed_captures};
@@ -13,7 +13,7 @@ use grok::{MatchesRef, Pattern};
 use json::Writer;
 use std::alloc::AllocError;
 
-/// Writes the member whose key is optional, if it has one.
+/// Writes the member of an optional key, or nothing if there is no key.
 fn write_optional(writer: &mut Writer, name: Option<&str>, text: &str) -> Result<(), AllocError>
     ensures member { OnOk result (writer.new.tokens ≡ writer.old.tokens
         ++ flat_map member_tokens (optional_member (option_map (λ name. name.now) name.entry) text.now)) }
@@ -26,7 +26,8 @@ fn write_optional(writer: &mut Writer, name: Option<&str>, text: &str) -> Result
     writer.string(text)
 }
 
-/// Writes a pair of a match, with its value as the extract of its key says.
+/// Writes a pair of a match. If `typed` is set, the extract of the key decides whether the value is
+/// written as a number.
 fn write_pair(
     writer: &mut Writer,
     typed: bool,
@@ -65,7 +66,7 @@ fn write_pairs(
     Ok(())
 }
 
-/// Appends the object of a match in this line, with no space in it, and returns the whole text.
+/// Appends the compact JSON object of a match in this line, and returns the whole text.
 #[tactic(auto, using(crate::proofs::Objects::object_in_parts))]
 pub fn write_match(
     text: Vec<u8>,
@@ -86,7 +87,7 @@ pub fn write_match(
     Ok(writer.into_inner())
 }
 
-/// Appends the object of a line in which nothing matches, and returns the whole text.
+/// Appends the JSON object of a line that no pattern matches, and returns the whole text.
 #[tactic(auto, using(crate::proofs::Objects::object_is))]
 pub fn write_unmatched(text: Vec<u8>, layout: Layout<'_>, line: &str) -> Result<Vec<u8>, AllocError>
     ensures { IfOk result (λ written. written.items ≡ text.items ++ object_text (unmatched_members

@@ -1,4 +1,4 @@
-//! The lines `KEY=VALUE` of a line.
+//! Writes the `KEY=VALUE` lines for a line of a log.
 ghost use Rattle.std.specs.Prelude.{◌≡◌, ◌++◌, OnOk, option_map, flat_map};
 ghost use Rattle.grok.specs.Answers.{walk};
 ghost use Rattle.grok.specs.BorrowedMatches.{borrowed_keys, borrowed_captures};
@@ -22,7 +22,7 @@ fn append_pair(text: &mut Vec<u8>, key: &str, value: &str) -> Result<(), AllocEr
     Ok(())
 }
 
-/// Appends the line whose key is optional, if it has one.
+/// Appends the `KEY=VALUE` line of an optional key, or nothing if there is no key.
 fn append_optional(text: &mut Vec<u8>, name: Option<&str>, value: &str) -> Result<(), AllocError>
     ensures { OnOk result (text.new.items ≡ text.old.items
         ++ optional_line (option_map (λ name. name.now) name.entry) value.now) }
@@ -33,7 +33,7 @@ fn append_optional(text: &mut Vec<u8>, name: Option<&str>, value: &str) -> Resul
     }
 }
 
-/// Appends the pairs of a match.
+/// Appends a `KEY=VALUE` line for each pair of a match.
 fn append_pairs(text: &mut Vec<u8>, matches: MatchesRef<'_>) -> Result<(), AllocError>
     ensures { OnOk result (text.new.items ≡ text.old.items
         ++ flat_map pair_line (walk (borrowed_keys matches.entry) (borrowed_captures matches.entry))) }
@@ -44,7 +44,7 @@ fn append_pairs(text: &mut Vec<u8>, matches: MatchesRef<'_>) -> Result<(), Alloc
     Ok(())
 }
 
-/// Appends the lines of a match in this line, and an empty line.
+/// Appends the `KEY=VALUE` lines for a match in this line, and an empty line.
 pub fn append_match(
     text: &mut Vec<u8>,
     layout: Layout<'_>,
@@ -62,7 +62,7 @@ pub fn append_match(
     Ok(())
 }
 
-/// Appends the lines of a line in which nothing matches, and an empty line.
+/// Appends the `KEY=VALUE` lines for a line that no pattern matches, and an empty line.
 pub fn append_unmatched(
     text: &mut Vec<u8>,
     layout: Layout<'_>,

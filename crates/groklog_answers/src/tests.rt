@@ -1,4 +1,4 @@
-//! Answers to the lines of some logs, written by hand.
+//! Compares the answers to the lines of some logs with answers that were written by hand.
 use crate::{Layout, Lines, LogAnswers, NamedPattern, OutputFormat};
 use grok::{Grok, Pattern};
 use grok_lines::answer_lines;
@@ -6,7 +6,7 @@ use std::alloc::{AllocError, Global};
 use std::process::Abort;
 use std::test::Fail;
 
-/// A log, and what is written for its lines.
+/// A log, and the expected answers to its lines.
 struct Row {
     name: &'static str,
     patterns: &'static [&'static str],
@@ -28,7 +28,8 @@ const PAIRS: Layout<'static> = Layout {
     ..JSON
 };
 
-/// A number, or else a word. Both match a number.
+/// Two patterns: a number followed by a word, and a word or dashes. A line with a number and a word
+/// matches both.
 const NUMBER_OR_WORD: &[&str] = &[r"^%{N:n=[0-9]+} %{W:of=\w+}", r"%{W:word=\w+}|%{D:dash=-+}"];
 
 const THREE_VALUES: &[&str] = &[r"%{V:i:int=\S*} %{V:f:float} %{V:s:string}"];
@@ -165,7 +166,7 @@ fn name<'p>(
     Ok(named)
 }
 
-/// Answers the lines of a row.
+/// Returns the answers to the lines of a row.
 fn check_row(rt: &(impl Abort + AllocGlobal), row: &Row) -> Result<(), Fail> {
     let alloc = rt.alloc();
     let patterns = compile(alloc, row.patterns)?;

@@ -1,4 +1,4 @@
-//! How the value of a key is written in a JSON object.
+//! Writes the value of a key in a JSON object.
 ghost use Rattle.std.specs.Prelude.{◌≡◌, ◌++◌, OnOk, option_map};
 ghost use Rattle.std.specs.List.{list_any};
 ghost use Rattle.json.specs.Tree.{json_tokens};
@@ -24,14 +24,15 @@ fn has_fraction_or_exponent(text: &str) -> bool
         .any(|b| *b == b'.' || *b == b'e' || *b == b'E')
 }
 
-/// Returns whether a text is a JSON number without fraction and exponent.
+/// Returns whether a text is a JSON number without a fraction and an exponent.
 fn is_json_integer(text: &str) -> bool
     ensures { result ≡ is_json_integer text.now }
 {
     is_json_number(text) && !has_fraction_or_exponent(text)
 }
 
-/// Returns whether a value is written as a JSON number, by the extract of its key.
+/// Returns whether a value is written as a JSON number. The extract of its key decides this
+/// together with the value.
 fn is_written_as_number(extract: Option<&str>, value: &str) -> bool
     ensures { result ≡ is_written_as_number (option_map (λ extract. extract.now) extract.entry) value.now }
 {
@@ -44,7 +45,8 @@ fn is_written_as_number(extract: Option<&str>, value: &str) -> bool
     }
 }
 
-/// Writes a value as a number byte for byte, or as a string.
+/// Writes a value: as a number, byte for byte, if the extract asks for one and the value is one,
+/// and otherwise as a string.
 #[tactic(auto, using(crate::proofs::Numbers::is_number, crate::proofs::Numbers::written_is_number))]
 pub fn write_value(
     writer: &mut Writer,

@@ -1,4 +1,4 @@
-//! The answers to the lines of a log, had in four ways.
+//! Matches the lines of a log in four ways.
 use crate::timed::library;
 use anyhow::{Result, bail};
 use grok::{Matcher, Matches, MatchesIter, MatchesRef, Pattern};
@@ -6,14 +6,14 @@ use std::alloc::{AllocError, Global};
 use std::time::Instant;
 use std::{fmt, io};
 
-/// What answers a line.
+/// A way to match lines.
 #[derive(Drop)]
 enum Way<'p> {
     /// The pattern's own call.
     Shared(&'p Pattern),
-    /// One matcher for all lines, whose matches are lists of their own.
+    /// `match_against` of one matcher for all lines, whose matches own their lists.
     Kept(Matcher<'p>),
-    /// One matcher for all lines, whose match is borrowed until the next line.
+    /// `find` of one matcher for all lines, whose match is borrowed until the next line.
     Found(Matcher<'p>),
     /// A new matcher for each line.
     Fresh(&'p Pattern),
@@ -29,7 +29,7 @@ impl<'p> Way<'p> {
         }
     }
 
-    /// Adds the answer to a line.
+    /// Matches a line, and adds the result to the answers.
     fn answer(&mut self, line: &str, answers: &mut Answers) -> Result<(), AllocError> {
         match self {
             Way::Shared(pattern) => answers.add_matches(&ask_pattern(pattern, line)?),
@@ -44,7 +44,7 @@ impl<'p> Way<'p> {
         Ok(())
     }
 
-    /// Whether a line matches.
+    /// Returns whether a line matches.
     fn is_match(&mut self, line: &str) -> Result<bool, AllocError> {
         match self {
             Way::Shared(pattern) => Ok(ask_pattern(pattern, line)?.is_some()),
@@ -55,7 +55,7 @@ impl<'p> Way<'p> {
     }
 }
 
-// Each has a name of its own in a profile, as `count_matches` has.
+// These are functions of their own so that each has a name in a profile, as `count_matches` has.
 
 #[inline(never)]
 fn ask_pattern<'a>(pattern: &'a Pattern, line: &'a str) -> Result<Option<Matches<'a>>, AllocError> {
@@ -126,7 +126,7 @@ impl Answers {
     }
 }
 
-/// What all lines are answered.
+/// Matches all lines, and returns the sum of the results.
 fn ask_all(way: &mut Way<'_>, lines: &[&str]) -> Result<Answers> {
     let mut answers = Answers::default();
     for line in lines {
@@ -135,7 +135,7 @@ fn ask_all(way: &mut Way<'_>, lines: &[&str]) -> Result<Answers> {
     Ok(answers)
 }
 
-/// How many lines match.
+/// Returns how many lines match.
 #[inline(never)]
 fn count_matches(way: &mut Way<'_>, lines: &[&str]) -> Result<u64> {
     let mut matches = 0u64;
@@ -147,7 +147,7 @@ fn count_matches(way: &mut Way<'_>, lines: &[&str]) -> Result<u64> {
     Ok(matches)
 }
 
-/// Asks for all answers once, which have to be those expected, and then times the lines.
+/// Matches all lines once, checks that the result is the expected one, and then measures the time for all lines.
 fn time_way(rt: &HostRuntime, way: &mut Way<'_>, lines: &[&str], expected: Answers) -> Result<()> {
     let name = way.name();
     if ask_all(way, lines)? != expected {
@@ -164,7 +164,7 @@ fn time_way(rt: &HostRuntime, way: &mut Way<'_>, lines: &[&str], expected: Answe
     Ok(())
 }
 
-/// Times each way, by tables that its first round over the lines has filled.
+/// Measures the time of each way. Its tables are filled by a first round over the lines.
 fn time_ways(rt: &HostRuntime, pattern: &Pattern, lines: &[&str]) -> Result<()> {
     let expected = ask_all(&mut Way::Fresh(pattern), lines)?;
     time_way(rt, &mut Way::Shared(pattern), lines, expected)?;
@@ -175,7 +175,7 @@ fn time_ways(rt: &HostRuntime, pattern: &Pattern, lines: &[&str]) -> Result<()> 
     Ok(())
 }
 
-/// Times the pattern's own call and a kept matcher's `find`.
+/// Measures the time of the pattern's own call and of `find` of a kept matcher.
 fn time_own_and_find(rt: &HostRuntime, pattern: &Pattern, lines: &[&str]) -> Result<()> {
     let expected = ask_all(&mut Way::Kept(pattern.matcher()?), lines)?;
     time_way(rt, &mut Way::Shared(pattern), lines, expected)?;
@@ -184,7 +184,7 @@ fn time_own_and_find(rt: &HostRuntime, pattern: &Pattern, lines: &[&str]) -> Res
     Ok(())
 }
 
-/// Makes so many of the pattern's own calls, over and over the lines.
+/// Makes `calls` of the pattern's own calls, over and over the lines.
 fn repeat(pattern: &Pattern, lines: &[&str], calls: usize) -> Result<()> {
     for number in 0..calls {
         let place = number.checked_rem(lines.len()).unwrap_or(0);
@@ -195,7 +195,7 @@ fn repeat(pattern: &Pattern, lines: &[&str], calls: usize) -> Result<()> {
     Ok(())
 }
 
-/// The lines of a text.
+/// Returns the lines of a text.
 fn lines_of(alloc: Global, text: &str) -> Result<Vec<&str>, AllocError> {
     let mut lines = Vec::new(alloc);
     for line in text.lines() {
@@ -204,19 +204,19 @@ fn lines_of(alloc: Global, text: &str) -> Result<Vec<&str>, AllocError> {
     Ok(lines)
 }
 
-/// What is asked for the lines of a log.
+/// What is done with the lines of a log.
 #[derive(Clone, Copy)]
 pub(crate) enum Asked {
-    /// All lines, in the four ways, which are timed.
+    /// The time is measured for all lines in each of the four ways.
     Ways,
-    /// All lines, by the pattern's own call and by a kept matcher's `find`, which are timed.
+    /// The time is measured for all lines, by the pattern's own call and by `find` of a kept matcher.
     OwnAndFind,
-    /// So many calls of the pattern's own.
+    /// The pattern's own call is made this many times.
     Calls(usize),
 }
 
-/// Compiles the pattern over the definitions on standard input, and asks for the lines that stand there after an empty
-/// one. As by `match -a`, only placeholders with an alias capture.
+/// Compiles the pattern over the definitions on standard input, and matches the lines that follow there after an empty
+/// line. As in `match -a`, only placeholders with an alias capture.
 pub(crate) fn call(rt: &HostRuntime, pattern: &str, asked: Asked) -> Result<()> {
     let text = io::read_to_string(rt.alloc(), rt.stdin())?;
     let Some((definitions, log)) = text.split_once("\n\n") else {

@@ -1,4 +1,4 @@
-//! The pieces of one long pattern.
+//! Counts the pieces of one long pattern.
 use grok::parser::{self, GrokComponent};
 use std::fmt;
 
@@ -22,7 +22,7 @@ impl fmt::Display for Pieces {
     }
 }
 
-/// Counts the pieces of a pattern, to its end or its fault.
+/// Counts the pieces of a pattern, up to its end or its fault.
 pub(crate) fn count(pattern: &str) -> Pieces {
     let mut pieces = Pieces::default();
     for piece in parser::grok_split(pattern) {

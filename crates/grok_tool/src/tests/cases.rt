@@ -1,27 +1,27 @@
-//! One run of each command that succeeds, with its whole output.
+//! One successful run of each command, with its whole output.
 use super::default_sizes::EVERY;
 use super::devices::{FakeReader, FakeWriter};
 use super::outcome::{Ending, Outcome, check_outcome, outcome_of};
 use std::process::Abort;
 
-/// A pattern that a line with a small letter matches.
+/// A pattern that matches each line with a lowercase letter.
 pub const KEYED: &str = "(?<k>[a-z]\\s?)";
 
-/// A line that matches, one that does not, and one that is not UTF-8 and that no line feed ends.
+/// Three lines: one that matches `KEYED`, one that doesn't, and one that isn't UTF-8 and has no line feed at its end.
 pub const LINES: &[u8] = b"p\n#\n\xff";
 
-/// A run, and what comes of it.
+/// A run of the program with its input, and its expected output.
 #[derive(Clone, Copy)]
 pub struct Run {
-    /// What the row shows.
+    /// What the row is a test of.
     pub name: &'static str,
     pub words: &'static [&'static str],
     pub input: &'static [u8],
-    /// What it writes, or what its fault says.
+    /// What the run writes, or the text of its fault.
     pub output: &'static str,
 }
 
-/// What a row has where it says nothing else: an input that is not read, and no output.
+/// The defaults of a row: an input that isn't read, and no output.
 pub const UNREAD: Run = Run {
     name: "no words",
     words: &[],
@@ -29,7 +29,7 @@ pub const UNREAD: Run = Run {
     output: "",
 };
 
-/// The words of a run on `LINES`, whether it reads these, and its answers.
+/// The words of a run on `LINES`, whether the run reads these lines, and its output.
 #[derive(Clone, Copy)]
 pub struct Case {
     pub name: &'static str,
@@ -39,19 +39,20 @@ pub struct Case {
 }
 
 impl Case {
-    /// The reads of a run that is right, where a run had so many: at least one, or none.
+    /// Returns how many reads are right, if a run made `reads` of them: as many, but at least one, if the command
+    /// reads, and otherwise none.
     pub(crate) fn wanted_reads(&self, reads: usize) -> usize {
         if self.reads { reads.max(1) } else { 0 }
     }
 
-    /// The writes of a run whose devices move all that they can: one before each read but the first, where there is an
-    /// answer, and one at the end.
+    /// Returns how many writes a run makes if its devices move as many bytes as they are asked for: one before the
+    /// second read if the command reads, and one at the end.
     pub(crate) fn wanted_writes(&self) -> usize {
         if self.reads { 2 } else { 1 }
     }
 }
 
-/// A case of each command.
+/// One case for each command.
 pub const CASES: [Case; 5] = [
     Case {
         name: "pieces",
@@ -85,7 +86,8 @@ pub const CASES: [Case; 5] = [
     },
 ];
 
-/// Runs a case on these devices: it succeeds, writes its output, flushes, and reads all of its input or none.
+/// Runs a case on these devices, and checks that it succeeds, writes its output, flushes, and reads all of its input or
+/// none of it.
 pub(crate) fn check_run<'a>(
     rt: &(impl Abort + AllocGlobal),
     case: &Case,

@@ -1,12 +1,12 @@
-//! Each command on devices that move few bytes a call, or whose calls are interrupted. `run` makes an interrupted read
-//! again, and `write_all` an interrupted write, so that none of this is seen in the output.
+//! Tests each command on devices that move only a few bytes in each call, or whose calls are interrupted. `run` repeats
+//! an interrupted read, and `write_all` repeats an interrupted write, so none of this changes the output.
 use super::cases::{CASES, Case, LINES, check_run};
 use super::devices::{FakeReader, FakeWriter};
 use super::outcome::{Outcome, check_outcome};
 use std::process::Abort;
 use std::test::Fail;
 
-/// How many bytes the reader gives at most, and how many the writer takes.
+/// The largest number of bytes that the reader returns in a call, and the largest number that the writer accepts.
 const WIDTHS: [(usize, usize); 10] = [
     (1, 1),
     (1, 2),
@@ -20,7 +20,7 @@ const WIDTHS: [(usize, usize); 10] = [
     (1000, 1000),
 ];
 
-/// Runs a case at each width, with calls of the reader or of the writer interrupted.
+/// Runs a case with each pair of widths, where calls of the reader or of the writer may be interrupted.
 fn check_widths(
     rt: &(impl Abort + AllocGlobal),
     case: &Case,
@@ -56,7 +56,7 @@ fn interrupted_calls_change_no_answer(rt: HostRuntime) -> Result<(), Fail> {
     Ok(())
 }
 
-/// The devices of this outcome were called so often.
+/// Checks how often the devices of this outcome were called.
 fn check_calls(
     rt: &(impl Abort + AllocGlobal),
     outcome: Outcome<'_>,
@@ -85,7 +85,7 @@ fn one_byte_a_call(rt: HostRuntime) -> Result<(), Fail> {
         let mut writer = FakeWriter::new(rt.alloc());
         writer.most = 1;
         let outcome = check_run(&rt, &case, reader, writer);
-        // A read for each of the five bytes, and one that meets the end.
+        // One read for each of the five bytes, and one that reaches the end.
         check_calls(&rt, outcome, &case, 6, case.output.len());
     }
     Ok(())

@@ -1,6 +1,7 @@
-//! The sizes of the default definitions, as `check` writes them. Other tests have none of these numbers.
+//! The sizes of the default definitions, as `check` writes them. No other test has these numbers, so they have to be
+//! changed only here.
 
-/// What `check` writes without definitions of its own: each placeholder captures.
+/// What `check` writes for the default definitions alone, where every placeholder captures.
 pub const EVERY: &str = "CISCOMAC: length 50 groups 1 nesting 1\n\
     COMMONMAC: length 49 groups 1 nesting 1\n\
     DAY: length 104 groups 1 nesting 1\n\
@@ -12,7 +13,7 @@ pub const EVERY: &str = "CISCOMAC: length 50 groups 1 nesting 1\n\
     WINDOWSMAC: length 49 groups 1 nesting 1\n\
     YEAR: length 20 groups 1 nesting 1\n";
 
-/// What `check -a` writes: without an alias no placeholder captures.
+/// What `check -a` writes for the default definitions alone. No placeholder captures, because none has an alias.
 pub const ALIASED: &str = "CISCOMAC: length 45 groups 0 nesting 1\n\
     COMMONMAC: length 44 groups 0 nesting 1\n\
     DAY: length 99 groups 0 nesting 1\n\

@@ -1,11 +1,11 @@
-//! A reader and a writer that answer their calls, which are numbered from 0, as a test wants them to.
+//! Readers and writers that behave as a test tells them to. Their calls are numbered from 0.
 use std::alloc::Global;
 use std::cell::RefCell;
 use std::io;
 use std::io::{ErrorKind, Read, Write};
 
-/// How the calls of a device fail: those from the one numbered `bad` on, up to the one numbered `good_again`, by a fault
-/// of this kind. Where `interrupts` is set, every second one, the first among them, is interrupted.
+/// How the calls of a device fail. Those numbered `bad` and up, but below `good_again`, fail with an error of this
+/// kind. If `interrupts` is set, every second call is interrupted, beginning with the first.
 #[derive(Clone, Copy)]
 pub struct Failing {
     pub bad: Option<usize>,
@@ -15,7 +15,7 @@ pub struct Failing {
 }
 
 impl Failing {
-    /// No call fails.
+    /// Describes a device whose calls all succeed.
     pub(crate) fn never() -> Failing {
         Failing {
             bad: None,
@@ -25,7 +25,7 @@ impl Failing {
         }
     }
 
-    /// Each call fails from this one on.
+    /// Describes a device whose calls fail from this one on.
     pub(crate) fn since(bad: usize) -> Failing {
         Failing {
             bad: Some(bad),
@@ -33,7 +33,7 @@ impl Failing {
         }
     }
 
-    /// This one call would block.
+    /// Describes a device on which only this call fails, because it would block.
     pub(crate) fn blocking_at(bad: usize) -> Failing {
         Failing {
             good_again: bad.saturating_add(1),
@@ -42,7 +42,7 @@ impl Failing {
         }
     }
 
-    /// Whether a call gets through.
+    /// Returns an error if this call fails.
     fn get_through(self, call: usize) -> io::Result<()> {
         if call < self.good_again && self.bad.is_some_and(|bad| bad <= call) {
             return Err(io::Error::from(self.kind));
@@ -54,7 +54,7 @@ impl Failing {
     }
 }
 
-/// Gives the bytes that it has left, at most `most` a call.
+/// A reader that returns the bytes that it has left, at most `most` in each call.
 #[derive(Drop)]
 pub struct FakeReader<'a> {
     pub left: &'a [u8],
@@ -64,7 +64,7 @@ pub struct FakeReader<'a> {
 }
 
 impl<'a> FakeReader<'a> {
-    /// A reader that gives as much as is asked for, and works.
+    /// Makes a reader that never fails and returns as many bytes as it is asked for.
     pub(crate) fn new(left: &'a [u8]) -> FakeReader<'a> {
         FakeReader {
             left,
@@ -87,7 +87,8 @@ impl Read for FakeReader<'_> {
     }
 }
 
-/// Keeps what it takes, at most `most` bytes a call. Each flush fails where `bad_flush` is set.
+/// A writer that keeps what is written to it, and accepts at most `most` bytes in each call. If `bad_flush` is set,
+/// each flush fails.
 #[derive(Drop)]
 pub struct FakeWriter {
     pub taken: Vec<u8>,
@@ -99,7 +100,7 @@ pub struct FakeWriter {
 }
 
 impl FakeWriter {
-    /// A writer that takes whatever comes, and works.
+    /// Makes a writer that never fails and accepts all bytes of a call.
     pub(crate) fn new(alloc: Global) -> FakeWriter {
         FakeWriter {
             taken: Vec::new(alloc),
@@ -131,7 +132,7 @@ impl Write for FakeWriter {
     }
 }
 
-/// Hands on to a fake writer, which the test looks at meanwhile.
+/// A writer that forwards to a fake writer, which the test can read meanwhile.
 #[derive(Drop)]
 pub struct SharedWriter<'a> {
     pub writer: &'a RefCell<FakeWriter>,
@@ -153,7 +154,7 @@ impl Write for SharedWriter<'_> {
     }
 }
 
-/// Gives one byte a call, and notes how many bytes a fake writer has taken by then.
+/// A reader that returns one byte in each call, and records how many bytes a fake writer has accepted by then.
 #[derive(Drop)]
 pub struct WatchingReader<'a> {
     left: &'a [u8],
@@ -162,7 +163,7 @@ pub struct WatchingReader<'a> {
 }
 
 impl<'a> WatchingReader<'a> {
-    /// A reader of these bytes that has noted nothing.
+    /// Makes a reader of these bytes, which has recorded nothing yet.
     pub(crate) fn new(
         alloc: Global,
         left: &'a [u8],

@@ -1,4 +1,4 @@
-//! Each command on devices that fail: no byte is lost without a word.
+//! Tests each command on devices that fail: no byte is lost without an error.
 use super::cases::{CASES, Case, KEYED, LINES, Run, check_run};
 use super::devices::{Failing, FakeReader, FakeWriter, SharedWriter, WatchingReader};
 use super::outcome::{Ending, Outcome, check_outcome, ending_of, outcome_of};
@@ -13,8 +13,8 @@ struct FailedRead {
     name: &'static str,
     words: &'static [&'static str],
     input: &'static [u8],
-    /// What was written once none of the input's bytes, one of them, and so on to all of them were read: the answers to the
-    /// lines that a line feed ended.
+    /// What was written after 0, 1, 2 and so on bytes of the input were read, up to all of them: the answers to the
+    /// lines that had ended by then.
     before: &'static [&'static str],
 }
 
@@ -89,7 +89,7 @@ const FAILED_READS: &[FailedRead] = &[
     },
 ];
 
-/// Runs on whose writers a call fails that takes one byte.
+/// Runs on a writer that accepts one byte in each call, and of which one call fails.
 const FAILED_WRITES: &[Run] = &[
     Run {
         name: "two answers",
@@ -117,8 +117,8 @@ const FAILED_WRITES: &[Run] = &[
     },
 ];
 
-/// Runs the row on a reader that gives one byte a call and whose call `bad` fails so: it answers that, has written this,
-/// and reads no more.
+/// Runs the row on a reader that returns one byte in each call and whose call `bad` fails. Checks that the run returns
+/// that error, that it has written these answers, and that it doesn't read again.
 fn check_failed_read(
     rt: &(impl Abort + AllocGlobal),
     row: &FailedRead,
@@ -143,8 +143,8 @@ fn check_failed_read(
     );
 }
 
-/// Runs the row on readers that fail or would block once they gave none of the input's bytes, one of them, and so on to all
-/// of them, with calls interrupted or not.
+/// Runs the row on readers that fail or would block after 0, 1, 2 and so on bytes of the input, up to all of them, each
+/// time with and without interrupted calls.
 fn check_failed_reads(rt: &(impl Abort + AllocGlobal), row: &FailedRead) {
     assert_eq!(rt;
         row.before.len(),
@@ -170,7 +170,7 @@ fn a_failed_read(rt: HostRuntime) -> Result<(), Fail> {
     Ok(())
 }
 
-/// Runs a case that reads on a reader that always fails: it answers that and writes nothing.
+/// Runs a case that reads, on a reader that always fails. Checks that the run returns that error and writes nothing.
 fn check_first_read(rt: &(impl Abort + AllocGlobal), case: &Case, reader: FakeReader<'_>) {
     let outcome = outcome_of(rt, case.words, reader, FakeWriter::new(rt.alloc()), "");
     check_outcome(
@@ -199,8 +199,8 @@ fn a_reader_that_always_fails(rt: HostRuntime) -> Result<(), Fail> {
     Ok(())
 }
 
-/// Runs a case on this writer: it answers that a write failed, and the writer has the output's first `count` bytes and
-/// was called so often.
+/// Runs a case on this writer. Checks that the run reports a failed write, that the writer has the first `count` bytes
+/// of the output, and how often it was called.
 fn check_failed_write(
     rt: &(impl Abort + AllocGlobal),
     case: &Case,
@@ -224,7 +224,8 @@ fn check_failed_write(
     );
 }
 
-/// Runs a case on a writer that takes one byte a call and whose call `bad` fails so: nothing is written after that.
+/// Runs a case on a writer that accepts one byte in each call and whose call `bad` fails. Checks that nothing is
+/// written after that.
 fn check_failed_call(rt: &(impl Abort + AllocGlobal), case: &Case, failing: Failing, bad: usize) {
     let mut writer = FakeWriter::new(rt.alloc());
     writer.most = 1;
@@ -232,7 +233,7 @@ fn check_failed_call(rt: &(impl Abort + AllocGlobal), case: &Case, failing: Fail
     check_failed_write(rt, case, writer, bad, bad.saturating_add(1));
 }
 
-/// Runs a case on writers that fail at a call, or are full for a while at it, each call in turn.
+/// Runs a case on writers that fail from one call on, or would block at that call alone, for each call in turn.
 fn check_failed_writes(rt: &(impl Abort + AllocGlobal), case: &Case) {
     for bad in 0..case.output.len() {
         check_failed_call(rt, case, Failing::since(bad), bad);
@@ -248,8 +249,8 @@ fn a_failed_write(rt: HostRuntime) -> Result<(), Fail> {
     Ok(())
 }
 
-/// Runs a case on writers that take all that they are given and fail at a call, each call in turn: no call is made after
-/// that.
+/// Runs a case on writers that accept all bytes of a call and fail from one call on, for each call in turn. Checks that
+/// no call is made after the first one that fails.
 fn check_failed_answers(rt: &(impl Abort + AllocGlobal), case: &Case) {
     for bad in 0..case.wanted_writes() {
         let mut writer = FakeWriter::new(rt.alloc());
@@ -276,7 +277,8 @@ fn a_failed_write_of_an_answer(rt: HostRuntime) -> Result<(), Fail> {
     Ok(())
 }
 
-/// Runs the row on a writer that takes one byte a call and whose call `bad` fails: the bytes before that were written.
+/// Runs the row on a writer that accepts one byte in each call and whose call `bad` fails. Checks that the bytes before
+/// that were written.
 fn check_failed_byte(rt: &(impl Abort + AllocGlobal), row: &Run, bad: usize) {
     let mut writer = FakeWriter::new(rt.alloc());
     writer.most = 1;
@@ -311,7 +313,7 @@ fn a_writer_that_takes_nothing(rt: HostRuntime) -> Result<(), Fail> {
     Ok(())
 }
 
-/// A run that reads flushes before its first read, and any other once it has written.
+/// A command that reads flushes before its first read. Any other command flushes after it has written.
 #[test]
 fn a_failed_flush(rt: HostRuntime) -> Result<(), Fail> {
     for case in CASES {
@@ -332,7 +334,7 @@ fn a_failed_flush(rt: HostRuntime) -> Result<(), Fail> {
     Ok(())
 }
 
-/// Each read finds that the answers to all lines before it have gone out.
+/// At each read, the answers to all lines that were read before have been written.
 #[test]
 fn answers_go_out_before_each_read(rt: HostRuntime) -> Result<(), Fail> {
     let writer = RefCell::new(FakeWriter::new(rt.alloc()));
@@ -347,7 +349,7 @@ fn answers_go_out_before_each_read(rt: HostRuntime) -> Result<(), Fail> {
     Ok(())
 }
 
-/// How a run of these words ends whose writer takes 50,000 bytes a call and fails so.
+/// Returns how a run of these words ends on a writer that accepts 50,000 bytes in each call and fails in this way.
 fn failed_ending(rt: &impl AllocGlobal, words: &[&str], input: &[u8], failing: Failing) -> Ending {
     let mut writer = FakeWriter::new(rt.alloc());
     writer.most = 50_000;
@@ -355,8 +357,8 @@ fn failed_ending(rt: &impl AllocGlobal, words: &[&str], input: &[u8], failing: F
     ending_of(rt.alloc(), words, &mut FakeReader::new(input), &mut writer)
 }
 
-/// Runs these words on a writer that is called so often: where none of the calls fails they end well, and where one of them
-/// does the run says so.
+/// Runs these words on a writer that is called `calls` times. Checks that the run succeeds if no call fails, and that
+/// it reports a failed write if one of them fails.
 fn check_each_write(rt: &(impl Abort + AllocGlobal), words: &[&str], input: &[u8], calls: usize) {
     for bad in 0..calls {
         assert_eq!(rt;
@@ -374,7 +376,7 @@ fn check_each_write(rt: &(impl Abort + AllocGlobal), words: &[&str], input: &[u8
     );
 }
 
-/// A run that reads writes before its second read and at its end, and any other once.
+/// A command that reads writes before its second read and at its end. Any other command writes once.
 #[test]
 fn a_failed_write_of_what_was_held(rt: HostRuntime) -> Result<(), Fail> {
     for case in CASES {
@@ -383,7 +385,7 @@ fn a_failed_write_of_what_was_held(rt: HostRuntime) -> Result<(), Fail> {
     Ok(())
 }
 
-/// The answer is longer than what is held at most.
+/// The answer is longer than the buffer for output that is held back.
 #[test]
 fn a_failed_write_in_a_long_answer(rt: HostRuntime) -> Result<(), Fail> {
     let line = vec![in rt.alloc(); b'a'; 300_000]?;

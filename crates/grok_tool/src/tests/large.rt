@@ -1,4 +1,5 @@
-//! Large inputs end well: more than a million reads, a line of 20 MB, an answer of 5 MB, and 150,000 definitions.
+//! Tests that large inputs succeed: more than a million reads, a line of 20 MB, an answer of 5 MB, and 150,000
+//! definitions.
 use super::default_sizes::EVERY;
 use super::devices::{FakeReader, FakeWriter};
 use super::outcome::{Ending, Outcome, check_outcome, ending_of, outcome_at};
@@ -6,8 +7,8 @@ use std::alloc::{AllocError, Global};
 use std::process::Abort;
 use std::test::Fail;
 
-/// Runs the words on this input, of which at most `most` bytes are read a call: all of it is read, and so many bytes are
-/// written.
+/// Runs the words on this input, of which each call reads at most `most` bytes. Checks that all of it is read, and how
+/// many bytes are written.
 fn check_large(
     rt: &(impl Abort + AllocGlobal),
     words: &[&str],
@@ -58,7 +59,7 @@ fn an_answer_of_5_megabytes(rt: HostRuntime) -> Result<(), Fail> {
     Ok(())
 }
 
-/// The words `N0=a`, `N1=a` and so on, so many of them.
+/// Returns `count` words: `N0=a`, `N1=a` and so on.
 fn many_definitions(alloc: Global, count: u32) -> Result<Vec<String>, AllocError> {
     let mut words = Vec::new(alloc);
     for number in 0..count {
@@ -80,7 +81,7 @@ fn checked(rt: &(impl Abort + AllocGlobal), definitions: &[String]) -> Result<Ve
     Ok(writer.taken)
 }
 
-/// Each definition has its line, beside those of the default definitions.
+/// Each definition has its line, and so have the default definitions.
 #[test]
 fn a_check_of_150000_definitions(rt: HostRuntime) -> Result<(), Fail> {
     let definitions = many_definitions(rt.alloc(), 150_000)?;

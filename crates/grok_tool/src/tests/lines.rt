@@ -1,11 +1,11 @@
-//! Runs of `match` and of `json`.
+//! Tests of `match` and `json`.
 use super::cases::{KEYED, Run, UNREAD};
 use super::devices::{FakeReader, FakeWriter};
 use super::outcome::{Ending, Outcome, check_outcome, check_pattern_fault, outcome_of};
 use std::process::Abort;
 use std::test::Fail;
 
-/// Runs that end well, and what they write.
+/// Runs that succeed, and what they write.
 const ROWS: &[Run] = &[
     Run {
         name: "a last line without a line feed",
@@ -135,7 +135,7 @@ const ROWS: &[Run] = &[
     },
 ];
 
-/// Runs of four lines, of which no line feed ends the last, and what they write, in two writes.
+/// Runs on four lines, of which the last one has no line feed, and what they write in two writes.
 const WRITES: &[Run] = &[
     Run {
         name: "answers",
@@ -163,7 +163,7 @@ const WRITES: &[Run] = &[
     },
 ];
 
-/// Runs whose pattern is at fault, and what the fault says.
+/// Runs whose pattern has a fault, and the text of the fault.
 const FAULTS: &[Run] = &[
     Run {
         name: "a circle",
@@ -191,7 +191,8 @@ const FAULTS: &[Run] = &[
     },
 ];
 
-/// Runs the row on devices that move so many bytes a call: all of the input is read, and has this answer.
+/// Runs the row on devices that move at most `most` bytes in each call. Checks that all of the input is read, and that
+/// the output is that of the row.
 fn check_answer(rt: &(impl Abort + AllocGlobal), row: &Run, most: usize) {
     let mut reader = FakeReader::new(row.input);
     reader.most = most;
@@ -221,7 +222,8 @@ fn each_line_has_its_answer(rt: HostRuntime) -> Result<(), Fail> {
     Ok(())
 }
 
-/// Runs the row: the answers to the lines that a line feed ended go out in one write, and the last one in another.
+/// Runs the row. Checks that the answers to the lines with a line feed are written in one write, and the answer to the
+/// last line in another.
 fn check_writes(rt: &(impl Abort + AllocGlobal), row: &Run) {
     let reader = FakeReader::new(row.input);
     let writer = FakeWriter::new(rt.alloc());

@@ -1,11 +1,11 @@
-//! What a run on a fake reader and a fake writer gives.
+//! The outcome of a run on a fake reader and a fake writer.
 use super::cases::Run;
 use super::devices::{FakeReader, FakeWriter};
 use grok_commands::{ToolFault, run};
 use std::alloc::{AllocError, Global};
 use std::process::Abort;
 
-/// How a run ended: well, or with a fault of this kind.
+/// How a run ended: it succeeded, or it had a fault of this kind.
 #[derive(Clone, Copy, PartialEq, Eq, Debug)]
 pub enum Ending {
     Well,
@@ -16,7 +16,8 @@ pub enum Ending {
     Write,
 }
 
-/// How a run ended, the input that it left, how many bytes the writer took, and how often each device was called.
+/// How a run ended, the input that it didn't read, how many bytes the writer accepted, and how often each device was
+/// called.
 #[derive(Clone, Copy, PartialEq, Eq, Debug)]
 pub struct Outcome<'a> {
     pub ending: Ending,
@@ -27,7 +28,7 @@ pub struct Outcome<'a> {
     pub flushes: usize,
 }
 
-/// The outcome of a run that ended so and left the devices so.
+/// Returns the outcome of a run that ended in this way and left these devices.
 pub(crate) fn outcome_at<'a>(
     ending: Ending,
     reader: &FakeReader<'a>,
@@ -43,7 +44,7 @@ pub(crate) fn outcome_at<'a>(
     }
 }
 
-/// The kind of a fault.
+/// Returns the kind of a fault.
 pub(crate) fn ending_at(fault: &ToolFault) -> Ending {
     match fault {
         ToolFault::Pattern(_) => Ending::Pattern,
@@ -54,7 +55,7 @@ pub(crate) fn ending_at(fault: &ToolFault) -> Ending {
     }
 }
 
-/// Runs the words on these devices.
+/// Runs the words on these devices, and returns how the run ended.
 pub(crate) fn ending_of(
     alloc: Global,
     words: &[&str],
@@ -67,7 +68,8 @@ pub(crate) fn ending_of(
     }
 }
 
-/// Runs the words on these devices, and gives the outcome. What the writer took is a beginning of `whole`.
+/// Runs the words on these devices, and returns the outcome. Checks that what the writer accepted is a prefix of
+/// `whole`.
 pub(crate) fn outcome_of<'a>(
     rt: &(impl Abort + AllocGlobal),
     words: &[&str],
@@ -84,7 +86,7 @@ pub(crate) fn outcome_of<'a>(
     outcome_at(ending, &reader, &writer)
 }
 
-/// What a fault of a pattern says, or nothing where the fault is another.
+/// Returns the text of a fault of a pattern, or an empty text for any other fault.
 fn pattern_words(alloc: Global, fault: &ToolFault) -> Result<String, AllocError> {
     match fault {
         ToolFault::Pattern(error) => error.to_string(alloc),
@@ -92,8 +94,8 @@ fn pattern_words(alloc: Global, fault: &ToolFault) -> Result<String, AllocError>
     }
 }
 
-/// Runs the words on these devices, and gives what the fault of their pattern says, or nothing where the run ended
-/// otherwise.
+/// Runs the words on these devices, and returns the text of the fault of their pattern, or an empty text if the run
+/// ended in another way.
 fn words_of_pattern(
     alloc: Global,
     words: &[&str],
@@ -106,7 +108,7 @@ fn words_of_pattern(
     }
 }
 
-/// Runs words whose pattern is at fault: the fault says what the row says, and comes before a device is called.
+/// Runs a row whose pattern has a fault. Checks the text of the fault, and that no device is called.
 pub(crate) fn check_pattern_fault(
     rt: &(impl Abort + AllocGlobal),
     row: &Run,
@@ -120,7 +122,7 @@ pub(crate) fn check_pattern_fault(
     Ok(())
 }
 
-/// The outcome of the run of this name is as wanted.
+/// Checks that the outcome of the run with this name is the expected one.
 pub(crate) fn check_outcome(
     rt: &(impl Abort + AllocGlobal),
     name: &str,
@@ -130,7 +132,7 @@ pub(crate) fn check_outcome(
     assert_eq!(rt; outcome, wanted, "{name}");
 }
 
-/// The run of the row ended so before a device was called.
+/// Checks that the run of the row ends in this way before a device is called.
 pub(crate) fn check_untouched(
     rt: &(impl Abort + AllocGlobal),
     row: &Run,

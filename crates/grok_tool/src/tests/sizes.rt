@@ -1,4 +1,4 @@
-//! Runs of `measure` and of `check`.
+//! Tests of `measure` and `check`.
 use super::cases::{Run, UNREAD};
 use super::default_sizes::{ALIASED, EVERY};
 use super::devices::{FakeReader, FakeWriter};
@@ -7,7 +7,7 @@ use std::alloc::{AllocError, Global};
 use std::process::Abort;
 use std::test::Fail;
 
-/// Patterns, and the line of each.
+/// Patterns, and the line that `measure` writes for each.
 const SIZES: &[Run] = &[
     Run {
         name: "two placeholders",
@@ -83,7 +83,7 @@ const SIZES: &[Run] = &[
     },
 ];
 
-/// Patterns at fault, and what the fault says.
+/// Patterns with a fault, and the text of the fault.
 const FAULTS: &[Run] = &[
     Run {
         name: "a missing definition",
@@ -117,7 +117,7 @@ const FAULTS: &[Run] = &[
     },
 ];
 
-/// Checks of the default definitions, and the lines of each.
+/// Runs of `check` over the default definitions, and the lines that each of them writes.
 const LISTS: &[Run] = &[
     Run {
         name: "the default definitions",
@@ -133,7 +133,7 @@ const LISTS: &[Run] = &[
     },
 ];
 
-/// Patterns over the doublings up to `D61`, and the line of each.
+/// Patterns that use the doublings up to `D61`, and the line that `measure` writes for each.
 const DOUBLED: &[Run] = &[
     Run {
         name: "a length that is a number",
@@ -149,14 +149,14 @@ const DOUBLED: &[Run] = &[
     },
 ];
 
-/// Lines among those of a list that has the doublings up to `D70`.
+/// Some of the lines that `check` writes for the doublings up to `D70`.
 const LONG_TEXTS: &[&str] = &[
     "\nD0: length 5 groups 0 nesting 1\nD1: length 14 groups 0 nesting 2\nD10: ",
     "\nD60: length 10376293541461622780 groups 0 nesting 61\nD61: too long\nD62: too long\n",
     "\nD70: too long\nD8: ",
 ];
 
-/// The words `D0=a`, and after it for each next number a word that doubles the one before.
+/// Returns the doublings: the word `D0=a`, and then words that each define a name as twice the one before.
 fn doublings(alloc: Global, last: u8) -> Result<Vec<String>, AllocError> {
     let mut words = vec![in alloc; String::from_str(alloc, "D0=a")?]?;
     for i in 0..last {
@@ -166,7 +166,7 @@ fn doublings(alloc: Global, last: u8) -> Result<Vec<String>, AllocError> {
     Ok(words)
 }
 
-/// These words, and after them the doublings.
+/// Returns these words, followed by the doublings.
 fn with_doublings<'a>(
     alloc: Global,
     first: &[&'a str],
@@ -180,7 +180,7 @@ fn with_doublings<'a>(
     Ok(words)
 }
 
-/// Runs words that succeed and read nothing, and gives what they write, in one write.
+/// Runs words that succeed and read nothing, and returns what they write in one write.
 fn written(rt: &(impl Abort + AllocGlobal), name: &str, words: &[&str]) -> Vec<u8> {
     let mut reader = FakeReader::new(UNREAD.input);
     let mut writer = FakeWriter::new(rt.alloc());
@@ -202,7 +202,8 @@ fn written(rt: &(impl Abort + AllocGlobal), name: &str, words: &[&str]) -> Vec<u
     writer.taken
 }
 
-/// Runs a row, with these words after its own: it succeeds, reads nothing and writes its output, in one write.
+/// Runs a row with these words after its own. Checks that it succeeds, reads nothing, and writes its output in one
+/// write.
 fn check_written(
     rt: &(impl Abort + AllocGlobal),
     row: &Run,
@@ -271,7 +272,7 @@ fn check_names_a_definition_once(rt: HostRuntime) -> Result<(), Fail> {
     Ok(())
 }
 
-/// The definition of a default name counts, and not the default one.
+/// If a word defines a default name, its definition replaces the default one.
 #[test]
 fn check_names_a_default_definition_once(rt: HostRuntime) -> Result<(), Fail> {
     let list = written(&rt, "a default definition once", &["check", "DAY=x"]);

@@ -1,4 +1,4 @@
-//! Runs of `split`.
+//! Tests of `split`.
 use super::cases::{Run, UNREAD};
 use super::devices::{FakeReader, FakeWriter};
 use super::outcome::{Ending, Outcome, check_outcome, outcome_of};
@@ -45,7 +45,7 @@ const PIECES: &[Run] = &[
     SEVERAL,
 ];
 
-/// Two pieces and a fault.
+/// A pattern with two pieces and a fault.
 const SEVERAL: Run = Run {
     name: "two pieces and a fault",
     words: &["split", "a%{b}%{c!}"],
@@ -53,7 +53,7 @@ const SEVERAL: Run = Run {
     ..UNREAD
 };
 
-/// Runs a row, to a writer that works: it reads nothing, and writes what is wanted.
+/// Runs a row on a writer that never fails. Checks that it reads nothing, and that it writes the expected output.
 fn check_split<'a>(rt: &(impl Abort + AllocGlobal), row: &Run, writer: FakeWriter) -> Outcome<'a> {
     let reader = FakeReader::new(row.input);
     let outcome = outcome_of(rt, row.words, reader, writer, row.output);
