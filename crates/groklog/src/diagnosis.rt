@@ -99,33 +99,44 @@ fn words_end(piece: &str) -> usize {
     }
 }
 
+/// Returns the words of a malformed placeholder, with the colons between them.
+fn words_of(piece: &str) -> &str {
+    piece.get(2..words_end(piece)).unwrap_or("")
+}
+
 /// Describes what is wrong with a placeholder that has no name, no end, or too many parts.
 fn incomplete(piece: &str) -> &'static str {
-    if words_end(piece) >= piece.len() {
-        "this placeholder isn't closed by }"
-    } else if name_len(piece.get(2..).unwrap_or("")) == 0 {
+    let words = words_of(piece);
+    if name_len(words) == 0 && piece.len() > 2 {
         "this placeholder has no name"
+    } else if words_end(piece) >= piece.len() && words.split(':').count() <= 4 {
+        "this placeholder isn't closed by }"
     } else {
         "this placeholder has more than a name, an alias and an extract"
     }
 }
 
+/// Returns whether the last of a placeholder's alias and extract is empty.
+fn has_empty_part(piece: &str) -> bool {
+    let alias_and_extract = words_of(piece).split(':').skip(1).take(2);
+    alias_and_extract.last().is_some_and(|part| part.is_empty())
+}
+
 /// Describes what is wrong with a placeholder that has an empty part, or whose inline definition
 /// can't be read.
 fn wrong_part(piece: &str) -> &'static str {
-    let rest = piece.get(words_end(piece)..).unwrap_or("");
-    let Some(definition) = rest.strip_prefix('=') else {
+    if has_empty_part(piece) {
         return "a part of this placeholder is empty";
-    };
+    }
+    let rest = piece.get(words_end(piece)..).unwrap_or("");
+    let definition = rest.strip_prefix('=').unwrap_or("");
     let end = definition.find('}').unwrap_or(definition.len());
     if definition.find('{').is_some_and(|brace| brace < end) {
         "a definition inside a placeholder can't have a {"
     } else if end == definition.len() {
         "this placeholder isn't closed by }"
-    } else if end == 0 {
-        "the definition in this placeholder is empty"
     } else {
-        "a part of this placeholder is empty"
+        "the definition in this placeholder is empty"
     }
 }
 
