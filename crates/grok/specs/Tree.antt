@@ -102,7 +102,7 @@ events inside (FaultItem fault ∷ items) = FaultEvent fault ∷ events inside i
 events inside (PlaceholderItem label meaning ∷ items) = Open label meaning ∷ inside (meaning_text meaning)
     ++ events inside items
 
--- What follows an open, if so many levels are left. If none is left, that is a fault.
+-- What follows an open, with the number of levels that are left. If none is left, that is a fault.
 abbrev pub inside : (List ℕ → List Item) → ℕ → List ℕ → List Event
 inside items zero text = FaultEvent TooDeep ∷ []
 inside items (suc levels_left) text = events (inside items levels_left) (items text) ++ Close ∷ []

@@ -1,4 +1,4 @@
-//! Writes what is known of a pattern as one text, for comparison.
+//! Writes the properties of a pattern as one text, for comparison.
 
 use grok::{Engine, MatchesOf, PatternOf};
 use std::alloc::{AllocError, Global};

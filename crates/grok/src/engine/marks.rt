@@ -11,7 +11,7 @@ use regex_meta::Program;
 use regex_vm::Declined;
 use std::alloc::Global;
 
-/// What is known of all matches of a pattern.
+/// Facts that hold for each match of a pattern.
 #[derive(Drop)]
 pub(crate) struct Marks {
     /// Whether each match starts where the line starts.
