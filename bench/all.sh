@@ -1,6 +1,6 @@
 #!/usr/bin/env bash
-# All benchmarks but profile.sh, each with its tables in markdown. They want a machine that does nothing else; each script takes under
-# two minutes there.
+# Runs all benchmarks but profile.sh. Each prints its tables in markdown. They need a machine that does nothing else, and
+# each takes under two minutes there.
 #
 #   bench/all.sh
 set -euo pipefail

@@ -1,30 +1,30 @@
 #!/usr/bin/env bash
-# What a line costs in a loop over a pattern's own call `match_against`, over a kept matcher by `match_against` and by `find`,
-# and with a new matcher for each line, beside the whole program; the greatest memory of 2,000,000 calls; and the tables of
-# shapes.sh. The library's calls are timed once they have answered all lines. valgrind, where it is here, counts their
-# instructions, so that the load of the machine doesn't matter.
+# Measures how long a line takes in each way to match: the pattern's own call `match_against`, `match_against` and `find` of
+# a kept matcher, a new matcher for each line, and the whole program. It also prints the greatest memory of 2,000,000 calls,
+# and the tables of shapes.sh. The library's calls are timed when each has already matched all lines once. If valgrind is
+# installed, it counts their instructions, which don't depend on the load of the machine.
 #
-#   bench/calls.sh [LINES]        20000 lines where no number is given
+#   bench/calls.sh [LINES]        20000 lines if no number is given
 set -euo pipefail
 source "$(dirname "$0")/common.sh"
 lines=${1:-20000}
 counted_lines=300
 rounds=3
-# What the crate in Rust took for an Apache line, on another machine, in nanoseconds: its whole program.
+# How many nanoseconds the crate in Rust took for an Apache line, in a whole program and on another machine.
 upstream=4400
 grok_calls=$(program grok_calls)
 grok_tool=$(program grok_tool)
 ways=(match_against kept find fresh)
 
-# Writes what grok_calls reads, the definitions and behind an empty line the log, and the log alone: `write_input PATTERN LOG LINES`.
+# Writes the log, and the input of grok_calls: the definitions, an empty line and the log. `write_input PATTERN LOG LINES`.
 write_input() {
     mapfile -t words <"$root/bench/patterns/$1"
     "$root/bench/make_log" "$2" "$3" >"$room/log"
     { printf '%s\n' "${words[@]:1}" '' && cat "$room/log"; } >"$room/input"
 }
 
-# The nanoseconds a line that grok_calls tells of a way of its last run: `told_line WAY`.
-told_line() {
+# The nanoseconds a line that grok_calls reported for a way of its last run: `line_time WAY`.
+line_time() {
     sed -n "s/^$1 \([0-9]*\) ns a line\$/\1/p" "$room/complaint"
 }
 
@@ -35,14 +35,14 @@ time_lines() {
     for ((round = 0; round < rounds; round++)); do
         time_once "$room/input" "$room/answer" "$grok_calls" timed match "${words[0]}"
         for way in "${ways[@]}"; do
-            best["$1 $2 $way"]=$(least "${best[$1 $2 $way]:-}" "$(told_line "$way")")
+            best["$1 $2 $way"]=$(least "${best[$1 $2 $way]:-}" "$(line_time "$way")")
         done
         time_once "$room/log" "$room/out" "$grok_tool" match -a "${words[@]}"
         best["$1 $2 match -a"]=$(least "${best[$1 $2 match -a]:-}" "$((took * 1000 / lines))")
     done
 }
 
-# The instructions a line of each way while it is timed, into `counted`: `count_lines PATTERN LOG`.
+# Counts the instructions a line of each way in its timed part, into `counted`: `count_lines PATTERN LOG`.
 count_lines() {
     local way instructions
     write_input "$1" "$2" "$counted_lines"
@@ -55,7 +55,7 @@ count_lines() {
         / \* .*:ask_(pattern|kept|find|fresh) / { match($0, /ask_[a-z]+/); print substr($0, RSTART + 4, RLENGTH - 4), int(cost) }')
 }
 
-# A row for each run.
+# Prints a table of times, with a row for each run.
 print_times() {
     echo "| Microseconds a line | \`match_against\` | kept matcher | its \`find\` | new matcher for each line | \`match -a\` | kept to \`match_against\` | new to \`match_against\` |"
     echo '|---|---|---|---|---|---|---|---|'
@@ -67,7 +67,7 @@ print_times() {
     done
 }
 
-# The same in instructions.
+# Prints a table of instructions, with a row for each run.
 print_counts() {
     echo '| Instructions a line | `match_against` | kept matcher | its `find` | new matcher for each line |'
     echo '|---|---|---|---|---|'
@@ -77,12 +77,12 @@ print_counts() {
     done
 }
 
-# `met`, or by how much it is missed: `goal VALUE LEAST`.
+# Prints a value, the goal, and whether it is met: `goal VALUE LEAST`.
 goal() {
     awk -v value="$1" -v least="$2" 'BEGIN { print value " (more than " least ": " (value + 0 > least ? "met" : "**missed**") ")" }'
 }
 
-# What each run is to reach.
+# Prints the goals of each run.
 print_goals() {
     echo "| Pattern and log | new matcher to \`match_against\` | the crate in Rust, $(ratio "$upstream" 1000 1) microseconds, to \`match_against\` |"
     echo '|---|---|---|'
@@ -94,7 +94,7 @@ print_goals() {
     done
 }
 
-# The greatest memory of few calls and of many, which must not grow with them.
+# The greatest memory of few calls and of many. It must not grow with their number.
 print_memory() {
     echo '| The greatest resident set of calls over 5,000 lines, KiB | 20,000 calls | 2,000,000 calls |'
     echo '|---|---|---|'
@@ -127,7 +127,7 @@ if command -v valgrind >/dev/null; then
     echo
     print_counts
 else
-    echo "valgrind isn't here: no instructions are counted."
+    echo "valgrind isn't installed: no instructions are counted."
 fi
 echo
 print_memory

@@ -1,16 +1,16 @@
-# What the scripts of this folder share. They are run by hand and are no part of the tests.
+# What the scripts of this folder share. You run them by hand: they aren't part of the tests.
 root=$(cd "$(dirname "${BASH_SOURCE[0]}")/.." && pwd)
 room=$(mktemp -d)
 trap 'rm -rf "$room"' EXIT
 export LC_ALL=C
 
-# The path of a program of this repository, built where that is needed: `program NAME`.
+# The path of a program of this repository, which is built first if need be: `program NAME`.
 program() {
     "$root/tests/built" "$1"
 }
 
 # The microseconds that a command takes from its start to its end, into `took`: `time_once INPUT OUTPUT WORD..`.
-# Only grep, rg and Debian's grok may end with status 1, which says that no line matches.
+# Only grep, rg and Debian's grok may end with status 1: it means that no line matches.
 time_once() {
     local input=$1 output=$2 start end status=0
     shift 2
@@ -27,17 +27,17 @@ time_once() {
     took=$((end - start))
 }
 
-# The microseconds that grok_calls tells of a step of its last run: `told STEP`.
-told() {
+# Prints the microseconds that grok_calls reported for a step of its last run: `step_time STEP`.
+step_time() {
     sed -n "s/^$1 \([0-9]*\) us\$/\1/p" "$room/complaint"
 }
 
-# The smaller of two numbers, of which the first may be empty: `least A B`.
+# Prints the smaller of two numbers, or the second one if the first is empty: `least A B`.
 least() {
     [ -n "$1" ] && [ "$1" -le "$2" ] && echo "$1" || echo "$2"
 }
 
-# The greatest resident set of a command, in KiB: `peak INPUT WORD..`. GNU time has the smallest floor of its own.
+# Prints the greatest resident set of a command, in KiB: `peak INPUT WORD..`. GNU time takes little memory itself.
 peak() {
     local input=$1
     shift
@@ -45,12 +45,12 @@ peak() {
     cat "$room/peak"
 }
 
-# The first word over the second, with so many places: `ratio A B [PLACES]`.
+# Prints A divided by B, with DIGITS decimal digits, or two if DIGITS isn't given: `ratio A B [DIGITS]`.
 ratio() {
-    awk -v a="$1" -v b="$2" -v places="${3:-2}" 'BEGIN { if (b == 0) print "-"; else printf "%.*f", places, a / b }'
+    awk -v a="$1" -v b="$2" -v digits="${3:-2}" 'BEGIN { if (b == 0) print "-"; else printf "%.*f", digits, a / b }'
 }
 
-# What the machine is and how busy it is.
+# Prints what the machine is and how busy it is.
 machine() {
     echo "$(nproc) processors, $(awk -F: '/model name/ { print $2; exit }' /proc/cpuinfo | xargs)," \
         "load $(cut -d' ' -f1-3 /proc/loadavg)"

@@ -1,14 +1,14 @@
 #!/usr/bin/env bash
-# The time of `compile` for patterns of 10, 100 and 1000 placeholders, and how it grows.
+# Times `compile` for patterns of ever more placeholders.
 #
-#   bench/compile.sh [COUNT..]
+#   bench/compile.sh [COUNT..]        10 100 1000 if no number is given
 set -euo pipefail
 source "$(dirname "$0")/common.sh"
 grok_calls=$(program grok_calls)
 rounds=3
 [ $# -gt 0 ] || set -- 10 100 1000
 
-# A library whose TOP has so many placeholders, each with an alias of its own: `wide COUNT`.
+# Prints a library whose TOP has this many placeholders, each with an alias of its own: `wide COUNT`.
 wide() {
     echo 'WORD=[a-z]+'
     seq -f '%%{WORD:key%g}' "$1" | paste -sd' ' | sed 's/^/TOP=/'
@@ -24,7 +24,7 @@ for count in "$@"; do
     compiling='' measuring=''
     for ((round = 0; round < rounds; round++)); do
         time_once "$room/library" "$room/answer" "$grok_calls" timed compile '%{TOP}'
-        compiling=$(least "$compiling" "$(told compile)") measuring=$(least "$measuring" "$(told measure)")
+        compiling=$(least "$compiling" "$(step_time compile)") measuring=$(least "$measuring" "$(step_time measure)")
     done
     echo "| $count | $(ratio "$compiling" 1000) | $(ratio "$measuring" 1000) | $(ratio "$compiling" "$before")" \
         "| $(tail -n 1 "$room/answer" | head -c 80) |"

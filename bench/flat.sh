@@ -1,7 +1,7 @@
 #!/usr/bin/env bash
-# The greatest memory that `match -a` and `json -a` take, for logs of growing length. It must not grow with the lines.
+# Measures the greatest memory that `match -a` and `json -a` take for ever longer logs. It must not grow with the lines.
 #
-#   bench/flat.sh [LINES..]       10000 100000 1000000 where no number is given
+#   bench/flat.sh [LINES..]       10000 100000 1000000 if no number is given
 set -euo pipefail
 source "$(dirname "$0")/common.sh"
 grok_tool=$(program grok_tool)

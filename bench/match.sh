@@ -1,9 +1,9 @@
 #!/usr/bin/env bash
-# Lines a second of `grok_tool` and of the tools that someone would take instead, on the same lines in one run, with
-# all output written to a file. Each tool is run in turn, three times, but one that takes over 3 seconds only once; the
-# fastest run counts.
+# Measures how many lines a second `grok_tool` answers, and other tools that do the same work, on the same lines in one run.
+# All output is written to a file. The tools run in turn, three times each, but only once if a run takes over 3 seconds.
+# The fastest run counts.
 #
-#   bench/match.sh [LINES]        100000 lines where no number is given
+#   bench/match.sh [LINES]        100000 lines if no number is given
 set -euo pipefail
 source "$(dirname "$0")/common.sh"
 lines=${1:-100000}
@@ -34,7 +34,7 @@ program {
 SETTINGS
 }
 
-# Prints what `match -a` prints, from perl's own engine.
+# Prints what `match -a` prints, but matches with perl's own engine.
 perl_groups='BEGIN { $regex = qr/$ENV{REGEX}/ } chomp;
     if (/$regex/) { print map({ "$_=$+{$_}\n" } sort keys %+), "\n" } else { print "no match\n\n" }'
 
@@ -61,10 +61,10 @@ if command -v grok >/dev/null; then
     tools+=("Debian's grok")
 fi
 
-# Each run of a tool by the pattern, the log and the tool: its fewest microseconds.
+# The microseconds of the fastest run, by the pattern, the log and the tool.
 declare -A best=()
 
-# Runs all tools with a pattern on a log, and says whether perl prints the same.
+# Runs all tools with a pattern on a log, and compares what perl prints with our output: `compare PATTERN LOG`.
 compare() {
     local pattern=$1 kind=$2 tool round at log=$room/log
     read_pattern "$pattern"
@@ -89,7 +89,7 @@ compare() {
     fi
 }
 
-# How many times faster than a tool another one is: `faster PATTERN-AND-LOG TOOL OTHER`.
+# How many times as fast as another tool a tool is: `faster PATTERN-AND-LOG TOOL OTHER`.
 faster() {
     ratio "${best[$1 $3]:-0}" "${best[$1 $2]}"
 }
@@ -111,13 +111,13 @@ print_speeds() {
     done
 }
 
-# `met`, or by how much it is missed: `goal VALUE LEAST`.
+# Prints a value, the goal, and whether it is met: `goal VALUE LEAST`.
 goal() {
     awk -v value="$1" -v least="$2" 'BEGIN {
         print value == "-" ? "not measured" : value " (at least " least ": " (value + 0 >= least ? "met" : "**missed**") ")" }'
 }
 
-# What each run is to reach.
+# Prints the goals of each run.
 print_goals() {
     local run least
     echo "| Pattern and log | \`match -a\` to perl | \`match -a\` to \`rg -c\` | \`json -a\` to \`match -a\` | perl prints |"
@@ -138,8 +138,8 @@ for run in "${runs[@]}"; do
     compare ${run% *} ${run#* }
 done
 echo "$lines lines of each log, the fastest of $rounds runs; $began, at the end $(cut -d' ' -f1-3 /proc/loadavg)."
-command -v rg >/dev/null || echo "ripgrep isn't here: its rows are left out."
-command -v grok >/dev/null || echo "Debian's grok isn't here: its row is left out."
+command -v rg >/dev/null || echo "ripgrep isn't installed: its rows are left out."
+command -v grok >/dev/null || echo "Debian's grok isn't installed: its row is left out."
 echo
 print_speeds
 echo

@@ -1,8 +1,8 @@
 #!/usr/bin/env bash
-# The time of `measure` over libraries of growing size, which should grow with the pieces reached and not with the
-# expansion, the memory that a definition takes, and the time of `grok_tool check` of 1000 definitions.
+# Times `measure` over ever larger libraries. The time should grow with the pieces that are reached, and not with the
+# expansion. It also measures the memory that a definition takes, and the time of `grok_tool check` for 1000 definitions.
 #
-#   bench/measure.sh [COUNT..]        1000 10000 100000 where no number is given
+#   bench/measure.sh [COUNT..]        1000 10000 100000 if no number is given
 set -euo pipefail
 source "$(dirname "$0")/common.sh"
 grok_calls=$(program grok_calls)
@@ -10,23 +10,23 @@ grok_tool=$(program grok_tool)
 rounds=3
 [ $# -gt 0 ] || set -- 1000 10000 100000
 
-# The row of a library: `measure_library SHAPE COUNT`.
+# Prints the row of a library: `measure_library SHAPE COUNT`.
 measure_library() {
     local adding='' measuring='' pieces floor memory
     "$root/bench/make_library" "$1" "$2" >"$room/library"
     for ((round = 0; round < rounds; round++)); do
         time_once "$room/library" "$room/answer" "$grok_calls" timed measure '%{TOP}'
-        adding=$(least "$adding" "$(told add)") measuring=$(least "$measuring" "$(told measure)")
+        adding=$(least "$adding" "$(step_time add)") measuring=$(least "$measuring" "$(step_time measure)")
     done
     pieces=$(sed -n 's/.*pieces: \([0-9]*\).*/\1/p' "$room/answer")
-    # The lines themselves are read whole in both runs.
+    # Both runs read the whole library into memory.
     floor=$(peak "$room/library" "$grok_calls" timed split)
     memory=$((($(peak "$room/library" "$grok_calls" timed measure "%{TOP}") - floor) * 1024 / $2))
     echo "| $1 | $2 | $(stat -c %s "$room/library") | $(ratio "$adding" 1000) | $(ratio "$measuring" 1000) | $pieces" \
         "| $(ratio "$((measuring * 1000))" "$pieces" 0) | $memory | $(sed 's/ Looks.*//' "$room/answer") |"
 }
 
-# The row of a check of 1000 definitions: `check_library SHAPE`.
+# Prints the row of a check of 1000 definitions: `check_library SHAPE`.
 check_library() {
     local words checking=''
     mapfile -t words < <("$root/bench/make_library" "$1" 1000 | sed -n 1,1000p)
@@ -39,7 +39,7 @@ check_library() {
 
 echo "The fastest of $rounds runs; $(machine)."
 echo
-echo "| Library | Definitions | Bytes | \`add_pattern\` of all, ms | \`measure\`, ms | Pieces looked at | ns a piece | Memory a definition, bytes | Answer |"
+echo "| Library | Definitions | Bytes | \`add_pattern\` of all, ms | \`measure\`, ms | Pieces read | ns a piece | Memory a definition, bytes | Answer |"
 echo "|---|---|---|---|---|---|---|---|---|"
 for shape in chain comb doubling random; do
     for count in "$@"; do

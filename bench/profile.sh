@@ -1,14 +1,14 @@
 #!/usr/bin/env bash
-# Which share of the instructions of `match -a` is whose, on 20,000 lines of each log: valgrind counts them, so the load of
-# the machine doesn't matter. A function's share is without what it calls.
+# Prints which share of the instructions of `match -a` the engine, our crates, and the rest take. valgrind counts them, so
+# the load of the machine doesn't matter. Only a function's own instructions count for it, and not those of its calls.
 #
-#   bench/profile.sh [LINES]
+#   bench/profile.sh [LINES]        20000 lines of each log if no number is given
 set -euo pipefail
 source "$(dirname "$0")/common.sh"
 lines=${1:-20000}
 grok_tool=$(program grok_tool)
 
-# The instructions of each function, from the most on: `count INPUT WORD..`.
+# The instructions of each function, the most first: `count INPUT WORD..`.
 count() {
     local input=$1
     shift
@@ -16,7 +16,7 @@ count() {
     callgrind_annotate --threshold=100 "$room/profile" | sed -n 's/^ *\([0-9,]*\) *([ 0-9.]*%) *[^:]*:\([^ ]*\).*/\1 \2/p' | tr -d ,
 }
 
-# Sums up by who a function belongs to.
+# Prints the instructions a line, and the shares of the engine, the library, the program and the rest.
 by_owner() {
     awk -v lines="$lines" '
         { total += $1 }

@@ -1,32 +1,33 @@
 #!/usr/bin/env bash
-# What a line costs by a pattern's own call `match_against` and by `find` of a kept matcher, over lines of other shapes
-# than those of make_log: eight patterns, six lengths, lines that match, that fail at their end and that are of another
-# kind, in words of ASCII and of other characters, and all of these in turn. The library's calls are timed once they
-# have answered all lines, so that what builds something is not counted.
+# Compares a pattern's own call `match_against` with `find` of a kept matcher, over lines of other shapes than those of
+# make_log: ten patterns, six lengths, lines that match, that fail at their end or that are of another kind, in words of
+# ASCII, of other characters and of Greek, and all of these in turn. The calls are timed when each has already matched
+# all lines once, so that the building of tables isn't counted.
 #
-#   bench/shapes.sh [LINES]        500 lines where no number is given
+#   bench/shapes.sh [LINES]        500 lines if no number is given
 set -euo pipefail
 source "$(dirname "$0")/common.sh"
 lines=${1:-500}
 rounds=3
-patterns=(combined syslogbase json address words middle groupless fifty)
+patterns=(combined syslogbase json address words middle groupless fifty mail query)
 sizes=(80 200 390 420 1000 4000)
-kinds=('match ascii' 'match unicode' 'fails ascii' 'fails unicode' 'other ascii' 'other unicode' 'mixed both')
+kinds=('match ascii' 'match unicode' 'match greek' 'fails ascii' 'fails unicode' 'fails greek' 'other ascii' 'other unicode'
+    'other greek' 'mixed both')
 ways=(match_against find)
 grok_calls=$(program grok_calls)
 
-# How many times the time of `find` a call may take on lines of a kind: lines of another kind lack what the pattern needs.
+# How many times as long as `find` a call may take on lines of a kind. Lines of another kind lack what the pattern needs.
 declare -A most=([match]=2 [fails]=2 [other]=2.5 [mixed]=2.5)
 
-# The fewest nanoseconds a line of each way: by pattern, size, kind and way.
+# The nanoseconds a line in the fastest run, by pattern, size, kind and way.
 declare -A best=()
 
-# The nanoseconds a line that grok_calls tells of a way of its last run: `told_line WAY`.
-told_line() {
+# The nanoseconds a line that grok_calls reported for a way of its last run: `line_time WAY`.
+line_time() {
     sed -n "s/^$1 \([0-9]*\) ns a line\$/\1/p" "$room/complaint"
 }
 
-# Sees that the lines of a kind match as they should: `check_matches PATTERN KIND`.
+# Checks that as many lines match as their kind says: `check_matches PATTERN KIND`.
 check_matches() {
     local matches expected=0
     matches=$(sed -n 's/^matches \([0-9]*\) .*/\1/p' "$room/answer")
@@ -52,12 +53,12 @@ time_shape() {
         time_once "$room/input" "$room/answer" "$grok_calls" timed own_and_find "${words[0]}"
         check_matches "$1" "$3"
         for way in "${ways[@]}"; do
-            best["$* $way"]=$(least "${best[$* $way]:-}" "$(told_line "$way")")
+            best["$* $way"]=$(least "${best[$* $way]:-}" "$(line_time "$way")")
         done
     done
 }
 
-# Microseconds of both ways and their ratio: `cell PATTERN SIZE KIND ALPHABET`.
+# The microseconds a line of both ways, and their ratio: `cell PATTERN SIZE KIND ALPHABET`.
 cell() {
     local own=${best[$* match_against]} find=${best[$* find]}
     echo "$(ratio "$own" 1000) / $(ratio "$find" 1000) = $(ratio "$own" "$find")"
@@ -81,7 +82,7 @@ print_times() {
     done
 }
 
-# The ratios of a kind, each with its pattern and size, the greatest first: `ratios KIND ALPHABET`.
+# The ratios for a kind, each with its pattern and size, the greatest first: `ratios KIND ALPHABET`.
 ratios() {
     local pattern size
     for pattern in "${patterns[@]}"; do
@@ -91,7 +92,7 @@ ratios() {
     done | sort -rn
 }
 
-# What each kind is to reach, its worst row, and how many rows miss the goal.
+# For each kind the goal, the worst row, and how many rows miss the goal.
 print_goals() {
     local kind least_good
     echo '| Lines | the worst row | `match_against` to `find` | rows that miss it |'

@@ -1,8 +1,8 @@
 #!/usr/bin/env bash
-# How fast a text is split into its pieces, beside `grep -c '%{'` on the same text. Time should grow with the length
-# alone. A program's words are too short for such a text, so it goes through standard input of grok_calls.
+# Compares how fast a text is split into its pieces with `grep -c '%{'` on the same text. The time should grow with the
+# length alone. Such a text is too long for a program's words, so grok_calls reads it from standard input.
 #
-#   bench/split.sh [MEGABYTES..]        1 10 100 where no number is given
+#   bench/split.sh [MEGABYTES..]        1 10 100 if no number is given
 set -euo pipefail
 source "$(dirname "$0")/common.sh"
 grok_calls=$(program grok_calls)
@@ -19,7 +19,7 @@ for megabytes in "$@"; do
     alone='' whole='' grep=''
     for ((round = 0; round < rounds; round++)); do
         time_once "$room/text" "$room/pieces" "$grok_calls" timed split
-        alone=$(least "$alone" "$(told split)") whole=$(least "$whole" "$took")
+        alone=$(least "$alone" "$(step_time split)") whole=$(least "$whole" "$took")
         time_once "$room/text" "$room/count" grep -c '%{'
         grep=$(least "$grep" "$took")
     done

@@ -1,7 +1,7 @@
 /* A library to be loaded before a program (LD_PRELOAD). It counts the program's requests for memory, and refuses one
- * of them: the program sees it as the system's answer that there is no more memory.
+ * of them: to the program it looks as if the system had no more memory.
  *
- *   REFUSE_NTH=N        the N-th counted request is refused, and every other one served; none is refused without it
+ *   REFUSE_NTH=N        the N-th counted request is refused, and no other one; without this setting none is refused
  *   REFUSE_MARKED=1     only requests of one part of the program are counted: the part between the first line
  *                       "[call" that it writes to standard error, and the line "[done" that follows
  *   REFUSE_REPORT=FILE  at the program's end FILE gets the line "requests N refused R", R being 0 or 1
@@ -17,13 +17,13 @@
 #include <sys/syscall.h>
 #include <unistd.h>
 
-/* The C library's own functions under names that nothing stands in front of. */
+/* The C library's own functions, by names that this library doesn't replace. */
 extern void *__libc_malloc(size_t size);
 extern void *__libc_calloc(size_t count, size_t size);
 extern void *__libc_realloc(void *old, size_t size);
 extern void *__libc_memalign(size_t align, size_t size);
 
-enum part { BEFORE, INSIDE, BEHIND };
+enum part { BEFORE, INSIDE, AFTER };
 
 static int is_ready, is_marked;
 static enum part part;
@@ -38,7 +38,7 @@ static void prepare(void) {
     is_ready = 1;
 }
 
-/* Counts a request, and says whether it is the one to be refused. */
+/* Counts a request, and returns whether it is the one to be refused. */
 static int is_refused(void) {
     if (!is_ready) prepare();
     if (part != INSIDE || ++requests != refused_number) return 0;
@@ -67,16 +67,16 @@ void *memalign(size_t align, size_t size) {
     return is_refused() ? NULL : __libc_memalign(align, size);
 }
 
-int posix_memalign(void **place, size_t align, size_t size) {
+int posix_memalign(void **memory, size_t align, size_t size) {
     if (is_refused()) return ENOMEM;
-    *place = __libc_memalign(align, size);
-    return *place ? 0 : ENOMEM;
+    *memory = __libc_memalign(align, size);
+    return *memory ? 0 : ENOMEM;
 }
 
-/* Goes from one part to the next where these bytes are the mark that begins or ends the counted part. */
+/* Enters the next part if these bytes are the mark that begins or ends the counted part. */
 static void see_mark(const void *bytes, size_t length) {
     if (part == BEFORE && length == 6 && !memcmp(bytes, "[call\n", 6)) part = INSIDE;
-    else if (part == INSIDE && length == 6 && !memcmp(bytes, "[done\n", 6)) part = BEHIND;
+    else if (part == INSIDE && length == 6 && !memcmp(bytes, "[done\n", 6)) part = AFTER;
 }
 
 ssize_t write(int file, const void *bytes, size_t length) {

@@ -4,8 +4,13 @@ pub mod NumberedKeysAreReadBack
 pub mod KeysAreDistinct
 pub mod FirstFaultAndLastExtract
 pub mod ClashesByUses
+pub mod BasesAreKept
+pub mod KeysThatCanClashAreEnough
 pub mod UsesAreCounted
 pub mod OneMoreAssignedKey
 pub mod KeysAreAssigned
 pub mod DefinitionsAreCounted
 pub mod FirstFaultIsFound
+pub mod UsesArePassed
+pub mod UseIsFound
+pub mod ClashIsLocated

@@ -3,6 +3,9 @@ pub mod EventsOnStack
 pub mod TextIsWritten
 pub mod FaultsOfTrees
 pub mod WorkedPatterns
+pub mod ItemsStandAtPieces
 pub mod FirstFaultIsLocated
+pub mod ByteIsInPiece
+pub mod ByteIsLocated
 pub mod FaultInPlaceOfOpen
 pub mod CompileResults

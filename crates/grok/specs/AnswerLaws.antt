@@ -33,12 +33,12 @@ abbrev pub OtherNamesMeanThemselves : Type 0
 OtherNamesMeanThemselves = (keys : List (List ℕ)) (name : List ℕ)
     → ((number : ℕ) → number < length keys → name ≢ generated number) → meant_key keys name ≡ name
 
--- The name of this group means this key.
+-- The group `group` has a name, and that name means the key `key`.
 abbrev pub NameMeans : List (List ℕ) → List (Option (List ℕ)) → List ℕ → ℕ → Type 0
 NameMeans keys names key group = (name : List ℕ) × (slice_get names group ≡ Some (Some name))
     × (meant_key keys name ≡ key)
 
--- The group of a key is the greatest whose name means it. If a key has no group, no name means it.
+-- The group of a key is the greatest group whose name means the key. If a key has no group, no name means the key.
 abbrev pub GroupsAreTheGreatest : Type 0
 GroupsAreTheGreatest = (keys : List (List ℕ)) (names : List (Option (List ℕ))) (key : List ℕ)
     → MatchOption (group_of keys names key)

@@ -22,7 +22,7 @@ pattern_code {E} engine =
     (coded× engine (coded× (coded_list (coded× (coded_list coded_ℕ) coded_ℕ)) texts_code))
     (λ p. (p.engine, (p.keys, p.extracts))) (λ t. record { engine = t.0; keys = t.1.0; extracts = t.1.1 }) (λ _. refl)
 
--- the texts of a map, by their keys
+-- the map that has these entries, as contracts see it: each key with its text
 abbrev pub extract_texts : {A : Type 0} → List (String A × String A) → Texts
 extract_texts entries = finite.from_entries (map (λ entry.
     (string_bytes entry.0, string_bytes entry.1)) entries)
@@ -35,7 +35,7 @@ pub record MatchesValue (E : Type 0) : Type 0 where
   -- the text of each group that took part, from group 0 on
   pub captures : List (Option (List ℕ))
 
--- how a match's value is coded
+-- How a match's value is coded, which contracts with a generic engine need.
 abbrev pub matches_code : {E : Type 0} → Coded E → Coded (MatchesValue E)
 matches_code {E} engine =
     code_by (PatternValue E × List (Option (List ℕ))) (coded× (pattern_code engine)
@@ -52,7 +52,7 @@ capture_at captures group = slice_index_or captures group None
 abbrev pub answer_of : Entries → List (Option (List ℕ)) → List ℕ → Option (List ℕ)
 answer_of table captures key = option_and_then (capture_at captures) (group_in table key)
 
--- an entry of the table as a key with its text, if its group took part
+-- the key of an entry of the table, with the text that the entry's group captured, if that group took part
 abbrev pub pair_of : List (Option (List ℕ)) → List ℕ × ℕ → Option (List ℕ × List ℕ)
 pair_of captures entry = option_map (λ text. (entry.0, text)) (capture_at captures entry.1)
 

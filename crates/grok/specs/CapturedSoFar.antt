@@ -26,10 +26,10 @@ extract_before [] key = None
 extract_before (label ∷ before) key = if bytes_eq (key_after before label) key
     && not (is_absent label.extract) then Some label.extract else extract_before before key
 
--- the first fault of events that come after these capturing placeholders
+-- the first fault of `events`, which come after the capturing placeholders `before`
 abbrev pub faults : Bool → List Label → List Event → Option TreeFault
 faults alias_only before events = first_fault_after alias_only before (taken_of before) events
 
--- these capturing placeholders, and in front of them those of the next events
+-- the capturing placeholders of `events`, the latest first, and after them the earlier ones, those of `before`
 abbrev pub after : Bool → List Label → List Event → List Label
 after alias_only before events = onto before (capturing alias_only events)

@@ -1,5 +1,5 @@
 -- The group names and captures of an engine, as texts.
-use Rattle.std.specs.Prelude.{◌≡◌, ℕ, ◌≤◌, List, Option, String, All, IfSome, map, length, option_map, string_bytes, slice_range}
+use Rattle.std.specs.Prelude.{◌≡◌, ℕ, ◌≤◌, List, Option, String, Vec, All, IfSome, map, length, option_map, string_bytes, slice_range}
 use Rattle.std.specs.Borrow.{Bor}
 
 -- the name of each group, from group 0 on
@@ -22,3 +22,15 @@ IsSliceOf line part = (start : ℕ) × (end : ℕ) × (start ≤ end) × (end �
 -- the text of each group that took part is the text of the line in some byte range
 abbrev pub AreSlicesOf : List ℕ → List (Option (List ℕ)) → Type 0
 AreSlicesOf line texts = All (λ text. IfSome text (IsSliceOf line)) texts
+
+-- the text of each group of a match that is returned as a list, if there is a match
+abbrev pub found_texts : {A : Type 0} → Option (Vec (Option (Bor (List ℕ))) A) → Option (List (Option (List ℕ)))
+found_texts found = option_map (λ captures. capture_texts captures.items) found
+
+-- THE MATCH IN A LINE, or that there is none: what the engine finds there. Each of its `count` groups is listed, and
+-- the text of a group that took part is a slice of the line.
+pub record IsMatchIn (line : List ℕ) (finds : List ℕ → Option (List (Option (List ℕ)))) (count : ℕ)
+    (found : Option (List (Option (List ℕ)))) : Type 0 where
+  pub answer : found ≡ finds line
+  pub all_groups : IfSome found (λ texts. length texts ≡ count)
+  pub slices : IfSome found (AreSlicesOf line)

@@ -15,19 +15,20 @@ use Rattle.grok.specs.declared.errors.error.Error.{Error}
 
 -- ---- errors of faults
 
--- A `GenericCompilationFailure` with this message. If the message isn't specified, it may be any.
+-- The error is a `GenericCompilationFailure` with the message `words`. If `words` is `None`, it may have any message.
 abbrev pub FailsWith : Option (List ℕ) → ErrorValue → Type 0
 FailsWith words (GenericCompilationFailure said) = IfSome words (λ known. said ≡ known)
 FailsWith words error = ⊥
 
--- This is the error for a structural fault. The message for a malformed placeholder is what Debug shows of its
--- fault.
+-- `error` is the error for this structural fault (a malformed placeholder, a missing definition, or nesting that is
+-- too deep). The message for a malformed placeholder is what Debug shows of its fault.
 abbrev pub IsFaultError : Fault → ErrorValue → Type 0
 IsFaultError (MalformedPiece fault) error = FailsWith (fault_words fault) error
 IsFaultError (Missing name) error = error ≡ DefinitionNotFound name
 IsFaultError TooDeep error = error ≡ RecursionTooDeep
 
--- This is the error for a fault. The message for a clash names the key: `Alias a[1] already exists`.
+-- `error` is the error for this fault: a structural fault, or a clash (two placeholders would get the same key). The
+-- message for a clash names the key: `Alias a[1] already exists`.
 abbrev pub IsErrorOf : TreeFault → ErrorValue → Type 0
 IsErrorOf (Structural fault) error = IsFaultError fault error
 IsErrorOf (Clash key) error = error ≡ GenericCompilationFailure (codes "Alias "
@@ -39,7 +40,7 @@ abbrev pub error_of_refusal : Refusal → List ℕ → ErrorValue
 error_of_refusal refusal.Memory text = Memory
 error_of_refusal refusal.Refused text = RegexCompilationFailed (codes "Regex compilation failed:\n" ++ text)
 
--- the tree has a fault, and this is the error for the first one
+-- the tree has a fault, and `error` is the error for the first one
 pub record IsFirstError (alias_only : Bool) (tree : List Event) (error : ErrorValue) : Type 0 where
   pub tree_fault : TreeFault
   pub first : first_fault alias_only tree ≡ Some tree_fault
@@ -47,8 +48,8 @@ pub record IsFirstError (alias_only : Bool) (tree : List Event) (error : ErrorVa
 
 -- ---- patterns
 
--- The engine was built from this text. The key table is the one for these keys and the engine's group names,
--- and the extracts are these.
+-- The engine of `pattern` was built from the text `source`. The key table of `pattern` (each key with its group) is
+-- the one for the keys `given` and the engine's group names, and `extract` returns the extract of each key.
 pub record IsBuilt {E : Type 0} (source_of : E → List ℕ) (group_names : E
     → List (Option (List ℕ))) (source : List ℕ) (given : List (List ℕ)) (extract : List ℕ
     → Option (List ℕ)) (pattern : PatternValue E) : Type 0 where
@@ -56,23 +57,24 @@ pub record IsBuilt {E : Type 0} (source_of : E → List ℕ) (group_names : E
   pub keys : IsKeyTable given (group_names pattern.engine) pattern.keys
   pub extracts : (key : List ℕ) → finite.get pattern.extracts key ≡ extract key
 
--- the engine may refuse the text, and this is the error for that refusal
+-- the engine may refuse the text, and the error is the one for that refusal
 pub data IsRefusal (may_refuse : List ℕ → Type 0) (text : List ℕ) : ErrorValue → Type 0 where
   Refused : may_refuse text → IsRefusal may_refuse text (error_of_refusal refusal.Refused text)
 
 -- ---- the result
 
--- what is compiled: a pattern with its tree, and whether only placeholders with an alias capture
+-- What is compiled: a pattern, its tree (what its placeholders stand for, as events in reading order), and
+-- whether only placeholders with an alias capture.
 pub record Expansion : Type 0 where
   pub alias_only : Bool
   pub pattern : List ℕ
   pub tree : List Event
 
--- a pattern with these definitions
+-- what is compiled for a pattern with the definitions `texts`
 abbrev pub expansion_of : Texts → Bool → List ℕ → Expansion
 expansion_of texts alias_only pattern = record { alias_only = alias_only; pattern = pattern; tree = tree (finite.get texts) pattern }
 
--- the text is not longer than the greatest `usize`
+-- the expanded text is not longer than the greatest `usize`
 abbrev pub Fits : Expansion → Type 0
 Fits e = length (expanded e.alias_only e.tree) < 2 ^ 64
 

@@ -13,7 +13,8 @@ event_view (event.Open label meaning) = tree.Open (label_view label) (meaning_vi
 event_view event.Close = tree.Close
 event_view (event.Fault fault) = tree.FaultEvent (fault_view fault)
 
--- the events inside the placeholder that was read last, if it isn't entered yet, and otherwise none
+-- The events that follow the open of the placeholder that was read last, if its definition isn't entered yet. If
+-- there is no such placeholder (`None`), there are no such events.
 abbrev pub entered_events : (List ℕ → List Item) → ℕ → Option Meaning → List tree.Event
 entered_events items levels_left None = []
 entered_events items levels_left (Some meaning) = inside items levels_left (meaning_text meaning)

@@ -16,7 +16,7 @@ text_after alias_only count (Open label meaning ∷ events) =
     then named_head count ++ text_after alias_only (suc count) events
     else unnamed_head ++ text_after alias_only count events
 
--- the expanded text of a clean tree
+-- the expanded text of a clean tree (one without a structural fault)
 abbrev pub expanded : Bool → List Event → List ℕ
 expanded alias_only tree = text_after alias_only 0 tree
 

@@ -19,8 +19,8 @@ abbrev pub end_of_all : List ℕ → ℕ → List Piece → ℕ
 end_of_all text from [] = from
 end_of_all text from (piece ∷ pieces) = end_of_all text (end_of text piece) pieces
 
--- At this byte range the text has a piece, and its item is this one. `before` has the items of the pieces
--- before it.
+-- The text has a piece at the byte range from `from` to `to`, and `item` is the item of that piece (the piece with
+-- its placeholder resolved to its definition). `before` has the items of the pieces before it.
 pub record StandsAt (stored : Definitions) (text : List ℕ) (before : List Item) (from to : ℕ)
     (item : Item) : Type 0 where
   pub pieces_before : List Piece
@@ -35,7 +35,7 @@ pub record StandsAt (stored : Definitions) (text : List ℕ) (before : List Item
 
 -- ---- faults
 
--- the first fault of items and of their definitions, if this many levels are left
+-- the first structural fault of `items` and of the definitions that they stand for, if `levels` levels are left
 abbrev pub fault_within : Definitions → ℕ → List Item → Option Fault
 fault_within stored levels items = first_structural (events (inside (items_of stored) levels) items)
 
@@ -45,11 +45,11 @@ pub data IsOwnFault : ℕ → Item → Fault → Type 0 where
   Broken : (levels : ℕ) (fault : Fault) → IsOwnFault levels (FaultItem fault) fault
   Deep : (label : Label) (meaning : Meaning) → IsOwnFault zero (PlaceholderItem label meaning) TooDeep
 
--- WHERE A TEXT'S FIRST FAULT STANDS, if this many levels are left in the text. `path` leads from the text to
--- the text `faulty`, which has the fault at this byte range, and no piece before it has a fault. There are two
--- cases. Either the faulty piece is one of the text itself. Or it is inside a placeholder of the text: then the
--- path begins with the name of that placeholder, and its rest leads from the definition of that name to the
--- fault.
+-- WHERE A TEXT'S FIRST FAULT STANDS, if `levels` levels are left in the text. `path` leads from `text` to the text
+-- `faulty`, whose piece at the byte range from `from` to `to` has the fault, and no piece before it has a fault.
+-- There are two cases. Either the faulty piece is one of `text` itself. Or it is inside a placeholder of `text`:
+-- then the path begins with the name of that placeholder, and its rest leads from the definition of that name to
+-- the faulty piece.
 pub data IsFaultAt (stored : Definitions) : (levels : ℕ) (text : List ℕ) (path : List (List ℕ))
     (faulty : List ℕ) (from to : ℕ) (fault : Fault) → Type 0 where
   Here : (levels : ℕ) (text : List ℕ) (before : List Item) (from to : ℕ) (item : Item) (fault : Fault)

@@ -4,8 +4,8 @@ use Rattle.std.specs.Prelude.{◌≡◌, ℕ, Bool, true, false, List, [], ◌�
 use Rattle.grok.specs.Tree.{is_absent, Label, Meaning, Fault, Event, Open, FaultEvent}
 use Rattle.grok.specs.Keys.{is_capturing, capturing, key_after, keys, TreeFault, Structural, Clash, is_among, first_fault, extract_of}
 
--- This event is a fault after the events before it: it is a structural fault, or a capturing placeholder that
--- would get the key of an earlier one.
+-- The event is a fault if it comes after the events `before`: it is a structural fault, or it opens a capturing
+-- placeholder that would get the key of an earlier one.
 pub data IsFaultAfter (alias_only : Bool) (before : List Event) : Event → TreeFault → Type 0 where
   Breaks : (fault : Fault) → IsFaultAfter alias_only before (FaultEvent fault) (Structural fault)
   Meets : (label : Label) (meaning : Meaning) → is_capturing alias_only label ≡ true
@@ -28,7 +28,8 @@ pub record HasFirstFault (alias_only : Bool) (events : List Event) (tree_fault :
   pub none : HasNoFault alias_only before
   pub is : IsFaultAfter alias_only before event tree_fault
 
--- `first_fault` finds exactly the fault that is described above
+-- `first_fault` returns `Some` with a fault exactly if that is the first fault of the tree (`HasFirstFault`), and
+-- `None` exactly if no event of the tree is a fault (`HasNoFault`).
 pub record FindsFirstFault (alias_only : Bool) (tree : List Event) : Type 0 where
   pub some : (tree_fault : TreeFault) → first_fault alias_only tree ≡ Some tree_fault
       → HasFirstFault alias_only tree tree_fault
@@ -37,13 +38,13 @@ pub record FindsFirstFault (alias_only : Bool) (tree : List Event) : Type 0 wher
   pub none : first_fault alias_only tree ≡ None → HasNoFault alias_only tree
   pub clean : HasNoFault alias_only tree → first_fault alias_only tree ≡ None
 
--- THE LAW: this holds of every tree.
+-- THE LAW: in every tree, `first_fault` finds the first fault.
 abbrev pub FirstFaultIsFirst : Type 0
 FirstFaultIsFirst = (alias_only : Bool) (tree : List Event) → FindsFirstFault alias_only tree
 
 -- ---- extracts
 
--- none of these capturing placeholders, which come after the earlier ones, has this key and an extract
+-- none of the capturing placeholders `labels`, which come after those of `earlier`, has this key and an extract
 abbrev pub HasNoExtract : List Label → List Label → List ℕ → Type 0
 HasNoExtract earlier labels key =
     (before : List Label) (label : Label) (after : List Label)
@@ -62,7 +63,8 @@ pub record HasLastExtract (labels : List Label) (key : List ℕ) (extract : List
   pub some : is_absent extract ≡ false
   pub last : HasNoExtract (before ++ label ∷ []) after key
 
--- `extract_of` finds exactly the extract that is described above
+-- `extract_of` returns `Some` with an extract exactly if that is the last extract of the key (`HasLastExtract`), and
+-- `None` exactly if no capturing placeholder has the key and an extract (`HasNoExtract`).
 pub record FindsLastExtract (alias_only : Bool) (tree : List Event) (key : List ℕ) : Type 0 where
   pub some : (extract : List ℕ) → extract_of alias_only tree key ≡ Some extract
       → HasLastExtract (capturing alias_only tree) key extract
@@ -71,6 +73,6 @@ pub record FindsLastExtract (alias_only : Bool) (tree : List Event) (key : List 
   pub none : extract_of alias_only tree key ≡ None → HasNoExtract [] (capturing alias_only tree) key
   pub nothing : HasNoExtract [] (capturing alias_only tree) key → extract_of alias_only tree key ≡ None
 
--- THE LAW: this holds of every tree and key.
+-- THE LAW: for every tree and key, `extract_of` finds the last extract.
 abbrev pub ExtractIsLast : Type 0
 ExtractIsLast = (alias_only : Bool) (tree : List Event) (key : List ℕ) → FindsLastExtract alias_only tree key

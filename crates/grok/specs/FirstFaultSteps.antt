@@ -1,64 +1,83 @@
 -- What is counted on the way to the first fault, and what each step does.
-use Rattle.std.specs.Prelude.{◌≡◌, ℕ, ◌-◌, ◌<◌, List, [], ◌∷◌, ◌++◌, Bool, true, false, Option, Some, None, MatchOption}
+use Rattle.std.specs.Prelude.{◌≡◌, ℕ, suc, ◌-◌, ◌<◌, ◌^◌, List, [], ◌∷◌, ◌++◌, Bool, true, false, Option, Some, None, MatchOption}
 use Rattle.std.specs.Global.{Global}
+use Rattle.std.specs.String.{string_bytes}
 use Rattle.std.specs.declared.string.String.{String}
 use Rattle.grok.specs.Tree.{Label, Meaning, meaning_text, Item, PlaceholderItem, Event, Open, events}
-use Rattle.grok.specs.Keys.{key_after, how_often, is_among}
+use Rattle.grok.specs.Keys.{TreeFault, numbered, key_after, how_often, is_among}
 use Rattle.grok.specs.CapturedSoFar.{taken_of, faults, after}
 use Rattle.grok.specs.KeyUses.{CountsUses, IsFree}
+use Rattle.grok.specs.NumberedBases.{only_clashing}
 use Rattle.grok.specs.Tallied.{resolve, opened_events}
 use Rattle.grok.specs.Walks.{tree_fault_view, Clashes}
+use Rattle.grok.specs.declared.errors.fault.TreeFault.{TreeFault as CodeFault}
+use Rattle.grok.specs.declared.errors.fault.TreeFault.TheVariants as fault
 use Rattle.grok.specs.declared.expand.key_uses.KeyUses.{KeyUses}
 use Rattle.grok.specs.declared.expand.tallies.CompileMode.{CompileMode}
 use Rattle.grok.specs.declared.expand.first_fault.ItemStep.{ItemStep}
 use Rattle.grok.specs.declared.expand.first_fault.ItemStep.TheVariants.{Skip, Enter, Report}
 
--- These counts are right for the capturing placeholders read so far, and no two of those share a key.
+-- `total` counts how often each base key (the key before its number is added) is used by the placeholders `before`,
+-- which are those read so far that can clash. No two of them have the same key.
 pub record IsCountOf (total : KeyUses) (before : List Label) : Type 0 where
   pub counts : CountsUses total (how_often before)
   pub free : IsFree (how_often before)
 
--- one more capturing placeholder, whose key no earlier one has
+-- No placeholder in `before` has the key that the next one, with the label `label`, gets. `total` counts that one
+-- too.
 pub record CountedUse (before : List Label) (label : Label) (total : KeyUses) : Type 0 where
   pub free : is_among (key_after before label) (taken_of before) ≡ false
   pub keeps : IsCountOf total (label ∷ before)
 
--- one more capturing placeholder is counted, or its key is returned because an earlier one has it
+-- If `clash` is `None`, one more placeholder was counted, with the label `label`. Otherwise `clash` is its key, which
+-- a placeholder in `before` already has.
 abbrev pub CountsUse : List Label → Label → KeyUses → Option (String Global) → Type 0
 CountsUse before label total clash = MatchOption clash (CountedUse before label total)
     (λ key. Clashes before label key)
 
--- none of these events is a fault, and the capturing placeholders among them were counted
-pub record HaveCounted (alias_only : Bool) (before : List Label) (es : List Event)
-    (total : KeyUses) : Type 0 where
-  pub none : faults alias_only before es ≡ None
-  pub keeps : IsCountOf total (after alias_only before es)
+-- The first fault of the events `es`, which come after the counted placeholders `before`. Of the placeholders in
+-- `es`, only those are read that can clash.
+abbrev pub counted_fault : CompileMode → List Label → List Event → Option TreeFault
+counted_fault mode before es = faults mode.with_alias_only before (only_clashing mode.numbered.now es)
 
--- the events of items in a text, if this many levels are allowed, that of the text among them
+-- the placeholders in `es` that are counted, the latest first, and after them the earlier ones, those of `before`
+abbrev pub counted_after : CompileMode → List Label → List Event → List Label
+counted_after mode before es = after mode.with_alias_only before (only_clashing mode.numbered.now es)
+
+-- None of the events `es`, which come after the placeholders `before`, is a fault. `total` counts the placeholders in
+-- `before` and those in `es` that can clash.
+pub record HaveCounted (mode : CompileMode) (before : List Label) (es : List Event) (total : KeyUses) : Type 0 where
+  pub none : counted_fault mode before es ≡ None
+  pub keeps : IsCountOf total (counted_after mode before es)
+
+-- the events of items of a definition, if `levels` levels are allowed, its own among them
 abbrev pub events_inside : CompileMode → ℕ → List Item → List Event
 events_inside mode levels = events (opened_events mode (levels - 1))
 
--- the items of a text were skipped, since they were counted at once, or nothing was counted
+-- Whether the items of a definition were skipped because they were counted at once. If they were (`true`), `new`
+-- counts them too. If not (`false`), `new` counts the placeholders `before` alone.
 abbrev pub SkipsCounted : CompileMode → List Item → ℕ → List Label → KeyUses → KeyUses → Bool → Type 0
-SkipsCounted mode items levels before old new true = HaveCounted mode.with_alias_only before (events_inside mode levels items) new
+SkipsCounted mode items levels before old new true = HaveCounted mode before (events_inside mode levels items) new
 SkipsCounted mode items levels before old new false = IsCountOf new before
 
--- the text is entered, since a level is left, and the items before the remaining ones have no fault
+-- The definition `text` is entered, since a level is left. `items` are its items that remain to be read. Those before
+-- them have no fault and were counted.
 pub record EntersText (mode : CompileMode) (levels : ℕ) (text : List ℕ) (items : List Item) (before : List Label)
     (total : KeyUses) : Type 0 where
   pub room : 0 < levels
   pub front : List Item
   pub cut : resolve mode text ≡ front ++ items
-  pub passed : HaveCounted mode.with_alias_only before (events_inside mode levels front) total
+  pub passed : HaveCounted mode before (events_inside mode levels front) total
 
 -- one step at the text of a placeholder: skip it, enter it, or report its first fault
 abbrev pub StepsAtText : CompileMode → ℕ → List ℕ → List Label → KeyUses → ItemStep → Type 0
-StepsAtText mode levels text before total Skip = HaveCounted mode.with_alias_only before (opened_events mode levels text) total
+StepsAtText mode levels text before total Skip = HaveCounted mode before (opened_events mode levels text) total
 StepsAtText mode levels text before total (Enter items) = EntersText mode levels text items before total
 StepsAtText mode levels text before total (Report tree_fault) =
-    faults mode.with_alias_only before (opened_events mode levels text) ≡ Some (tree_fault_view tree_fault)
+    counted_fault mode before (opened_events mode levels text) ≡ Some (tree_fault_view tree_fault)
 
--- the item is a placeholder, its text is entered, and neither it nor the items before the remaining ones have a fault
+-- The item is a placeholder, and its definition is entered. `items` are the items of the definition that remain to
+-- be read. Neither the placeholder nor the items before those have a fault, and they were counted.
 pub record EntersPlaceholder (mode : CompileMode) (levels : ℕ) (item : Item) (items : List Item) (before : List Label)
     (total : KeyUses) : Type 0 where
   pub label : Label
@@ -67,13 +86,33 @@ pub record EntersPlaceholder (mode : CompileMode) (levels : ℕ) (item : Item) (
   pub room : 0 < levels
   pub front : List Item
   pub cut : resolve mode (meaning_text meaning) ≡ front ++ items
-  pub passed : HaveCounted mode.with_alias_only before (Open label meaning ∷ events_inside mode levels front) total
+  pub passed : HaveCounted mode before (Open label meaning ∷ events_inside mode levels front) total
 
 -- one step at an item: skip it with its definition, enter the definition, or report the first fault
 abbrev pub StepsAtItem : CompileMode → ℕ → Item → List Label → KeyUses → ItemStep → Type 0
 StepsAtItem mode levels item before total Skip =
-    HaveCounted mode.with_alias_only before (events (opened_events mode levels) (item ∷ [])) total
+    HaveCounted mode before (events (opened_events mode levels) (item ∷ [])) total
 StepsAtItem mode levels item before total (Enter items) = EntersPlaceholder mode levels item items before total
 StepsAtItem mode levels item before total (Report tree_fault) =
-    faults mode.with_alias_only before (events (opened_events mode levels) (item ∷ []))
+    counted_fault mode before (events (opened_events mode levels) (item ∷ []))
     ≡ Some (tree_fault_view tree_fault)
+
+-- ---- the number of a clash
+
+-- the key is a base key, and after it a number from 1 up that fits a `usize`
+pub record HasFittingNumber (key : List ℕ) : Type 0 where
+  pub base : List ℕ
+  pub count : ℕ
+  pub fits : suc count < 2 ^ 64
+  pub is : key ≡ numbered base (suc count)
+
+-- if the fault is a clash, the number of its key fits a `usize`
+abbrev pub IsCountableFault : CodeFault → Type 0
+IsCountableFault (fault.Structural structural) = Unit {0}
+IsCountableFault (fault.Clash key) = HasFittingNumber (string_bytes key)
+
+-- the same of the fault that a step reports
+abbrev pub ReportsCountable : ItemStep → Type 0
+ReportsCountable Skip = Unit {0}
+ReportsCountable (Enter items) = Unit {0}
+ReportsCountable (Report tree_fault) = IsCountableFault tree_fault

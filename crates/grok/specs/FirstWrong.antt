@@ -13,8 +13,8 @@ abbrev pub fault_in : Result Size Fault → Option Fault
 fault_in (Ok size) = None
 fault_in (Err fault) = Some fault
 
--- What is true of every item of a text: an inline definition has no fault if a level is left for it, and a
--- stored definition is the one of the placeholder's name.
+-- What is true of every item of a text (a piece with its placeholder resolved to its definition): an inline
+-- definition has no fault if a level is left for it, and a stored definition is the one of the placeholder's name.
 abbrev pub IsResolvedItem : Definitions → Item → Type 0
 IsResolvedItem stored (TextItem text) = Unit {0}
 IsResolvedItem stored (FaultItem fault) = Unit {0}
@@ -32,12 +32,13 @@ pub record IsFaultInside (stored : Definitions) (levels : ℕ) (item : Item)
   pub stored_is : stored name ≡ Some definition
   pub faulty : first_structural (inside (items_of stored) levels definition) ≡ None → ⊥
 
--- this is what is wrong with the item
+-- what is wrong with the item: a fault of its own (`Here`), or one in the stored definition of its name (`Inside`)
 abbrev pub IsWrong : Definitions → ℕ → Item → Wrong → Type 0
 IsWrong stored levels item (wrong.Here fault) = IsOwnFault levels item (fault_view fault)
 IsWrong stored levels item (wrong.Inside name definition) = IsFaultInside stored levels item name.now definition.now
 
--- The text has a piece with a fault at this byte range, and no piece before it has a fault.
+-- The piece of the text at the byte range `first.range` has the fault that `first.wrong` describes, and no piece
+-- before it has a fault, if `levels` levels are left.
 pub record IsFirstWrong (stored : Definitions) (levels : ℕ) (text : List ℕ) (first : FirstWrong) : Type 0 where
   pub before : List Item
   pub item : Item

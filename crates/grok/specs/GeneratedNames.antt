@@ -10,7 +10,7 @@ name_start = codes "_n_"
 abbrev pub generated : ℕ → List ℕ
 generated number = name_start ++ numeral number
 
--- the start of the group with that name, such as `(?<_n_0>`
+-- the start of the group with this number, which has a generated name, such as `(?<_n_0>`
 abbrev pub named_head : ℕ → List ℕ
 named_head number = codes "(?<" ++ generated number ++ codes ">"
 

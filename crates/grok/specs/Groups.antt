@@ -10,7 +10,7 @@ use Rattle.grok.specs.declared.matches.groups.GroupTexts.TheVariants as variant
 abbrev pub texts_in_line : Located → List (Option (List ℕ))
 texts_in_line located = located_texts located.line.now located.locations.now
 
--- the same, however the texts of the groups are kept
+-- the text of each group that took part, from group 0 on, whether a list of texts is kept or their ranges in the line
 abbrev pub group_texts : GroupTexts → List (Option (List ℕ))
 group_texts (variant.Listed captures) = capture_texts captures.now
 group_texts (variant.Located located) = texts_in_line located

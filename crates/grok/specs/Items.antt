@@ -1,5 +1,5 @@
 -- What contracts see of the items of a text.
-use Rattle.std.specs.Prelude.{ℕ, List}
+use Rattle.std.specs.Prelude.{ℕ, List, ◌∷◌, Option, Some, None}
 use Rattle.std.specs.Option.{option_map}
 use Rattle.std.specs.Ordering.{nat_cmp}
 use Rattle.std.specs.Cmp.Lexicographic.{slice_cmp}
@@ -35,7 +35,12 @@ item_view (item.Text text) = tree.TextItem text.now
 item_view (item.Fault f) = tree.FaultItem (fault_view f)
 item_view (item.Placeholder label m) = tree.PlaceholderItem (label_view label) (meaning_view m)
 
--- the inline definitions that a map from names to texts has
+-- the items `items`, and in front of them the item `known` if there is one
+abbrev pub known_first : Option Item → List tree.Item → List tree.Item
+known_first None items = items
+known_first (Some known) items = item_view known ∷ items
+
+-- the inline definitions that a map from names to texts has, as a function from names
 abbrev pub written_in : BTreeMap (Bor (List ℕ)) (Bor (List ℕ)) → tree.Definitions
 written_in written name = option_map (λ (text : Bor (List ℕ)). text.now)
     (get_by (λ (key : Bor (List ℕ)). slice_cmp nat_cmp name key.now) written)

@@ -14,7 +14,7 @@ use Rattle.grok.specs.declared.key_table.KeyRange.{KeyRange}
 abbrev pub key_at : List ℕ → KeyRange → List ℕ
 key_at text range = take (range.end - range.start) (drop range.start text)
 
--- the key in this range of the text, or the empty text if there is no such range
+-- the key in this range of the text, or the empty text if the text has no such range
 abbrev pub key_or_none : List ℕ → KeyRange → List ℕ
 key_or_none text range = if nat_le range.start range.end && nat_le range.end (length text)
     then key_at text range else []
@@ -29,7 +29,7 @@ pub record IsKeyRange (text : List ℕ) (range : KeyRange) : Type 0 where
   pub from : IsCharBoundary text range.start
   pub to : IsCharBoundary text range.end
 
--- Each range is one of the text. The keys are in byte order, each once.
+-- Each range begins and ends at character boundaries of the text. The keys are in byte order, each once.
 pub record IsTable (text : List ℕ) (ranges : List KeyRange) : Type 0 where
   pub within : AllByRecursion (IsKeyRange text) ranges
   pub sorted : IsStrictlySortedBy (slice_cmp nat_cmp) (keys_of (entries_at text ranges))
@@ -38,7 +38,8 @@ pub record IsTable (text : List ℕ) (ranges : List KeyRange) : Type 0 where
 abbrev pub entry_of : Bor (List ℕ) × ℕ → List ℕ × ℕ
 entry_of e = (e.0.now, e.1)
 
--- A key was appended to the text, and its range with its group to the ranges.
+-- The key `key` with its group was appended to the keys that `text` and `ranges` hold, which gave `text'` and
+-- `ranges'`.
 pub record IsExtended (text : List ℕ) (ranges : List KeyRange) (key : List ℕ) (group : ℕ) (text' : List ℕ)
     (ranges' : List KeyRange) : Type 0 where
   pub within : AllByRecursion (IsKeyRange text) ranges → AllByRecursion (IsKeyRange text') ranges'

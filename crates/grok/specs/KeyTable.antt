@@ -16,13 +16,14 @@ meant_from number [] name = name
 meant_from number (key ∷ keys) name = if bytes_eq name (generated number) then key
     else meant_from (suc number) keys name
 
--- the same, where the first of the keys has number 0
+-- The key that a group's name means: the key of number k if the name is `_n_k`, and otherwise the name itself. The
+-- first of `keys` has number 0.
 abbrev pub meant_key : List (List ℕ) → List ℕ → List ℕ
 meant_key keys name = meant_from 0 keys name
 
 -- ---- groups
 
--- The groups whose name means the key, in rising order. The first of the names is that of `group`.
+-- The groups whose name means the key, in rising order. `names` has the names of the groups from `group` on.
 abbrev pub groups_from : List (List ℕ) → List ℕ → ℕ → List (Option (List ℕ)) → List ℕ
 groups_from keys key group [] = []
 groups_from keys key group (None ∷ names) = groups_from keys key (suc group) names
@@ -34,7 +35,7 @@ abbrev pub last_or : Option ℕ → List ℕ → Option ℕ
 last_or found [] = found
 last_or found (group ∷ groups) = last_or (Some group) groups
 
--- the group of a key: the greatest one whose name means the key
+-- the group of a key: the last one whose name means the key
 abbrev pub group_of : List (List ℕ) → List (Option (List ℕ)) → List ℕ → Option ℕ
 group_of keys names key = last_or None (groups_from keys key 0 names)
 

@@ -11,12 +11,13 @@ use Rattle.grok.specs.declared.expand.key_uses.KeyUses.{KeyUses}
 
 -- ---- clashes, without an order of the placeholders
 
--- The base key may be used this often: none of the numbered keys that it gives then is the base key of a placeholder.
--- If `x[1]` is used, `x` may be used once: its second use would get the key `x[1]`.
+-- The base key `key` (the key before its number is added) may be used `times` times: none of the numbered keys that
+-- it gives then is the base key of a placeholder. If `x[1]` is used, `x` may be used once: its second use would get
+-- the key `x[1]`.
 abbrev pub MayBeUsed : (List ℕ → ℕ) → List ℕ → ℕ → Type 0
 MayBeUsed uses key times = (count : ℕ) → 0 < uses (numbered key (suc count)) → times ≤ suc count
 
--- each base key may be used as often as it is, so no two keys clash
+-- each base key may be used as often as it is used, so no two keys clash
 abbrev pub IsFree : (List ℕ → ℕ) → Type 0
 IsFree uses = (key : List ℕ) → MayBeUsed uses key (uses key)
 
@@ -35,18 +36,18 @@ no_count = record { times = 0; most = 2 ^ 64 - 1 }
 abbrev pub count_of : BTreeMap (Bor (List ℕ)) UseCount → List ℕ → UseCount
 count_of counts key = unwrap_or (get_by (λ (k : Bor (List ℕ)). slice_cmp nat_cmp key k.now) counts) no_count
 
--- two counts of a base key together
+-- two counts of a base key together: how often it is used is added up, and how often it may be is the lesser of both
 abbrev pub summed : UseCount → UseCount → UseCount
 summed more count = record { times = more.times + count.times; most = min more.most count.most }
 
--- the counts after are those before, with one more count of this base key
+-- the counts `after` are the counts `before`, with the count `more` added to that of the base key `key`
 abbrev pub AddsUses : List ℕ → UseCount → KeyUses → KeyUses → Type 0
 AddsUses key more before after = (other : List ℕ) → count_of after.counts other ≡
     (if bytes_eq key other then summed more (count_of before.counts other)
     else count_of before.counts other)
 
--- The counts hold how often each base key is used, and how often it may be used without a clash, as far as these
--- numbers fit a `usize`.
+-- The counts hold how often each base key (the key before its number is added) is used, which fits a `usize`. They
+-- also hold how often it may be used without a clash, or the greatest `usize` if that is less.
 pub record CountsUses (counts : KeyUses) (uses : List ℕ → ℕ) : Type 0 where
   pub times : (key : List ℕ) → (count_of counts.counts key).times ≡ uses key
   pub fits : (key : List ℕ) → uses key < 2 ^ 64

@@ -9,7 +9,7 @@ use Rattle.grok.specs.Tree.{Definitions, is_absent, Label, Event, Text, Open, Cl
 
 -- ---- capturing placeholders
 
--- in alias-only mode a placeholder without an alias does not capture
+-- whether a placeholder captures: each one does, except those without an alias in alias-only mode
 abbrev pub is_capturing : Bool → Label → Bool
 is_capturing alias_only label = not (alias_only && is_absent label.alias)
 
@@ -37,7 +37,7 @@ abbrev pub numbered : List ℕ → ℕ → List ℕ
 numbered key zero = key
 numbered key (suc count) = key ++ codes "[" ++ numeral (suc count) ++ codes "]"
 
--- the key of a capturing placeholder after these others
+-- the key of a capturing placeholder that comes after the capturing placeholders `before`
 abbrev pub key_after : List Label → Label → List ℕ
 key_after before label = numbered (base_key label) (how_often before (base_key label))
 
@@ -98,12 +98,12 @@ extract_of alias_only tree key = extract_after [] key (capturing alias_only tree
 
 -- ---- which placeholders can clash
 
--- whether a key is digits and then a `]` at its end
+-- whether a text is any number of digits, perhaps none, and then a `]` at its end
 abbrev pub ends_digits : List ℕ → Bool
 ends_digits [] = false
 ends_digits (c ∷ cs) = if c == close_bracket then is_absent cs else is_ascii_digit c && ends_digits cs
 
--- whether a key is a decimal number from 1 up and then a `]` at its end
+-- whether a text is a decimal number from 1 up and then a `]` at its end
 abbrev pub ends_number : List ℕ → Bool
 ends_number [] = false
 ends_number (c ∷ cs) = not (c == digit_zero) && (is_ascii_digit c && ends_digits cs)
@@ -114,7 +114,7 @@ abbrev pub ends_in_number : List ℕ → Bool
 ends_in_number [] = false
 ends_in_number (c ∷ cs) = (c == open_bracket && ends_number cs) || ends_in_number cs
 
--- whether one of these events opens a placeholder whose alias ends so
+-- whether one of these events opens a placeholder whose alias ends in a number in brackets, as `x[1]` does
 abbrev pub has_numbered_alias : List Event → Bool
 has_numbered_alias [] = false
 has_numbered_alias (Text text ∷ events) = has_numbered_alias events

@@ -33,6 +33,7 @@ pub mod Events
 pub mod Errors
 pub mod CapturedSoFar
 pub mod FirstFault
+pub mod NumberedBases
 pub mod KeyUses
 pub mod Tallied
 pub mod Walks
@@ -49,8 +50,12 @@ pub mod MeasureCache
 pub mod CountedMeasures
 pub mod FaultPlaces
 pub mod FirstWrong
+pub mod ByteLocations
+pub mod ByteSteps
+pub mod ClashLocations
+pub mod UseSteps
 pub mod TreeLaws
--- THE WORDS FOR CALLERS: every word that a contract of a public call uses.
+-- THE WORDS FOR CALLERS: every definition that a contract of a public call uses.
 -- pieces
 pub use Rattle.grok.specs.Pieces.{Piece, Regular, Placeholder, Malformed, Parts, pieces}
 pub use Rattle.grok.specs.Grammar.{ArePieces}
@@ -68,6 +73,11 @@ pub use Rattle.grok.specs.MeasureCache.{measure_view}
 pub use Rattle.grok.specs.CountedMeasures.{IsCountedMeasure}
 -- where the first structural fault stands
 pub use Rattle.grok.specs.FaultPlaces.{IsFaultAt, path_view}
+-- which piece writes a byte of the expanded text
+pub use Rattle.grok.specs.ByteLocations.{HasByte, IsByteLocation, LocatesByte}
+-- where the two placeholders of a clash stand
+pub use Rattle.grok.specs.ByteLocations.{IsEventAt}
+pub use Rattle.grok.specs.ClashLocations.{HasKeyAt, IsClashAt, IsFirstClash}
 -- errors, and what compiling returns
 pub use Rattle.grok.specs.Items.{fault_view}
 pub use Rattle.grok.specs.Errors.{ErrorValue, error_value, error_text}
@@ -76,9 +86,9 @@ pub use Rattle.grok.specs.Compiled.{Expansion, expansion_of, Compiles, IsPattern
 pub use Rattle.grok.specs.Expansions.{IsExpansionError}
 pub use Rattle.grok.specs.Refusals.{IsRegexText, IsReasonFor, IsRefusalOf, IsExamined, Examines}
 -- engines
-pub use Rattle.grok.specs.Captures.{name_texts, text_of, capture_texts, IsSliceOf, AreSlicesOf}
+pub use Rattle.grok.specs.Captures.{name_texts, text_of, capture_texts, found_texts, IsSliceOf, AreSlicesOf, IsMatchIn}
 pub use Rattle.grok.specs.Engines.{engine_regex}
-pub use Rattle.grok.specs.RegexFinds.{IsReadByDefault, captures_in}
+pub use Rattle.grok.specs.RegexFinds.{IsReadByDefault, captures_in, captures_by}
 pub use Rattle.grok.specs.Locations.{AreLocationsIn, located_texts}
 pub use Rattle.regex.specs.Strings
 -- patterns and matches

@@ -8,11 +8,11 @@ pub record IsLocationIn (line : List ℕ) (location : ℕ × ℕ) : Type 0 where
   pub begins : IsCharBoundary line location.0
   pub ends : IsCharBoundary line location.1
 
--- each group that took part has a range of the line
+-- the range of each group that took part begins and ends at character boundaries of the line
 abbrev pub AreLocationsIn : List ℕ → List (Option (ℕ × ℕ)) → Type 0
 AreLocationsIn line locations = All (λ location. ForSome location (IsLocationIn line)) locations
 
--- the text in that range
+-- the text of the line in this range
 abbrev pub located_text : List ℕ → ℕ × ℕ → List ℕ
 located_text line location = slice_range line location.0 location.1
 

@@ -25,18 +25,19 @@ use Rattle.grok.specs.Items.{fault_view, label_view}
 use Rattle.grok.specs.Sizes.{Size, length_of, size_or_fault}
 use Rattle.grok.specs.MeasuredOnce as kept
 use Rattle.grok.specs.MeasuredOnce.{State, Reading, InProgress, HasSize, HasFault, NeedsMoreThan, known_result, failed_progress, by_progress, labelled, with_progress, with_reach, measure_within}
+use Rattle.grok.specs.NumberedBases.{is_base_in}
 use Rattle.grok.specs.Measured.{Measured, Faulty, Sized, TooLong, size_within, counted}
 
 -- the items of a text, resolved by these definitions
 abbrev pub items_in : Texts → List ℕ → List tree.Item
 items_in texts text = tree.items_of (finite.get texts) text
 
--- What is read for a pattern, up to the first fault: its items in order, and where a definition is used for the
--- first time, the items of that definition.
+-- What measuring a pattern remembers at its end, for example how many pieces it read. Up to the first fault, it reads
+-- the items of the pattern in order, and where a definition is used for the first time, the items of that definition.
 abbrev pub reading_of : Texts → Bool → List ℕ → State
 reading_of texts alias_only pattern = (measure_within tree.deepest alias_only (items_in texts) pattern).1
 
--- the number, or none if it doesn't fit a `usize`
+-- the number, or `None` if it doesn't fit a `usize`
 abbrev pub fit : ℕ → Option ℕ
 fit n = if nat_lt n (2 ^ 64) then Some n else None
 
@@ -68,11 +69,12 @@ progress_view (progress.HasSize sum) = HasSize sum
 progress_view (progress.HasFault failure) = HasFault (fault_view failure.fault) failure.height
 progress_view (progress.NeedsMoreThan levels) = NeedsMoreThan levels
 
--- the progress of a name, if it has one
+-- how far measuring the definition of a name has come, or `None` if it hasn't begun
 abbrev pub progress_of : BTreeMap (Bor (List ℕ)) Progress → List ℕ → Option Progress
 progress_of by_name name = get_by (λ (key : Bor (List ℕ)). slice_cmp nat_cmp name key.now) by_name
 
--- The definition was measured or is being measured, and won't be measured again, however many levels are left.
+-- Whether a definition with this progress was measured or is being measured, and won't be measured again, however
+-- many levels are left.
 abbrev pub is_kept : Option Progress → Bool
 is_kept None = false
 is_kept (Some progress.InProgress) = true
@@ -80,42 +82,44 @@ is_kept (Some (progress.HasSize sum)) = true
 is_kept (Some (progress.HasFault failure)) = true
 is_kept (Some (progress.NeedsMoreThan levels)) = false
 
--- the code's cache remembers what this state says
+-- the code's cache remembers the same as the state `st` of MeasuredOnce
 pub record ShowsState (cache : MeasureCache) (st : State) : Type 0 where
   pub by_name : (name : List ℕ) → option_map progress_view (progress_of cache.by_name name)
       ≡ option_map shown_progress (st.by_name name)
   pub pieces : cache.looks.pieces ≡ counted st.looks
   pub ends : cache.looks.ends ≡ counted st.ends
-  pub numbered_alias : cache.has_numbered_alias ≡ st.numbered_alias
+  pub numbered : (base : List ℕ) → is_base_in cache.numbered base ≡ st.numbered base
 
--- after a fault, its height is the nesting that the state has before the fault
+-- if `r` is a fault, its height is `st.reach`, how many levels were nested before it
 abbrev pub HasReach : Result PartialSize Failure → State → Type 0
 HasReach (Ok sum) st = Unit {0}
 HasReach (Err failure) st = st.reach ≡ failure.height
 
--- the code returns this size or fault, with this height
+-- The code returns `r`, which is the size or fault `given`. If it is a fault, its height is `st.reach`, how many
+-- levels were nested before it.
 pub record ReturnsSize (r : Result PartialSize Failure) (given : Result Size tree.Fault) (st : State) : Type 0 where
   pub same : result_view r ≡ shown_result given
   pub reach : HasReach r st
 
--- the code returns the result of this reading, and its cache holds the state after it
+-- the code returns `r`, the size or fault of the reading `answer`, and its cache remembers the state of that reading
 pub record ReturnsReading (r : Result PartialSize Failure) (cache : MeasureCache) (answer : Reading) : Type 0 where
   pub same : result_view r ≡ shown_result answer.0
   pub reach : HasReach r answer.1
   pub leaves : ShowsState cache answer.1
 
--- the code returns the result of this reading, which changes nothing but the height
+-- The code returns `r`, the size or fault of the reading `answer`. Of the state `st`, that reading changes only the
+-- nesting before the fault.
 pub record RemembersReading (r : Result PartialSize Failure) (st : State) (answer : Reading) : Type 0 where
   pub same : result_view r ≡ shown_result answer.0
   pub reach : HasReach r answer.1
   pub stays : answer.1 ≡ with_reach st answer.1.reach
 
--- with `levels` levels left, nothing that is remembered says the definition's size or fault
+-- the cache doesn't know the size or fault of the definition `name` with `levels` levels left
 abbrev pub IsUnknown : List ℕ → ℕ → MeasureCache → Type 0
 IsUnknown name levels cache = (st : State) → ShowsState cache st → (fresh : Reading)
     → by_progress (st.by_name name) levels st fresh ≡ fresh
 
--- the name has this progress, and every other name has what it had
+-- in the cache `after`, the name has this progress, and every other name has the progress that it has in `before`
 abbrev pub HasProgress : List ℕ → Progress → MeasureCache → MeasureCache → Type 0
 HasProgress name progress before after = (other : List ℕ) → progress_of after.by_name other
     ≡ (if bytes_eq name other then Some progress else progress_of before.by_name other)
@@ -140,21 +144,22 @@ pub record MustBeMeasured (levels : ℕ) (label : Label) (meaning : tree.Meaning
   pub shows : (st : State) → ShowsState before st → ShowsState after (with_progress
       (labelled (label_view label) st) label.name.now InProgress)
 
--- the size or fault of the placeholder is such, or the definition that has to be measured first is such
+-- If the size or fault of the placeholder is known, `Is` holds for it. Otherwise `Opens` holds for the definition
+-- that has to be measured first.
 abbrev pub MatchPlaceholderSize : PlaceholderSize → (Result PartialSize Failure → Type 0) → (List ℕ → Type 0) → Type 0
 MatchPlaceholderSize (entry.Measured r) Is Opens = Is r
 MatchPlaceholderSize (entry.Unread stored) Is Opens = Opens stored.now
 
--- if the size or fault of the placeholder is known, it is such
+-- if the size or fault of the placeholder is known, `Is` holds for it
 abbrev pub IfMeasured : PlaceholderSize → (Result PartialSize Failure → Type 0) → Type 0
 IfMeasured (entry.Measured r) Is = Is r
 IfMeasured (entry.Unread stored) Is = Unit {0}
 
 -- ---- from one pattern to the next
 
--- A fault also ends the texts that wait in frames, the innermost of which is the last. The fault is remembered
--- for the name of each frame. From frame to frame its height grows by one level, or to that of the text before
--- the placeholder.
+-- What is remembered after a fault has also ended the texts that wait in `frames`, the innermost of which is the
+-- last. The fault is remembered for the name of each frame, from the inside out. From frame to frame its height
+-- grows by one level, or to the height of the items before the frame's placeholder if that is greater.
 abbrev pub unwound : ℕ → List Frame → tree.Fault → State → State
 unwound levels [] fault st = st
 unwound levels (frame ∷ frames) fault st =
@@ -162,12 +167,14 @@ unwound levels (frame ∷ frames) fault st =
     with_reach (with_progress inner frame.name.now (failed_progress fault levels inner.reach))
     (max frame.sum.height (suc inner.reach))
 
--- in no frame the text before the placeholder is nested deeper than this
+-- in no frame the items before the placeholder are nested deeper than `most` levels
 abbrev pub AreLow : ℕ → List Frame → Type 0
 AreLow most [] = Unit {0}
 AreLow most (frame ∷ frames) = (frame.sum.height ≤ most) × AreLow most frames
 
--- how reading a text ends: with its size, or with a fault while frames still wait
+-- Reading a text ended with `r`: its size, or a fault while texts still wait in `frames`. The reading `answer` has
+-- the same size or fault. Its state is that of the cache, and after a fault that in which the fault has also been
+-- remembered for each frame.
 pub record StopsReading (levels : ℕ) (r : Result PartialSize Failure) (frames : List Frame) (cache : MeasureCache)
     (answer : Reading) : Type 0 where
   pub now : State
@@ -177,12 +184,12 @@ pub record StopsReading (levels : ℕ) (r : Result PartialSize Failure) (frames 
   pub leaves : MatchResult r (λ sum. answer.1 ≡ now) (λ failure. answer.1
       ≡ unwound levels frames (fault_view failure.fault) now)
 
--- what is remembered of this definition is really its size or fault
+-- each size or fault that the progress of a definition gives is really that of the definition, whose text is `text`
 abbrev pub HoldsOfText : Bool → (List ℕ → List tree.Item) → kept.Progress Size → List ℕ → Type 0
 HoldsOfText alias_only resolve progress text = (levels : ℕ) (r : Result Size tree.Fault) → known_result progress levels ≡ Some r
     → size_or_fault alias_only resolve levels text ≡ r
 
--- everything that is remembered is right, and no definition is in progress
+-- everything that the state `st` remembers of the definitions `texts` is right, and no definition is in progress
 pub record IsCorrect (texts : Texts) (alias_only : Bool) (st : State) : Type 0 where
   pub none_begun : (name : List ℕ) → st.by_name name ≡ Some InProgress → ⊥
   pub says : (name : List ℕ) (progress : kept.Progress Size) (text : List ℕ) → st.by_name name ≡ Some progress

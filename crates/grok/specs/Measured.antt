@@ -17,8 +17,9 @@ IsClean tree = first_structural tree ≡ None
 
 -- ---- the result
 
--- The result of measuring: the first structural fault, the size of the expanded text, or that the text is
--- longer than the greatest `usize`. The length is in bytes, and the nesting in levels.
+-- The result of measuring: the first structural fault (a malformed placeholder, a missing definition, or nesting
+-- that is too deep), the size of the expanded text, or that the text is longer than the greatest `usize`. The
+-- length is in bytes, and the nesting in levels.
 pub data Measured : Type 0 where
   Faulty : (fault : Fault) → Measured
   Sized : (length groups nesting : ℕ) → Measured
@@ -50,13 +51,14 @@ reaches name (Open label (Inline text) ∷ events) = reaches name events
 reaches name (Open label (Stored text) ∷ events) = if bytes_eq label.name name then true
     else reaches name events
 
--- the weights of the chosen texts together; a text is chosen by its name
+-- the weights of those texts whose names `is_chosen` chooses, added up
 abbrev pub weighed : (List ℕ → ℕ) → (List ℕ → Bool) → List (List ℕ × List ℕ) → ℕ
 weighed weight is_chosen [] = 0
 weighed weight is_chosen (entry ∷ entries) = (if is_chosen entry.0 then weight entry.1
     else 0) + weighed weight is_chosen entries
 
--- the weight of the pattern and of each stored definition that it reaches together, each counted once
+-- The weights of the pattern and of the stored definitions that it reaches (those used before its first structural
+-- fault), added up. Each definition counts once.
 abbrev pub reached_weight : (List ℕ → ℕ) → Texts → List ℕ → ℕ
 reached_weight weight texts pattern = weight pattern + weighed weight
     (λ name. reaches name (reached (tree_of texts pattern))) (finite.entries texts)
@@ -65,7 +67,7 @@ reached_weight weight texts pattern = weight pattern + weighed weight
 abbrev pub reached_pieces : Texts → List ℕ → ℕ
 reached_pieces texts pattern = reached_weight (λ text. length (pieces text)) texts pattern
 
--- how many texts these are, with that of the pattern
+-- how many stored definitions the pattern reaches, and one more for the pattern itself
 abbrev pub reached_texts : Texts → List ℕ → ℕ
 reached_texts texts pattern = reached_weight (λ text. 1) texts pattern
 

@@ -2,7 +2,7 @@
 use Rattle.std.specs.Prelude.{ℕ, zero, suc, ◌+◌, max, Bool, false, ◌||◌, List, [], ◌∷◌, if◌then◌else◌, nat_lt, Option, Some, None, Result, Ok, Err}
 use Rattle.std.specs.Str.{bytes_eq}
 use Rattle.grok.specs.Tree.{Fault, MalformedPiece, Missing, TooDeep, Label, Inline, Stored, Item, TextItem, FaultItem, PlaceholderItem}
-use Rattle.grok.specs.Keys.{ends_in_number}
+use Rattle.grok.specs.NumberedBases.{is_numbered_from}
 use Rattle.grok.specs.Sizes.{Size, no_size, size_of_bytes, both, wrapped}
 
 -- How far measuring a definition has come. It is in progress. Or it has this size. Or it has this first fault
@@ -14,15 +14,15 @@ pub data Progress (S : Type 0) : Type 0 where
   HasFault : (fault : Fault) (height : ℕ) → Progress S
   NeedsMoreThan : (levels : ℕ) → Progress S
 
--- the size or fault with `levels` levels left, or none if the definition has to be measured again
+-- the size or fault with `levels` levels left, or `None` if the definition has to be measured again
 abbrev pub known_result : Progress Size → ℕ → Option (Result Size Fault)
 known_result InProgress levels = Some (Err TooDeep)
 known_result (HasSize size) levels = Some (if nat_lt size.height levels then Ok size else Err TooDeep)
 known_result (HasFault fault height) levels = Some (if nat_lt height levels then Err fault else Err TooDeep)
 known_result (NeedsMoreThan most) levels = if nat_lt most levels then None else Some (Err TooDeep)
 
--- The nesting before the remembered fault, in levels, if `levels` levels are left. It is 0 if the fault is that
--- this is nested too deeply.
+-- The nesting before the remembered fault, in levels, if `levels` levels are left. It is 0 if with so many levels the
+-- result is a size, `TooDeep`, or not known.
 abbrev pub reach_within : Progress Size → ℕ → ℕ
 reach_within InProgress levels = 0
 reach_within (HasSize size) levels = 0
@@ -36,45 +36,46 @@ failed_progress (MalformedPiece fault) levels reach = HasFault (MalformedPiece f
 failed_progress (Missing name) levels reach = HasFault (Missing name) reach
 failed_progress TooDeep levels reach = NeedsMoreThan levels
 
--- What measuring remembers: the progress of each definition by its name, how many pieces and ends of texts were
--- read, whether an alias was read that ends in a number in brackets, and, after a fault, the nesting before it
--- in levels.
+-- What measuring remembers: the progress of each definition by its name, how many pieces and ends of texts were read,
+-- for each base key whether an alias was read that is numbered from it (as `x[1]` is from `x`), and after a fault,
+-- how many levels were nested before it.
 pub record State : Type 0 where
   pub by_name : List ℕ → Option (Progress Size)
   pub looks : ℕ
   pub ends : ℕ
-  pub numbered_alias : Bool
+  pub numbered : List ℕ → Bool
   pub reach : ℕ
 
 -- the progress of each name, after this name got this progress
 abbrev pub updated : (List ℕ → Option (Progress Size)) → List ℕ → Progress Size → List ℕ → Option (Progress Size)
 updated by_name name progress other = if bytes_eq name other then Some progress else by_name other
 
--- the same, where this name has this progress
+-- the state `st`, with this progress for the name `name`
 abbrev pub with_progress : State → List ℕ → Progress Size → State
-with_progress st name progress = record { by_name = updated st.by_name name progress; looks = st.looks; ends = st.ends; numbered_alias = st.numbered_alias; reach = st.reach }
+with_progress st name progress = record { by_name = updated st.by_name name progress; looks = st.looks; ends = st.ends; numbered = st.numbered; reach = st.reach }
 
--- the same, where the nesting before the fault is `reach` levels
+-- the state `st`, with `reach` levels as the nesting before the fault
 abbrev pub with_reach : State → ℕ → State
-with_reach st reach = record { by_name = st.by_name; looks = st.looks; ends = st.ends; numbered_alias = st.numbered_alias; reach = reach }
+with_reach st reach = record { by_name = st.by_name; looks = st.looks; ends = st.ends; numbered = st.numbered; reach = reach }
 
--- one more piece was read
+-- the state after one more piece was read
 abbrev pub piece_read : State → State
-piece_read st = record { by_name = st.by_name; looks = st.looks + 1; ends = st.ends; numbered_alias = st.numbered_alias; reach = st.reach }
+piece_read st = record { by_name = st.by_name; looks = st.looks + 1; ends = st.ends; numbered = st.numbered; reach = st.reach }
 
--- a placeholder with this label was read
+-- The state after a placeholder with this label was read. If its alias is `x[1]`, say, it is remembered that an alias
+-- is numbered from `x`.
 abbrev pub labelled : Label → State → State
-labelled label st = record { by_name = st.by_name; looks = st.looks; ends = st.ends; numbered_alias = ends_in_number label.alias || st.numbered_alias; reach = st.reach }
+labelled label st = record { by_name = st.by_name; looks = st.looks; ends = st.ends; numbered = λ base. is_numbered_from base label.alias || st.numbered base; reach = st.reach }
 
--- a piece was read that is a placeholder with this label
+-- the state after one more piece was read, which is a placeholder with this label
 abbrev pub placeholder_read : Label → State → State
 placeholder_read label st = labelled label (piece_read st)
 
--- the end of a text was read
+-- the state after one more end of a text was read
 abbrev pub ended : State → State
-ended st = record { by_name = st.by_name; looks = st.looks; ends = st.ends + 1; numbered_alias = st.numbered_alias; reach = st.reach }
+ended st = record { by_name = st.by_name; looks = st.looks; ends = st.ends + 1; numbered = st.numbered; reach = st.reach }
 
--- the same, with one more level before the fault: that of the placeholder around the text
+-- the state with one more level before the fault: that of the placeholder around the text
 abbrev pub deeper : State → State
 deeper st = with_reach st (suc st.reach)
 
@@ -97,7 +98,7 @@ then_rest (Ok size) st rest = let more = rest st in (
       (max size.height more.1.reach),
 )
 
--- the result of a placeholder, given that of its definition
+-- the result of a placeholder, given `inner`, the result of its definition
 abbrev pub enclosed : Bool → Label → Reading → Reading
 enclosed alias_only label inner = (wrapped alias_only label inner.0, deeper inner.1)
 
@@ -119,18 +120,19 @@ items_reading alias_only visit inline (item ∷ items) st =
     let first = item_reading alias_only visit inline item (piece_read st) in
     then_rest first.0 first.1 (items_reading alias_only visit inline items)
 
--- the same, after the result is remembered for this name, whose definition was measured with `levels` levels
--- left, its own among them
+-- The result of measuring a definition, after its size or fault is also remembered for the name `name`. It was
+-- measured with `levels` levels left, its own among them.
 abbrev pub finish : List ℕ → ℕ → Reading → Reading
 finish name levels (Ok size, st) = (Ok size, with_progress st name (HasSize size))
 finish name levels (Err fault, st) = (Err fault, with_progress st name (failed_progress fault levels st.reach))
 
--- the result that is remembered, or else `fresh`, that of measuring now
+-- the size or fault that is remembered, with the state `st`, or if none is, `fresh`: the result of measuring now
 abbrev pub by_result : Option (Result Size Fault) → State → Reading → Reading
 by_result None st fresh = fresh
 by_result (Some r) st fresh = (r, st)
 
--- the same, given the progress of the name
+-- The result of a definition with this progress, if `levels` levels are left: the size or fault that is remembered
+-- for so many levels, or if none is, `fresh`: the result of measuring now.
 abbrev pub by_progress : Option (Progress Size) → ℕ → State → Reading → Reading
 by_progress None levels st fresh = fresh
 by_progress (Some progress) levels st fresh = by_result (known_result progress levels)
@@ -159,11 +161,11 @@ abbrev pub stored_within : Bool → (List ℕ → List Item) → ℕ → Label �
 stored_within alias_only resolve levels label text st =
     enclosed alias_only label (visit alias_only resolve levels label.name text st)
 
--- what is remembered at the start: nothing
+-- What measuring remembers before it reads anything: no definition has a size or fault yet, and nothing is counted.
 abbrev pub nothing_measured : State
-nothing_measured = record { by_name = λ name. None; looks = 0; ends = 0; numbered_alias = false; reach = 0 }
+nothing_measured = record { by_name = λ name. None; looks = 0; ends = 0; numbered = λ base. false; reach = 0 }
 
--- the result for a pattern
+-- the result of measuring a whole pattern, if `levels` levels are allowed
 unfoldable pub measure_within : ℕ → Bool → (List ℕ → List Item) → List ℕ → Reading
 measure_within levels alias_only resolve pattern = items_within alias_only resolve levels
     (resolve pattern) nothing_measured

@@ -14,45 +14,51 @@ use Rattle.regex_syntax.specs.Verdict.{Reads, default_config}
 use Rattle.grok.specs.declared.engine.marks.Marks.{Marks}
 use Rattle.grok.specs.declared.engine.marks.Needles.{Needles}
 
--- the tree is what the grammar of `regex` reads in the text, without flags or limits
+-- `hir` is the syntax tree of `regex` that its grammar reads in the text, without flags or limits
 abbrev pub IsTreeOf : List ℕ → Hir → Type 0
 IsTreeOf text hir = (names : Names) × Reads default_config text hir names
 
--- each match begins with one of the literals, and the bytes around it are those that the frame allows
+-- each match of `re` begins with one of the literals in `needles`, and the bytes around that are those that the frame
+-- in `needles` allows
 abbrev pub BeginsEach : Re → Needles → Type 0
 BeginsEach re needles = StartsFramed re needles.literals (Some needles.frame)
 
--- each match contains one of the literals, and the bytes around it are those that the frame allows
+-- each match of `re` contains one of the literals in `needles`, and the bytes around that are those that the frame in
+-- `needles` allows
 abbrev pub IsInEach : Re → Needles → Type 0
 IsInEach re needles = ContainsFramed re needles.literals (Some needles.frame)
 
--- the marks are true of each match of the pattern
+-- The marks are true of each match of `re`: that it starts where the line starts, and which literals it begins with
+-- or contains, each as far as the marks state it.
 pub record AreMarksOf (re : Re) (marks : Marks) : Type 0 where
   pub start : marks.at_start ≡ true → IsAnchored true re
   pub first : IfSome marks.first (BeginsEach re)
   pub inner : IfSome marks.inner (IsInEach re)
 
--- one of the literals stands at place k, and the bytes around it are those that the frame allows
+-- one of the literals in `needles` is at this position of `hay`, and the frame allows the bytes around it
 abbrev pub StandsAt : Needles → List ℕ → ℕ → Type 0
 StandsAt needles hay = IsCandidate hay needles.literals (Some needles.frame)
 
--- no such literal stands from `start` up to the place that was found, or none stands there at all
+-- No literal that the frame allows begins in `hay` at `start` or later and before the position `found`. If `found` is
+-- `None`, none begins at `start` or later.
 abbrev pub IsNextOf : Needles → List ℕ → ℕ → Option ℕ → Type 0
 IsNextOf needles hay start found = MatchOption found (Nowhere (StandsAt needles hay) start (length hay + 1))
     (NoneBefore (StandsAt needles hay) start (length hay + 1))
 
--- no match starts from `start` up to the place, or none starts there at all
-abbrev pub IsPlaceOf : Program → List ℕ → ℕ → Option ℕ → Type 0
-IsPlaceOf program hay start found = MatchOption found (leftmost program hay start ≡ None) (λ at.
+-- No match starts at `start` or later and before the position `found`. If `found` is `None`, no match starts at
+-- `start` or later.
+abbrev pub IsPositionOf : Program → List ℕ → ℕ → Option ℕ → Type 0
+IsPositionOf program hay start found = MatchOption found (leftmost program hay start ≡ None) (λ at.
     (start ≤ at) × (at ≤ length hay) × (leftmost program hay start ≡ leftmost program hay at))
 
--- the span that two cells keep, each as a position plus one, or 0 for none
+-- The span that two cells keep, one its start plus one, and one its end plus one. If one of them is 0, there is no
+-- span.
 abbrev pub span_of_pair : ℕ → ℕ → Option (ℕ × ℕ)
 span_of_pair first last = if first == 0 then None
     else (if last == 0 then None else Some (first - 1, last - 1))
 
--- the span of a group of a match that spans this range, where the cells of the groups follow one another
--- from group 1 on
+-- The span of a group of a match. `whole` is the range of the match, which is that of group 0, and `cells` has two
+-- cells for each group from group 1 on.
 abbrev pub span_of_cells : ℕ × ℕ → List ℕ → ℕ → Option (ℕ × ℕ)
 span_of_cells whole cells group =
     if group == 0 then Some whole

@@ -24,9 +24,9 @@ abbrev pub regex_error_of : RefusalReason → regex.Error
 regex_error_of (Syntax error) = regex_error.Syntax error
 regex_error_of TooBig = regex_error.CompiledTooBig
 
--- `regex` may give this error for the text. If it is an error of syntax, the grammar of `regex` doesn't read
--- the text within its limit on nesting, and the range of the error begins and ends at character boundaries of
--- the text. If the regex is too big, the grammar reads the text.
+-- `regex` may refuse the text for this reason. If the reason is an error of syntax, the text isn't a valid regex or
+-- is nested more deeply than `regex` allows, and the range of the error begins and ends at character boundaries of
+-- the text. If the reason is that the regex is too big, the text is a valid regex.
 abbrev pub IsReasonFor : List ℕ → RefusalReason → Type 0
 IsReasonFor text reason = IsDefaultFailure text (regex_error_of reason)
 
@@ -35,15 +35,15 @@ pub record IsRefusalOf (source : List ℕ) (refusal : RegexRefusal) : Type 0 whe
   pub text : string_bytes refusal.text ≡ source
   pub reason : IsReasonFor source refusal.reason
 
--- The pattern has no fault. Its expanded text is refused by `regex` for this reason, or if none is given,
--- `regex` built it.
+-- The pattern isn't empty and has no fault. If `found` is a refusal, it has the expanded text of the pattern and a
+-- reason for which `regex` may refuse it. If `found` is `None`, `regex` built a regex from the expanded text.
 pub record IsExamined (e : Expansion) (found : Option RegexRefusal) : Type 0 where
   pub some : e.pattern ≢ []
   pub can : CanBuild e
   pub refusal : MatchOption found (IsRegexText (expanded e.alias_only e.tree))
       (IsRefusalOf (expanded e.alias_only e.tree))
 
--- WHY A PATTERN IS REFUSED: the refusal of its expanded text, if there is one, or else the error that compiling
--- the pattern returns for an engine that refuses nothing.
+-- WHY A PATTERN IS REFUSED: the refusal of its expanded text, `None` if `regex` builds a regex from that text, or an
+-- error that compiling the pattern may return with an engine that refuses nothing.
 abbrev pub Examines : Expansion → Result (Option RegexRefusal) Error → Type 0
 Examines e r = MatchResult r (IsExamined e) (IsExpansionError e)

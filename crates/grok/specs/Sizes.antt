@@ -1,12 +1,12 @@
 -- The size of an expanded text, added up item by item.
-use Rattle.std.specs.Prelude.{ℕ, zero, suc, ◌+◌, max, Bool, List, [], ◌∷◌, length, if◌then◌else◌, Result, Ok, Err}
+use Rattle.std.specs.Prelude.{ℕ, zero, suc, ◌+◌, max, Bool, List, [], ◌∷◌, ◌++◌, length, codes, if◌then◌else◌, Result, Ok, Err}
 use Rattle.grok.specs.Tree.{Fault, TooDeep, Label, meaning_text, Item, TextItem, FaultItem, PlaceholderItem}
 use Rattle.grok.specs.Keys.{is_capturing}
 use Rattle.grok.specs.Numeral.{numeral}
-use Rattle.grok.specs.GeneratedNames.{bracket_bytes}
+use Rattle.grok.specs.GeneratedNames.{name_start, unnamed_head, bracket_bytes}
 
--- The bytes without the numbers in the names of groups, the number of groups with a name, and the greatest
--- nesting in levels, which is 0 without placeholders.
+-- The size of an expanded text or of a part of it: its bytes without the numbers in the names of groups, the number
+-- of groups with a name, and the greatest nesting in levels, which is 0 without placeholders.
 pub record Size : Type 0 where
   pub bytes : ℕ
   pub groups : ℕ
@@ -42,7 +42,7 @@ abbrev pub sum_in_brackets : Bool → Result Size Fault → Result Size Fault
 sum_in_brackets capturing (Err fault) = Err fault
 sum_in_brackets capturing (Ok inner) = Ok (in_brackets capturing inner)
 
--- the size of the placeholder with this label, given that of its definition
+-- the size of the placeholder with this label, given the size of its definition
 abbrev pub bracketed : Bool → Label → Size → Size
 bracketed alias_only label = in_brackets (is_capturing alias_only label)
 
@@ -50,7 +50,8 @@ bracketed alias_only label = in_brackets (is_capturing alias_only label)
 abbrev pub wrapped : Bool → Label → Result Size Fault → Result Size Fault
 wrapped alias_only label = sum_in_brackets (is_capturing alias_only label)
 
--- the size or fault of an item, where `inner` says that of a definition
+-- The size or fault of an item (a piece with its placeholder resolved to its definition). `inner` returns the size or
+-- fault of a definition.
 abbrev pub size_of : Bool → (List ℕ → Result Size Fault) → Item → Result Size Fault
 size_of alias_only inner (TextItem text) = Ok (size_of_bytes text)
 size_of alias_only inner (FaultItem fault) = Err fault
@@ -69,7 +70,15 @@ size_or_fault alias_only resolve zero text = Err TooDeep
 size_or_fault alias_only resolve (suc levels) text = sizes alias_only
     (size_or_fault alias_only resolve levels) (resolve text)
 
--- how many decimal digits the numbers `first`, `first + 1`, .. have together, `count` of them
+-- the size of what a placeholder writes before its definition; the number in the name of its group isn't counted
+abbrev pub head_size : Bool → Size
+head_size capturing = record {
+  bytes = if capturing then length (codes "(?<" ++ name_start ++ codes ">") else length unnamed_head;
+  groups = if capturing then 1 else 0;
+  height = 0;
+}
+
+-- how many decimal digits the `count` numbers `first`, `first + 1`, .. have together
 abbrev pub digits_from : ℕ → ℕ → ℕ
 digits_from first zero = 0
 digits_from first (suc count) = length (numeral first) + digits_from (suc first) count

@@ -10,7 +10,7 @@ abbrev pub pieces_left : Source → List Piece
 pieces_left (Split split) = split
 pieces_left (Kept text spans) = map (piece_in text.now) spans.now
 
--- the remaining spans are ranges of the text
+-- if the pieces are kept as spans, the ranges of each remaining span are ranges of the text
 abbrev pub IsSource : Source → Type 0
 IsSource (Split split) = Unit {0}
 IsSource (Kept text spans) = All (IsSpanOf text.now) spans.now

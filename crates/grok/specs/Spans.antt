@@ -28,20 +28,21 @@ pub record IsRangeOf (T : List ℕ) (p : TextRange) : Type 0 where
   pub begins : IsCharBoundary T p.from
   pub ends : IsCharBoundary T p.to
 
--- each of these ranges is one of T
+-- the range of each part of a placeholder begins and ends at character boundaries of T
 pub record AreRangesOf (T : List ℕ) (p : PartRanges) : Type 0 where
   pub name : IsRangeOf T p.name
   pub alias : IsRangeOf T p.alias
   pub extract : IsRangeOf T p.extract
   pub definition : IsRangeOf T p.definition
 
--- each range of the span is one of T
+-- each range of the span begins and ends at character boundaries of T
 abbrev pub IsSpanOf : List ℕ → Span → Type 0
 IsSpanOf T (Regular p) = IsRangeOf T p
 IsSpanOf T (Placeholder p parts) = IsRangeOf T p × AreRangesOf T parts
 IsSpanOf T (Malformed f) = Unit {0}
 
--- each span has ranges of T, and read in T the spans are its pieces
+-- The spans stand for all pieces of T, in their order, and each of their ranges begins and ends at character
+-- boundaries of T.
 pub record AreSpansOf (T : List ℕ) (spans : List Span) : Type 0 where
   pub reads : map (piece_in T) spans ≡ spec.pieces T
   pub within : All (IsSpanOf T) spans
@@ -52,12 +53,12 @@ pub record AreSpansOf (T : List ℕ) (spans : List Span) : Type 0 where
 abbrev pub range_from : ℕ → ℕ → TextRange
 range_from from len = if len == 0 then record { from = 0; to = 0 } else record { from = from; to = from + len }
 
--- the part is what T has from this byte on
+-- T has `part` at the byte range that `range_from` returns for `from` and the length of `part`
 pub record StandsAt (T : List ℕ) (from : ℕ) (part : List ℕ) : Type 0 where
   pub range : IsRangeOf T (range_from from (length part))
   pub reads : text_in T (range_from from (length part)) ≡ part
 
--- the parts of the placeholder from s to e stand where `%{name:alias:extract=definition}` has them
+-- the placeholder from s to e has its parts where `%{name:alias:extract=definition}` has them
 pub record PartsStand (T : List ℕ) (s e : ℕ) (p : spec.Parts) : Type 0 where
   pub fits : s + 2 + length p.name + length p.alias + length p.extract + length p.definition + 1 ≤ e
   pub name : StandsAt T (s + 2) p.name
@@ -65,7 +66,7 @@ pub record PartsStand (T : List ℕ) (s e : ℕ) (p : spec.Parts) : Type 0 where
   pub extract : StandsAt T (s + 2 + length p.name + 1 + length p.alias + 1) p.extract
   pub definition : StandsAt T (e - 1 - length p.definition) p.definition
 
--- the piece from s to e has the text that T has in that range
+-- `text` is what T has in the range from s to e, which begins and ends at character boundaries of T
 pub record PieceStands (T : List ℕ) (s e : ℕ) (text : List ℕ) : Type 0 where
   pub range : IsRangeOf T (record { from = s; to = e })
   pub reads : text ≡ slice_range T s e

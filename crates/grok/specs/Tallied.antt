@@ -1,12 +1,14 @@
 -- What is counted of each definition before the first fault is looked for.
-use Rattle.std.specs.Prelude.{◌≡◌, ℕ, suc, ◌<◌, ◌≤◌, Bool, true, false, List, [], ◌∷◌, ◌++◌, length, Option, Some, None}
+use Rattle.std.specs.Prelude.{◌≡◌, ℕ, suc, ◌<◌, ◌≤◌, Bool, true, false, List, [], ◌∷◌, ◌++◌, drop, Option, Some, None, MatchOption, ◌&&◌}
 use Rattle.std.specs.FinMap as finite
 use Rattle.std.specs.Ordering.{nat_cmp}
 use Rattle.std.specs.Cmp.Lexicographic.{slice_cmp}
 use Rattle.std.specs.BTreeMap.{BTreeMap, get_by}
 use Rattle.std.specs.Borrow.{Bor}
-use Rattle.grok.specs.Tree.{Inline, Stored, Item, TextItem, FaultItem, PlaceholderItem, Event, events, inside, items_of, first_structural}
-use Rattle.grok.specs.Keys.{how_often, capturing}
+use Rattle.grok.specs.Tree.{Inline, Stored, Item, TextItem, FaultItem, PlaceholderItem, Event, events, inside, items_of, first_structural, Label}
+use Rattle.grok.specs.Keys.{how_often, capturing, is_capturing, base_key}
+use Rattle.grok.specs.Items.{item_view}
+use Rattle.grok.specs.NumberedBases.{can_clash, only_clashing}
 use Rattle.grok.specs.KeyUses.{CountsUses}
 use Rattle.grok.specs.declared.expand.tallies.CompileMode.{CompileMode}
 use Rattle.grok.specs.declared.expand.tallies.KeyTally.{KeyTally}
@@ -21,14 +23,26 @@ resolve mode = items_of (finite.get mode.grok.now)
 abbrev pub opened_events : CompileMode → ℕ → List ℕ → List Event
 opened_events mode = inside (resolve mode)
 
+-- ---- counted placeholders
+
+-- the uses of a base key are counted if the placeholder captures and can have the key of another one
+abbrev pub is_counted : CompileMode → Label → Bool
+is_counted mode label = is_capturing mode.with_alias_only label && can_clash mode.numbered.now (base_key label)
+
+-- the placeholders among these events whose uses are counted
+abbrev pub counted : CompileMode → List Event → List Label
+counted mode events = capturing mode.with_alias_only (only_clashing mode.numbered.now events)
+
 -- ---- items of a text
 
--- if one level is allowed, the text has no fault and no placeholder that captures
+-- if at least one level is allowed, the text has no structural fault and no placeholder whose uses are counted
 pub record OpensNothing (mode : CompileMode) (text : List ℕ) : Type 0 where
   pub clean : (levels : ℕ) → first_structural (opened_events mode (suc levels) text) ≡ None
-  pub none : (levels : ℕ) → capturing mode.with_alias_only (opened_events mode (suc levels) text) ≡ []
+  pub none : (levels : ℕ) → counted mode (opened_events mode (suc levels) text) ≡ []
 
--- a stored definition is that of its name, and an inline definition has no placeholder
+-- What is true of every item of a text (a piece with its placeholder resolved to its definition): a stored definition
+-- is that of the placeholder's name, and an inline definition has no structural fault if a level is left for it, and
+-- no placeholder whose uses are counted.
 abbrev pub IsSoundItem : CompileMode → Item → Type 0
 IsSoundItem mode (TextItem text) = Unit {0}
 IsSoundItem mode (FaultItem fault) = Unit {0}
@@ -37,36 +51,35 @@ IsSoundItem mode (PlaceholderItem label (Stored text)) = finite.get mode.grok.no
 
 -- ---- tallies
 
--- If more levels than the height are allowed, the text has no structural fault, and its capturing placeholders use
--- the base keys as counted.
+-- If more levels than `tally.height` are allowed, the text has no structural fault, and `tally.uses` counts how often
+-- its placeholders use each base key (the key before its number is added) that can take part in a clash.
 pub record IsTallyOf (mode : CompileMode) (text : List ℕ) (tally : KeyTally) : Type 0 where
   pub uses : List ℕ → ℕ
   pub counts : CountsUses tally.uses uses
   pub clean : (levels : ℕ) → tally.height < levels → first_structural (opened_events mode levels text) ≡ None
   pub often : (levels : ℕ) → tally.height < levels → (key : List ℕ)
-      → how_often (capturing mode.with_alias_only (opened_events mode levels text)) key ≡ uses key
+      → how_often (counted mode (opened_events mode levels text)) key ≡ uses key
 
--- These items were counted. If as many levels as the height are allowed, they have no structural fault, and their
--- capturing placeholders use the base keys as counted.
+-- The items were counted. If at least `tally.height` levels are allowed, they have no structural fault, and
+-- `tally.uses` counts how often their placeholders use each base key that can take part in a clash.
 pub record HasTallied (mode : CompileMode) (items : List Item) (tally : KeyTally) : Type 0 where
   pub uses : List ℕ → ℕ
   pub counts : CountsUses tally.uses uses
   pub clean : (levels : ℕ) → tally.height ≤ levels → first_structural (events (opened_events mode levels) items) ≡ None
   pub often : (levels : ℕ) → tally.height ≤ levels → (key : List ℕ)
-      → how_often (capturing mode.with_alias_only (events (opened_events mode levels) items)) key ≡ uses key
+      → how_often (counted mode (events (opened_events mode levels) items)) key ≡ uses key
 
 -- the items, and after them one more if it was counted
 abbrev pub with_item : Bool → List Item → Item → List Item
 with_item true items item = items ++ item ∷ []
 with_item false items item = items
 
--- the counted part of a text: its first items, or all of them if `is_whole` says so
+-- `front` is the counted part of the text: all of its items, or those before the first one that wasn't counted, which
+-- is `front.uncounted`. The items after that one are those after the first `front.read` items of the text.
 pub record IsCountedPartOf (mode : CompileMode) (text : List ℕ) (front : CountedPart) : Type 0 where
   pub items : List Item
-  pub left : List Item
-  pub cut : resolve mode text ≡ items ++ left
-  pub many : length items ≡ front.items
-  pub whole : front.is_whole ≡ true → left ≡ []
+  pub cut : MatchOption front.uncounted (resolve mode text ≡ items)
+      (λ item. resolve mode text ≡ items ++ item_view item ∷ drop front.read (resolve mode text))
   pub tallied : HasTallied mode items front.tally
 
 -- the counted part of the definition of a name

@@ -29,13 +29,13 @@ pub data Meaning : Type 0 where
   Inline : (text : List ℕ) → Meaning
   Stored : (text : List ℕ) → Meaning
 
--- the text of that definition
+-- the text of the definition that a placeholder stands for
 abbrev pub meaning_text : Meaning → List ℕ
 meaning_text (Inline text) = text
 meaning_text (Stored text) = text
 
--- A piece whose placeholder is resolved. This depends on the text of the piece and on the definitions
--- alone, not on where that text is used.
+-- A piece whose placeholder is resolved to its definition. Which item a piece becomes depends only on the text that
+-- it is a piece of and on the definitions, and not on where that text is used.
 pub data Item : Type 0 where
   TextItem : (text : List ℕ) → Item
   FaultItem : (fault : Fault) → Item
@@ -102,7 +102,8 @@ events inside (FaultItem fault ∷ items) = FaultEvent fault ∷ events inside i
 events inside (PlaceholderItem label meaning ∷ items) = Open label meaning ∷ inside (meaning_text meaning)
     ++ events inside items
 
--- What follows an open, with the number of levels that are left. If none is left, that is a fault.
+-- What follows the open of a placeholder that stands for this text: the events of the text and a close. The number is
+-- how many levels are left, that of the placeholder among them. If none is left, a fault follows instead.
 abbrev pub inside : (List ℕ → List Item) → ℕ → List ℕ → List Event
 inside items zero text = FaultEvent TooDeep ∷ []
 inside items (suc levels_left) text = events (inside items levels_left) (items text) ++ Close ∷ []

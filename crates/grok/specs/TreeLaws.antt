@@ -24,8 +24,8 @@ OwnDefinitionHolds = (stored : Definitions) (text : List ℕ) (before after : Li
     → slice_get (items_of stored text) (length before) ≡ Some
     (PlaceholderItem (label_of parts) (Inline parts.definition))
 
--- A placeholder without one is resolved to the inline definition of an earlier placeholder of its name in the
--- same text, if no placeholder between them defines the name.
+-- A placeholder without an inline definition is resolved to the inline definition of an earlier placeholder of its
+-- name in the same text, if no placeholder between them defines the name.
 abbrev pub EarlierDefinitionHolds : Type 0
 EarlierDefinitionHolds = (stored : Definitions) (text : List ℕ) (before between after : List Piece)
     (s e s' e' : ℕ) (pattern pattern' : List ℕ) (earlier parts : Parts)
@@ -36,8 +36,8 @@ EarlierDefinitionHolds = (stored : Definitions) (text : List ℕ) (before betwee
     → slice_get (items_of stored text) (suc (length before + length between))
     ≡ Some (PlaceholderItem (label_of parts) (Inline earlier.definition))
 
--- If no placeholder before it in its own text defines its name, it is resolved to the stored definition, if
--- there is one, whatever other texts define.
+-- If a placeholder has no inline definition, and no placeholder before it in the same text defines its name, it is
+-- resolved to the stored definition of its name, whatever other texts define. If there is none, its name is missing.
 abbrev pub StoredDefinitionHolds : Type 0
 StoredDefinitionHolds = (stored : Definitions) (text : List ℕ) (before after : List Piece) (s e : ℕ)
     (pattern : List ℕ) (parts : Parts)
@@ -48,7 +48,8 @@ StoredDefinitionHolds = (stored : Definitions) (text : List ℕ) (before after :
 
 -- ---- faults
 
--- the tree neither reaches the name nor ends because it is missing
+-- The events of the tree before its first structural fault use no stored definition of this name, and that fault
+-- isn't that the name is missing.
 abbrev pub IsUnused : List ℕ → List Event → Type 0
 IsUnused name tree = (reaches name (reached tree) ≡ false) × (first_structural tree ≡ Some (Missing name) → ⊥)
 
@@ -60,7 +61,7 @@ UnusedDefinitionsDoNotMatter = (stored other : Definitions) (pattern : List ℕ)
     → (first_structural (tree other pattern) ≡ first_structural (tree stored pattern))
     × (reached (tree other pattern) ≡ reached (tree stored pattern))
 
--- If measuring reports a fault in one mode, it reports the same fault in the other.
+-- If measuring a tree reports a fault, it reports the same fault with and without alias-only mode.
 abbrev pub ModesFaultAlike : Type 0
 ModesFaultAlike = (tree : List Event) (mode other : Bool) (fault : Fault)
     → measured_tree mode tree ≡ Faulty fault → measured_tree other tree ≡ Faulty fault
@@ -79,6 +80,7 @@ IsTextOf (FaultEvent fault ∷ events) text = IsTextOf events text
 IsTextOf (Open label meaning ∷ events) text = (head rest : List ℕ) × IsHead head × (text ≡ head ++ rest)
     × IsTextOf events rest
 
--- So the texts of both modes differ only in the starts of their groups.
+-- The expanded text is such a text with and without alias-only mode. So the texts of the two modes differ only in the
+-- starts of their groups.
 abbrev pub HeadsAloneDiffer : Type 0
 HeadsAloneDiffer = (alias_only : Bool) (tree : List Event) → IsTextOf tree (expanded alias_only tree)

@@ -16,7 +16,8 @@ use Rattle.grok.specs.declared.errors.fault.TreeFault.TheVariants.{Structural, C
 
 -- ---- what was assigned
 
--- The assigner has assigned keys and extracts to these capturing placeholders, the latest first.
+-- The assigner has assigned keys and extracts to the capturing placeholders `before`, the latest of which is the
+-- first.
 pub record HasAssigned (assigner : KeyAssigner) (before : List Label) : Type 0 where
   pub uses : (key : List ℕ) → unwrap_or (get_by_text assigner.uses key) 0
       ≡ how_often before key
@@ -24,7 +25,8 @@ pub record HasAssigned (assigner : KeyAssigner) (before : List Label) : Type 0 w
   pub extracts : (key : List ℕ) → option_map string_bytes (get_by_text assigner.extracts key)
       ≡ extract_before before key
 
--- The assigner has assigned keys to some capturing placeholders, and can count this many more.
+-- The assigner has assigned keys to some capturing placeholders. With `more` others, their number still fits a
+-- `usize`.
 pub record CanAssign (assigner : KeyAssigner) (more : ℕ) : Type 0 where
   pub before : List Label
   pub shows : HasAssigned assigner before
@@ -32,7 +34,7 @@ pub record CanAssign (assigner : KeyAssigner) (more : ℕ) : Type 0 where
 
 -- ---- the first fault
 
--- a capturing placeholder would get this key, which an earlier one has
+-- `key` is the key that the next capturing placeholder, with the label `label`, would get, but one in `before` has it
 pub record Clashes (before : List Label) (label : Label) (key : String Global) : Type 0 where
   pub taken : is_among (key_after before label) (taken_of before) ≡ true
   pub named : string_bytes key ≡ key_after before label
@@ -44,7 +46,7 @@ tree_fault_view (Clash key) = keys.Clash (string_bytes key)
 
 -- ---- a whole tree
 
--- the keys of the capturing placeholders of a tree in reading order, and their extracts
+-- the assigner has the keys of the tree's capturing placeholders in reading order, and their extracts
 pub record HasKeys (alias_only : Bool) (tree : List Event) (assigner : KeyAssigner) : Type 0 where
   pub keys : map string_bytes assigner.keys.items ≡ keys.keys (capturing alias_only tree)
   pub extracts : (key : List ℕ) → option_map string_bytes (get_by_text assigner.extracts key)

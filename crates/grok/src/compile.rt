@@ -1,12 +1,13 @@
 //! Compiles patterns.
 
-ghost use Rattle.std.specs.Prelude.{◌≡◌, ◌≢◌, ◌⊎◌, [], map, length as len, MatchResult, MatchOption, IfOk, None};
+ghost use Rattle.std.specs.Prelude.{◌≡◌, ◌≢◌, ◌⊎◌, ℕ, List, [], map, length as len, MatchResult, MatchOption, IfOk, None};
 ghost use Rattle.std.specs.Option.{option_map};
 ghost use Rattle.std.specs.FinMap as finite;
 ghost use Rattle.std.specs.String.{string_bytes};
 ghost use Rattle.std.specs.BTreeMap.{get_by_text};
 ghost use Rattle.grok.specs.Tree.{tree as tree_of, first_structural, reached};
-ghost use Rattle.grok.specs.Keys.{Structural, first_fault, has_numbered_alias};
+ghost use Rattle.grok.specs.Keys.{Structural, first_fault};
+ghost use Rattle.grok.specs.NumberedBases.{opens_numbered_from, is_base_in};
 ghost use Rattle.grok.specs.Expanded.{expanded};
 ghost use Rattle.grok.specs.Walks.{tree_fault_view};
 ghost use Rattle.grok.specs.Errors.{error_value, Memory as memory};
@@ -55,7 +56,7 @@ fn refused(alloc: Global, text: &str) -> Result<Error, AllocError>
 }
 
 impl Refusal {
-    /// Returns the error of compiling if the engine doesn't build the text.
+    /// Returns the error that compiling returns if the engine refuses `text` for this reason.
     fn to_error(self, alloc: Global, text: &str) -> Result<Error, AllocError>
         ensures { IfOk result (λ error. error_value error ≡ error_of_refusal self text.now) }
     {
@@ -66,7 +67,7 @@ impl Refusal {
     }
 }
 
-/// Builds an engine from the text, and returns the pattern with these keys and extracts.
+/// Builds an engine from `text`, and returns the pattern with the keys and extracts in `given`.
 fn build<E: Engine>(alloc: Global, text: &str, given: KeyAssigner) -> Result<PatternOf<E>, Error>
     ensures { MatchResult result
         (IsBuilt E.source_of E.group_names text.now (map string_bytes given.keys.items)
@@ -83,20 +84,22 @@ fn build<E: Engine>(alloc: Global, text: &str, given: KeyAssigner) -> Result<Pat
 }
 
 impl Grok {
-    /// Returns the error of the first fault of a pattern that was measured, if an alias ends in a
-    /// number. Without such an alias nothing can clash, so the first fault is the structural one that
-    /// measuring found.
+    /// Returns the error of the first fault of a pattern, given what measuring it `found`. Returns
+    /// `None` if the pattern has no fault, or if no alias that it reaches ends in a number in
+    /// brackets: then nothing can clash, so the first fault is the structural fault that measuring
+    /// found, if any.
     ///
     /// # Errors
     ///
-    /// If an allocation fails, or if a base key is used more than `usize::MAX` times before a fault.
-    fn first_error<'a>(
+    /// If an allocation fails, or if a base key that can clash is used more than `usize::MAX` times
+    /// before a fault.
+    fn first_error<'a, 'f>(
         &'a self,
         pattern: &'a str,
         with_alias_only: bool,
-        found: &FullMeasure<'a>,
+        found: &'f FullMeasure<'a>,
     ) -> Result<Option<Error>, AllocError>
-        requires { found.now.has_numbered_alias ≡ has_numbered_alias
+        requires { (base : List ℕ) → is_base_in found.now.numbered base ≡ opens_numbered_from base
             (reached (tree_of (finite.get self.now) pattern.now)) }
         ensures { IfOk result (λ error. MatchOption error
             (first_fault with_alias_only (tree_of (finite.get self.now) pattern.now)
@@ -104,12 +107,13 @@ impl Grok {
             (λ error. IsFirstError with_alias_only (tree_of (finite.get self.now) pattern.now)
             (error_value error))) }
     {
-        if !found.has_numbered_alias {
+        if found.numbered.is_empty() {
             return Ok(None);
         }
         let mode = CompileMode {
             grok: self,
             with_alias_only,
+            numbered: &found.numbered,
         };
         let names = found.read_names(self.alloc())?;
         let tallies = DefinitionTallies::of_names(mode, &names)?;

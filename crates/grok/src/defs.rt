@@ -4,6 +4,7 @@ ghost use Rattle.std.specs.FinMap as finite;
 ghost use Rattle.grok.specs.Maps.{set_all, pair_texts};
 ghost use Rattle.grok.specs.DefaultDefinitions.{default_definitions};
 
+pub(crate) mod deferred_items;
 pub(crate) mod definition;
 pub(crate) mod items;
 pub(crate) mod names;

@@ -1,6 +1,6 @@
 //! Regex engines: each is built from a text, and matches lines.
-ghost use Rattle.std.specs.Prelude.{◌≡◌, ℕ, List, Option, length, vec_len, option_map, IfOk, IfSome};
-ghost use Rattle.grok.specs.Captures.{name_texts, capture_texts, AreSlicesOf};
+ghost use Rattle.std.specs.Prelude.{◌≡◌, ℕ, List, Option, length, IfOk};
+ghost use Rattle.grok.specs.Captures.{name_texts, found_texts, IsMatchIn};
 
 mod marks;
 pub(crate) mod matcher;
@@ -31,7 +31,8 @@ pub trait Engine: Sized + Drop {
     /// The name of each group, from group 0 on.
     ghost group_names: { Self → List (Option (List ℕ)) };
 
-    /// For each line the text of each group that took part, or none if nothing matches.
+    /// For each line `None` if nothing matches, or else the text of each group from group 0 on,
+    /// with `None` for a group that took no part in the match.
     ghost answer_to: { Self → List ℕ → Option (List (Option (List ℕ))) };
 
     /// The texts that `build` may refuse.
@@ -51,17 +52,12 @@ pub trait Engine: Sized + Drop {
         ensures { name_texts result.now ≡ group_names self.now };
 
     /// Returns the text of each group of the first match in the line, or `None` if nothing matches.
-    /// Each text is a slice of the line, and a group that took no part has none.
+    /// Each text is a slice of the line. It is `None` for a group that took no part in the match.
     fn captures<'t>(
         &self,
         alloc: Global,
         line: &'t str,
     ) -> Result<Option<Vec<Option<&'t str>>>, AllocError>
-        ensures answer { IfOk result
-            (λ found. option_map (λ captures. capture_texts captures.items) found
-            ≡ answer_to self.now line.now) }
-        ensures all_groups { IfOk result (λ found. IfSome found (λ captures. vec_len captures
-            ≡ length (group_names self.now))) }
-        ensures slices { IfOk result (λ found. IfSome found (λ captures. AreSlicesOf line.now
-            (capture_texts captures.items))) };
+        ensures { IfOk result (λ found. IsMatchIn line.now (answer_to self.now)
+            (length (group_names self.now)) (found_texts found)) };
 }

@@ -5,5 +5,6 @@ pub(crate) mod first_fault;
 pub(crate) mod key_assigner;
 pub(crate) mod key_uses;
 pub(crate) mod numbered;
+pub(crate) mod numbered_bases;
 pub(crate) mod tallies;
 pub(crate) mod write;

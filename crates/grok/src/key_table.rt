@@ -101,7 +101,7 @@ fn compare_at(text: &str, range: KeyRange, key: &str) -> Ordering
     bytes_at(text, range).cmp(key.as_bytes())
 }
 
-/// Appends a key to the text, and its entry to the entries.
+/// Appends a key to the joined text, and its byte range with its group to `ranges`.
 fn extend(
     text: &mut String,
     ranges: &mut Vec<KeyRange>,
@@ -199,7 +199,7 @@ impl<'a> Model for KeyEntries<'a> {
     ghost invariant = { λ left. AllByRecursion (IsKeyRange left.text.now) left.ranges.now };
 }
 
-/// Returns the key of an entry.
+/// Returns the key at this range of the table's text.
 fn key_of<'a>(text: &'a str, range: KeyRange) -> &'a str
     requires { IsKeyRange text.now range }
     ensures { result.now ≡ key_at text.now range }

@@ -52,7 +52,8 @@ struct FirstWrong<'a> {
     range: Range<usize>,
 }
 
-/// Returns what is wrong with an item if `levels` levels are left in its text.
+/// Returns what is wrong with an item, or `None` if it has no fault. Placeholders in the text of
+/// the item may be nested up to `levels` levels deep.
 fn wrong_item<'a>(
     measurer: &mut Measurer<'a>,
     item: Item<'a>,
@@ -94,7 +95,7 @@ fn wrong_item<'a>(
 
 /// Returns the byte position where a piece of a text ends. A malformed piece takes the rest of the
 /// text.
-fn end_of(piece: Option<GrokComponent<'_>>, text: &str) -> usize
+pub(crate) fn end_of(piece: Option<GrokComponent<'_>>, text: &str) -> usize
     ensures { (known : Piece) → option_map piece_view piece.entry ≡ Some known →
         result ≡ end_of text.now known }
 {
@@ -105,7 +106,8 @@ fn end_of(piece: Option<GrokComponent<'_>>, text: &str) -> usize
     }
 }
 
-/// Finds the first piece of a text that has a fault, if `levels` levels are left in that text.
+/// Returns the first piece of a text that has a fault, or `None` if the text has none. Placeholders
+/// in the text may be nested up to `levels` levels deep.
 fn first_wrong<'a>(
     measurer: &mut Measurer<'a>,
     text: &'a str,

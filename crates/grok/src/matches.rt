@@ -8,7 +8,7 @@ ghost use Rattle.std.specs.List.Sorted.{IsStrictlySortedBy};
 ghost use Rattle.std.specs.Map.{keys_of};
 ghost use Rattle.std.specs.Cmp.Lexicographic.{slice_cmp};
 ghost use Rattle.std.specs.Ordering.{nat_cmp};
-ghost use Rattle.grok.specs.Captures.{text_of, capture_texts, AreSlicesOf};
+ghost use Rattle.grok.specs.Captures.{text_of, capture_texts, IsMatchIn};
 ghost use Rattle.std.specs.Fmt.{DisplaysOnOk};
 ghost use Rattle.grok.specs.Maps.{pair_texts};
 ghost use Rattle.grok.specs.Debugs.{debug_pairs};
@@ -78,7 +78,7 @@ impl<'a, E> Model for MatchesOf<'a, E> {
 }
 
 impl<E: Engine> PatternOf<E> {
-    /// Makes a pattern of these parts.
+    /// Makes a pattern from its engine, the table of its keys, and the extracts by key.
     #[tactic(auto, using(crate::proofs::KeyTables::WalksAreSorted::extract_found))]
     pub(crate) fn new(
         alloc: Global,
@@ -115,14 +115,11 @@ impl<E: Engine> PatternOf<E> {
         &'a self,
         text: &'a str,
     ) -> Result<Option<MatchesOf<'a, E>>, AllocError>
-        ensures captures { IfOk result (λ found. option_map (λ matches. matches.captures) found
-            ≡ E.answer_to self.now.engine text.now) }
+        ensures captures { IfOk result (λ found. IsMatchIn text.now (E.answer_to self.now.engine)
+            (length (E.group_names self.now.engine))
+            (option_map (λ matches. matches.captures) found)) }
         ensures pattern { IfOk result
             (λ found. IfSome found (λ matches. matches.pattern ≡ self.now)) }
-        ensures all_groups { IfOk result (λ found. IfSome found (λ matches. length matches.captures
-            ≡ length (E.group_names self.now.engine))) }
-        ensures slices { IfOk result
-            (λ found. IfSome found (λ matches. AreSlicesOf text.now matches.captures)) }
     {
         match self.engine.captures(self.alloc, text)? {
             Some(captures) => Ok(Some(MatchesOf::new(self, captures))),
@@ -290,7 +287,7 @@ impl<'a> Model for MatchesIter<'a> {
 impl<'a> MatchesIter<'a> {
     ghost use Rattle.grok.specs.Groups.{group_texts};
 
-    /// Returns the pairs of these groups.
+    /// Returns each key whose group took part in the match, with the text of that group.
     pub(crate) fn new(keys: &'a KeyTable, groups: GroupTexts<'a>) -> MatchesIter<'a>
         ensures pairs { result ≡ walk keys.now (group_texts groups.entry) }
         ensures sorted { IsStrictlySortedBy (slice_cmp nat_cmp) (keys_of result) }

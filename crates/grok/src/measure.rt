@@ -8,7 +8,7 @@ mod cache;
 pub(crate) mod full_measure;
 pub(crate) mod measurer;
 pub(crate) mod mode;
-mod partial_size;
+pub(crate) mod partial_size;
 mod placeholders;
 
 use crate::defs::Grok;

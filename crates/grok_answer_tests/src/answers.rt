@@ -1,19 +1,20 @@
-//! The answers of each row to its lines over `regex`, and what a pattern and a match are beside.
+//! Tests of what the pattern of each row finds in its lines, over `regex`. Further tests are of what a pattern owns,
+//! of the default definitions, and of debug texts.
 
 use crate::compiling::check_keys;
 use crate::library::library;
-use crate::rows::{Row, rows};
+use crate::rows::{Row, all_rows};
 use grok::{Error, Grok, Matches, MatchesRef, Pattern, patterns};
 use std::alloc::{AllocError, Global};
 use std::process::Abort;
 use std::test::Fail;
 
-/// Keys of some rows, and texts that are nearly keys of theirs.
+/// Keys of some rows, and texts that look much like keys.
 const NEAR_KEYS: &[&str] = &[
     "", "A", "A[", "A[1", "A[1]", "A[1]x", "A[2]", "B", "C", "_n_0", "a", "unknown",
 ];
 
-/// Adds `KEY=VALUE` at the end.
+/// Appends `KEY=VALUE`, after a comma if it isn't the first pair.
 fn push_pair(all: &mut String, key: &str, value: &str) -> Result<(), AllocError> {
     if !all.is_empty() {
         all.push_str(", ")?;
@@ -21,7 +22,7 @@ fn push_pair(all: &mut String, key: &str, value: &str) -> Result<(), AllocError>
     write!(all, "{key}={value}")
 }
 
-/// The pairs of a match by `iter`.
+/// Returns the pairs of a match as `iter` returns them.
 fn by_iter<'a>(alloc: Global, found: &'a Matches<'a>) -> Result<String, AllocError> {
     let mut all = String::new(alloc);
     for (key, value) in found.iter() {
@@ -30,7 +31,7 @@ fn by_iter<'a>(alloc: Global, found: &'a Matches<'a>) -> Result<String, AllocErr
     Ok(all)
 }
 
-/// The pairs of a match by a `for` over it.
+/// Returns the pairs of a match as a `for` loop over it returns them.
 fn by_for<'a>(alloc: Global, found: &'a Matches<'a>) -> Result<String, AllocError> {
     let mut all = String::new(alloc);
     for (key, value) in found {
@@ -39,7 +40,7 @@ fn by_for<'a>(alloc: Global, found: &'a Matches<'a>) -> Result<String, AllocErro
     Ok(all)
 }
 
-/// The pairs of a match by `collect`.
+/// Returns the pairs of a match as `collect` returns them.
 fn by_collect<'a>(alloc: Global, found: &'a Matches<'a>) -> Result<String, AllocError> {
     let mut all = String::new(alloc);
     for (key, value) in found.collect(alloc)?.iter() {
@@ -48,7 +49,7 @@ fn by_collect<'a>(alloc: Global, found: &'a Matches<'a>) -> Result<String, Alloc
     Ok(all)
 }
 
-/// The pairs of a match by `collect_map`.
+/// Returns the pairs of a match as `collect_map` returns them.
 fn by_map<'a>(alloc: Global, found: &'a Matches<'a>) -> Result<String, AllocError> {
     let mut all = String::new(alloc);
     for (key, value) in found.collect_map(alloc)?.iter() {
@@ -57,7 +58,7 @@ fn by_map<'a>(alloc: Global, found: &'a Matches<'a>) -> Result<String, AllocErro
     Ok(all)
 }
 
-/// The pairs of a match that is borrowed.
+/// Returns the pairs of a match that is borrowed from a matcher.
 fn by_lent(alloc: Global, found: MatchesRef<'_>) -> Result<String, AllocError> {
     let mut all = String::new(alloc);
     for (key, value) in &found {
@@ -66,7 +67,7 @@ fn by_lent(alloc: Global, found: MatchesRef<'_>) -> Result<String, AllocError> {
     Ok(all)
 }
 
-/// The match has these pairs by each way to have them.
+/// Checks that the match has the expected pairs, whichever call returns them.
 fn check_each_way<'a>(
     rt: &(impl Abort + AllocGlobal),
     name: &str,
@@ -87,7 +88,7 @@ fn check_each_way<'a>(
     Ok(())
 }
 
-/// The value that the pairs of a match give the key.
+/// Returns the value of the key among the pairs of a match, or `None` if no pair has the key.
 fn paired_with<'a>(found: &'a Matches<'a>, key: &str) -> Option<&'a str> {
     let mut paired = None;
     for (other, value) in found.iter() {
@@ -98,13 +99,13 @@ fn paired_with<'a>(found: &'a Matches<'a>, key: &str) -> Option<&'a str> {
     paired
 }
 
-/// The key has the value that the pairs of the match give it.
+/// Checks that `get` returns for the key the value that the pairs of the match have for it.
 fn check_value<'a>(rt: &impl Abort, name: &str, found: &'a Matches<'a>, key: &str) {
     let is_right = found.get(key) == paired_with(found, key);
     assert!(rt; is_right, "{name}: {key}");
 }
 
-/// Each key of the match, and each text that is nearly one, has the value that its pairs give it.
+/// Checks that `get` agrees with the pairs of the match, for each key of its pattern and each of `NEAR_KEYS`.
 fn check_values<'a>(rt: &impl Abort, name: &str, found: &'a Matches<'a>) {
     for key in found.pattern().capture_names() {
         check_value(rt, name, found, key);
@@ -114,7 +115,7 @@ fn check_values<'a>(rt: &impl Abort, name: &str, found: &'a Matches<'a>) {
     }
 }
 
-/// The match has these pairs, and each of its keys has its value.
+/// Checks that the match has the expected pairs, and that `get` agrees with them.
 fn check_found<'a>(
     rt: &(impl Abort + AllocGlobal),
     name: &str,
@@ -127,7 +128,7 @@ fn check_found<'a>(
     Ok(())
 }
 
-/// The answer to a line is `no match`, or else these pairs.
+/// Checks that the match of a line has the expected pairs, or that there is none if `expected` is `no match`.
 pub(crate) fn check_answer(
     rt: &(impl Abort + AllocGlobal),
     name: &str,
@@ -144,7 +145,8 @@ pub(crate) fn check_answer(
     }
 }
 
-/// What a matcher lends for a line is `no match`, or else these pairs.
+/// Checks that the match that `find` returned for a line has the expected pairs, or that there is none if `expected`
+/// is `no match`.
 fn check_lent(
     rt: &(impl Abort + AllocGlobal),
     name: &str,
@@ -161,7 +163,7 @@ fn check_lent(
     Ok(())
 }
 
-/// Each line has its answer, from the pattern and from a matcher that is kept.
+/// Checks each line of the row by the pattern's own call, and by both calls of a matcher that is kept for all lines.
 fn check_lines(rt: &(impl Abort + AllocGlobal), row: &Row, pattern: &Pattern) -> Result<(), Fail> {
     let mut kept = pattern.matcher()?;
     for (line, expected) in row.lines {
@@ -172,8 +174,11 @@ fn check_lines(rt: &(impl Abort + AllocGlobal), row: &Row, pattern: &Pattern) ->
     Ok(())
 }
 
-/// The lines of the row have their answers in each of its modes.
+/// The lines of the row, if it has any, have their answers in each of its modes.
 fn check_row(rt: &(impl Abort + AllocGlobal), row: &Row) -> Result<(), Fail> {
+    if row.lines.is_empty() {
+        return Ok(());
+    }
     let grok = library(rt.alloc(), row.definitions)?;
     for with_alias_only in row.modes {
         let pattern = grok.compile(row.pattern, *with_alias_only)?;
@@ -182,31 +187,22 @@ fn check_row(rt: &(impl Abort + AllocGlobal), row: &Row) -> Result<(), Fail> {
     Ok(())
 }
 
-/// Each of these rows holds that has lines.
-fn check_rows(rt: &(impl Abort + AllocGlobal), rows: &[Row]) -> Result<(), Fail> {
-    for row in rows {
-        if !row.lines.is_empty() {
-            check_row(rt, row)?;
-        }
-    }
-    Ok(())
-}
-
 #[test]
 fn answers_to_lines(rt: HostRuntime) -> Result<(), Fail> {
-    for part in rows() {
-        check_rows(&rt, part)?;
+    let rows = all_rows(rt.alloc())?;
+    for row in &rows {
+        check_row(&rt, row)?;
     }
     Ok(())
 }
 
-/// The pattern, whose library is gone.
+/// Returns a pattern whose library was dropped.
 fn word_pattern(alloc: Global) -> Result<Pattern, Error> {
     let grok = Grok::from_iter(alloc, &[("WORD", "[a-z]+")])?;
     grok.compile("%{WORD:usr:text}", true)
 }
 
-/// Two matches of a pattern, the later one read first.
+/// Checks two matches of a pattern that exist at the same time. The later one is read first.
 fn check_two_matches(rt: &(impl Abort + AllocGlobal), pattern: &Pattern) -> Result<(), Fail> {
     let first = pattern.match_against("john 1")?;
     let second = pattern.match_against("2 root")?;
@@ -214,7 +210,7 @@ fn check_two_matches(rt: &(impl Abort + AllocGlobal), pattern: &Pattern) -> Resu
     check_answer(rt, "the earlier match", first, "john 1", "usr=john")
 }
 
-/// A pattern outlives its library, and serves many matches at a time.
+/// A pattern outlives its library, and several of its matches can exist at the same time.
 #[test]
 fn a_pattern_owns_what_it_holds(rt: HostRuntime) -> Result<(), Fail> {
     let pattern = word_pattern(rt.alloc())?;
@@ -223,14 +219,14 @@ fn a_pattern_owns_what_it_holds(rt: HostRuntime) -> Result<(), Fail> {
     check_two_matches(&rt, &pattern)
 }
 
-/// `%{A}` compiles into this text.
+/// Checks that `%{A}` compiles into this text.
 fn check_text(rt: &impl Abort, grok: &Grok, expected: &str) -> Result<(), Fail> {
     let pattern = grok.compile("%{A}", false)?;
     assert_eq!(rt; pattern.text(), expected);
     Ok(())
 }
 
-/// The definition of `A` is set to `c` after the pattern was compiled, which keeps its own.
+/// Sets the definition of `A` to `c`, and checks that an earlier pattern and an earlier clone keep the old one.
 fn check_set_again(rt: &impl Abort, grok: &mut Grok, earlier: &Pattern) -> Result<(), Fail> {
     let copy = grok.clone()?;
     grok.add_pattern("A", "c")?;
@@ -239,7 +235,7 @@ fn check_set_again(rt: &impl Abort, grok: &mut Grok, earlier: &Pattern) -> Resul
     check_text(rt, &copy, "(?<_n_0>b)")
 }
 
-/// The definitions that a pattern is compiled with are those at that time.
+/// A pattern has the definitions that its library had when it was compiled.
 #[test]
 fn definitions_set_again(rt: HostRuntime) -> Result<(), Fail> {
     let mut grok = library(rt.alloc(), &[("A", "a%{B}")])?;
@@ -248,14 +244,14 @@ fn definitions_set_again(rt: HostRuntime) -> Result<(), Fail> {
     check_set_again(&rt, &mut grok, &earlier)
 }
 
-/// The pattern of the name compiles, and has the one key.
+/// Checks that a placeholder with this name and the alias `k` compiles, and that `k` is the only key.
 fn check_default(rt: &(impl Abort + AllocGlobal), grok: &Grok, name: &str) -> Result<(), Fail> {
     let text = format!(in rt.alloc(); "^%{{{name}:k}}$")?;
     let pattern = grok.compile(text.as_str(), true)?;
     check_keys(rt, name, &pattern, "k")
 }
 
-/// Each of the default definitions compiles by its name.
+/// Each of the default definitions compiles.
 #[test]
 fn the_ten_compile(rt: HostRuntime) -> Result<(), Fail> {
     let grok = Grok::with_default_patterns(rt.alloc())?;
@@ -265,7 +261,7 @@ fn the_ten_compile(rt: HostRuntime) -> Result<(), Fail> {
     Ok(())
 }
 
-/// A pattern is shown by its text and its extracts.
+/// Checks that the debug text of a pattern has its expanded text and its extracts.
 fn check_shown_pattern(rt: &(impl Abort + AllocGlobal), pattern: &Pattern) -> Result<(), Fail> {
     let shown = format!(in rt.alloc(); "{pattern:?}")?;
     assert_eq!(rt;
@@ -275,7 +271,7 @@ fn check_shown_pattern(rt: &(impl Abort + AllocGlobal), pattern: &Pattern) -> Re
     Ok(())
 }
 
-/// An answer to a line is shown by its pairs, and a library by its definitions.
+/// Checks that the debug text of a match has its pairs, and that of a library its definitions.
 fn check_shown_answer(
     rt: &(impl Abort + AllocGlobal),
     grok: &Grok,

@@ -1,13 +1,13 @@
-//! What compiling each row gives over `regex`: the text, the keys and the extracts; or the error.
+//! Tests of what compiling each row over `regex` returns: a pattern with its text, keys and extracts, or an error.
 
 use crate::library::library;
-use crate::rows::{Compiled, Row, rows};
+use crate::rows::{Compiled, Row, all_rows};
 use grok::{Engine, Error, Grok, Pattern, PatternOf};
 use std::alloc::{AllocError, Global};
 use std::process::Abort;
 use std::test::Fail;
 
-/// Adds a key at the end.
+/// Appends a key, after a space if it isn't the first one.
 fn push_key(all: &mut String, key: &str) -> Result<(), AllocError> {
     if !all.is_empty() {
         all.push_str(" ")?;
@@ -15,7 +15,7 @@ fn push_key(all: &mut String, key: &str) -> Result<(), AllocError> {
     all.push_str(key)
 }
 
-/// The keys of a pattern, with a space between.
+/// Returns the keys of a pattern, with a space between them.
 fn keys_of(alloc: Global, pattern: &Pattern) -> Result<String, AllocError> {
     let mut all = String::new(alloc);
     for key in pattern.capture_names() {
@@ -24,7 +24,7 @@ fn keys_of(alloc: Global, pattern: &Pattern) -> Result<String, AllocError> {
     Ok(all)
 }
 
-/// The pattern has these keys.
+/// Checks that the pattern has these keys.
 pub(crate) fn check_keys(
     rt: &(impl Abort + AllocGlobal),
     name: &str,
@@ -36,7 +36,7 @@ pub(crate) fn check_keys(
     Ok(())
 }
 
-/// The row says that the engine takes the pattern, which has the text and the keys of the row.
+/// Checks that the row expects a pattern, and that this one has the text and the keys of the row.
 fn check_pattern(
     rt: &(impl Abort + AllocGlobal),
     row: &Row,
@@ -55,7 +55,7 @@ fn check_pattern(
     }
 }
 
-/// The pattern has the extracts of the row.
+/// Checks that the pattern has the extracts of the row.
 pub(crate) fn check_extracts<E: Engine>(rt: &impl Abort, row: &Row, pattern: &PatternOf<E>) {
     for (key, expected) in row.extracts {
         let is_right = pattern.get_extract(key) == *expected;
@@ -63,7 +63,7 @@ pub(crate) fn check_extracts<E: Engine>(rt: &impl Abort, row: &Row, pattern: &Pa
     }
 }
 
-/// The error has this debug text.
+/// Checks that the error has this debug text.
 pub(crate) fn check_debug(
     rt: &(impl Abort + AllocGlobal),
     row: &Row,
@@ -75,7 +75,7 @@ pub(crate) fn check_debug(
     Ok(())
 }
 
-/// The error says that the engine refuses this text.
+/// Checks that the error is the one for an expanded text that the engine refuses, with this text.
 pub(crate) fn check_refusal(
     rt: &(impl Abort + AllocGlobal),
     row: &Row,
@@ -88,7 +88,7 @@ pub(crate) fn check_refusal(
     Ok(())
 }
 
-/// The error is that of the row.
+/// Checks that the row expects an error, and that it is this one.
 fn check_error(rt: &(impl Abort + AllocGlobal), row: &Row, error: &Error) -> Result<(), Fail> {
     match row.compiled {
         Compiled::Refused(text) => check_refusal(rt, row, error, text),
@@ -100,7 +100,7 @@ fn check_error(rt: &(impl Abort + AllocGlobal), row: &Row, error: &Error) -> Res
     }
 }
 
-/// Compiling gives what the row says.
+/// Checks that compiling in this mode returns the pattern or the error that the row expects.
 fn check_mode(
     rt: &(impl Abort + AllocGlobal),
     row: &Row,
@@ -125,18 +125,11 @@ fn check_row(rt: &(impl Abort + AllocGlobal), row: &Row) -> Result<(), Fail> {
     Ok(())
 }
 
-/// Each of these rows holds.
-fn check_rows(rt: &(impl Abort + AllocGlobal), rows: &[Row]) -> Result<(), Fail> {
-    for row in rows {
-        check_row(rt, row)?;
-    }
-    Ok(())
-}
-
 #[test]
 fn compiled_texts(rt: HostRuntime) -> Result<(), Fail> {
-    for part in rows() {
-        check_rows(&rt, part)?;
+    let rows = all_rows(rt.alloc())?;
+    for row in &rows {
+        check_row(&rt, row)?;
     }
     Ok(())
 }

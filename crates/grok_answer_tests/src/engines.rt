@@ -1,8 +1,9 @@
-//! What compiling each row gives over engines that take every text, or none.
+//! Tests of what compiling each row returns over engines that accept every text, and over one that refuses every
+//! text.
 
 use crate::compiling::{check_debug, check_extracts, check_refusal};
 use crate::library::library;
-use crate::rows::{Compiled, Row, rows};
+use crate::rows::{Compiled, Row, all_rows};
 use crate::showing::shown;
 use grok::{Engine, Error, Grok, MatchesOf, PatternOf};
 use grok_engines::{Bare, Heads, Refuser};
@@ -10,7 +11,8 @@ use std::alloc::AllocError;
 use std::process::Abort;
 use std::test::Fail;
 
-/// The pattern is shown by the text of the row and, where that is said, by this after it.
+/// Checks that the pattern has the text of the row. If `suffix` isn't `None`, `shown` has to return that text and the
+/// suffix. A row that doesn't state a text passes.
 fn check_shown<E: Engine>(
     rt: &(impl Abort + AllocGlobal),
     row: &Row,
@@ -28,7 +30,7 @@ fn check_shown<E: Engine>(
     Ok(())
 }
 
-/// The row has this error, which is not the engine's.
+/// Checks that the row expects this error, and not one by which the engine refuses a text.
 fn check_error(rt: &(impl Abort + AllocGlobal), row: &Row, error: &Error) -> Result<(), Fail> {
     if let Compiled::Error(expected) = row.compiled {
         check_debug(rt, row, error, expected)
@@ -38,7 +40,7 @@ fn check_error(rt: &(impl Abort + AllocGlobal), row: &Row, error: &Error) -> Res
     }
 }
 
-/// Over an engine that takes every text the row has its text or its error, and its extracts.
+/// Checks the text, the extracts or the error of the row over an engine that accepts every text.
 fn check_taken<E: Engine>(
     rt: &(impl Abort + AllocGlobal),
     row: &Row,
@@ -57,7 +59,8 @@ fn check_taken<E: Engine>(
     }
 }
 
-/// Over an engine that refuses every text the row has its error, or that of its text.
+/// Checks that over an engine that refuses every text, compiling returns the error of the row or the refusal of its
+/// text.
 fn check_refused(
     rt: &(impl Abort + AllocGlobal),
     row: &Row,
@@ -86,30 +89,23 @@ fn check_row(rt: &(impl Abort + AllocGlobal), row: &Row) -> Result<(), Fail> {
     let grok = library(rt.alloc(), row.definitions)?;
     for with_alias_only in row.modes {
         check_taken::<Heads>(rt, row, &grok, *with_alias_only, row.over_heads)?;
-        // Without groups a pattern has no keys, and yet its extracts.
+        // Over `Bare` a pattern has no groups and so no keys, but it still has its extracts.
         check_taken::<Bare>(rt, row, &grok, *with_alias_only, Some(" | 0 0"))?;
         check_refused(rt, row, &grok, *with_alias_only)?;
     }
     Ok(())
 }
 
-/// Each of these rows holds.
-fn check_rows(rt: &(impl Abort + AllocGlobal), rows: &[Row]) -> Result<(), Fail> {
-    for row in rows {
-        check_row(rt, row)?;
-    }
-    Ok(())
-}
-
 #[test]
 fn other_engines(rt: HostRuntime) -> Result<(), Fail> {
-    for part in rows() {
-        check_rows(&rt, part)?;
+    let rows = all_rows(rt.alloc())?;
+    for row in &rows {
+        check_row(&rt, row)?;
     }
     Ok(())
 }
 
-/// The first and the third group took part, and the second did not.
+/// Checks that the first and the third group have the line as their value, and that the second has none.
 fn check_values(rt: &impl Abort, found: &MatchesOf<'_, Heads>, line: &str) {
     for (key, expected) in [
         ("x", Some(line)),
@@ -122,7 +118,7 @@ fn check_values(rt: &impl Abort, found: &MatchesOf<'_, Heads>, line: &str) {
     assert_eq!(rt; found.pattern().text(), "(?<_n_0>a)(?<_n_1>a)(?<_n_2>a)");
 }
 
-/// The answer to a line is a match with those values.
+/// Checks that the line matches, with the values of `check_values`.
 fn check_found(rt: &impl Abort, found: Option<MatchesOf<'_, Heads>>, line: &str) {
     match found {
         Some(found) => check_values(rt, &found, line),
@@ -130,7 +126,7 @@ fn check_found(rt: &impl Abort, found: Option<MatchesOf<'_, Heads>>, line: &str)
     }
 }
 
-/// A pattern gives these lines those values.
+/// Checks what the pattern's own call finds in three lines.
 fn check_pattern(rt: &impl Abort, pattern: &PatternOf<Heads>) -> Result<(), AllocError> {
     for line in ["q", "", "other"] {
         check_found(rt, pattern.match_against(line)?, line);
@@ -138,16 +134,16 @@ fn check_pattern(rt: &impl Abort, pattern: &PatternOf<Heads>) -> Result<(), Allo
     Ok(())
 }
 
-/// A matcher that is kept gives these lines those values.
+/// Checks what one kept matcher finds in three lines, one after the other.
 fn check_matcher(rt: &impl Abort, pattern: &PatternOf<Heads>) -> Result<(), AllocError> {
+    let mut kept = pattern.matcher()?;
     for line in ["q", "", "other"] {
-        let mut kept = pattern.matcher()?;
         check_found(rt, kept.match_against(line)?, line);
     }
     Ok(())
 }
 
-/// A group that took no part has no value, and a kept matcher answers the same.
+/// A group that took no part has no value, whether the pattern or a matcher is asked.
 #[test]
 fn values_over_heads(rt: HostRuntime) -> Result<(), Fail> {
     let grok = Grok::from_iter(rt.alloc(), &[("A", "a")])?;

@@ -9,7 +9,7 @@ use std::collections::{BTreeMap, BTreeSet};
 /// How deeply placeholders may be nested.
 const LEVELS: usize = 1023;
 
-/// How many pieces this expansion reads at most.
+/// How many pieces this expansion reads at most before it gives up.
 const MOST_PIECES: usize = 100_000;
 
 /// Names with their texts, each name once.
@@ -88,7 +88,7 @@ impl Texts {
     }
 }
 
-/// Returns the last text of the name.
+/// Returns the text of the last pair with this name, or `None` if there is no such pair.
 fn last_of<'a>(pairs: &[(&'a str, &'a str)], name: &str) -> Option<&'a str> {
     let mut found = None;
     for (other, text) in pairs {
@@ -185,7 +185,7 @@ impl<'a> Expansion<'a> {
         Ok(())
     }
 
-    /// Assigns a capturing placeholder its number and its key.
+    /// Assigns a capturing placeholder its number and its key, and writes the head of its group.
     fn record(&mut self, base: &'a str, extract: &'a str) -> Result<(), AllocError> {
         let number = self.keys.len();
         let key = self.next_key(base)?;
@@ -207,7 +207,7 @@ impl<'a> Expansion<'a> {
     }
 
     /// Writes the head of the group of a placeholder, and returns the definition that it stands for.
-    fn place(
+    fn open_definition(
         &mut self,
         texts: &'a Texts,
         own: &[(&'a str, &'a str)],
@@ -251,7 +251,7 @@ impl<'a> Expansion<'a> {
                 if !definition.is_empty() {
                     own.push((name, definition))?;
                 }
-                self.place(texts, own.as_slice(), name, alias, extract)
+                self.open_definition(texts, own.as_slice(), name, alias, extract)
             }
         }
     }

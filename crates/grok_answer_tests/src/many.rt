@@ -1,4 +1,4 @@
-//! Compares many small libraries, which are generated from a fixed seed, with a plain expansion.
+//! Compares what many small libraries return, which are generated from a fixed seed, with a plain expansion.
 
 use crate::expansion::{Ending, Expansion, Texts};
 use crate::showing::shown;
@@ -78,8 +78,8 @@ impl Numbers {
 
     /// Returns one of the choices.
     fn pick<'c>(&mut self, choices: &[&'c str]) -> &'c str {
-        let place = self.below(choices.len());
-        choices.get(place).copied().unwrap_or("")
+        let index = self.below(choices.len());
+        choices.get(index).copied().unwrap_or("")
     }
 }
 
@@ -143,12 +143,12 @@ fn add_name(
     texts: &mut Texts,
     numbers: &mut Numbers,
     kind: Kind,
-    (place, name): (usize, &'static str),
+    (index, name): (usize, &'static str),
 ) -> Result<(), AllocError> {
     let first = if kind.has_circles {
         0
     } else {
-        place.saturating_add(1)
+        index.saturating_add(1)
     };
     let text = made_text(alloc, numbers, kind, first, 4)?;
     if numbers.below(12) != 0 || !kind.has_faults {
@@ -160,8 +160,8 @@ fn add_name(
 /// Returns some of the names, each with a generated text.
 fn made_texts(alloc: Global, numbers: &mut Numbers, kind: Kind) -> Result<Texts, AllocError> {
     let mut texts = Texts::new(alloc);
-    for (place, name) in NAMES.iter().enumerate() {
-        add_name(alloc, &mut texts, numbers, kind, (place, *name))?;
+    for (index, name) in NAMES.iter().enumerate() {
+        add_name(alloc, &mut texts, numbers, kind, (index, *name))?;
     }
     Ok(texts)
 }
@@ -315,12 +315,12 @@ fn table_of(
     let numbered = generated_names(alloc, expansion)?;
     let mut table = BTreeMap::new(alloc);
     let mut rest = expansion.text();
-    for place in 0..rest.len() {
+    for index in 0..rest.len() {
         let Some((name, tail)) = first_group(rest) else {
             break;
         };
         let key = numbered.get(name).copied().unwrap_or(name);
-        table.insert(String::from_str(alloc, key)?, place + 1)?;
+        table.insert(String::from_str(alloc, key)?, index + 1)?;
         rest = tail;
     }
     Ok(table)

@@ -1,12 +1,12 @@
-//! The measure of each row, and the looks that it takes.
+//! Tests of the measure of each row, and of the looks (pieces and ends that were read) that measuring takes.
 
 use crate::library::library;
-use crate::rows::{Measured, Row, rows};
+use crate::rows::{Measured, Row, all_rows};
 use grok::{Grok, Looks, Measure};
 use std::process::Abort;
 use std::test::Fail;
 
-/// The measure that the row has.
+/// Returns the measure that the row expects.
 fn measure_of(row: &Row) -> Measure<'static> {
     match row.measured {
         Measured::Size(length, groups, nesting) => Measure::Size {
@@ -18,13 +18,14 @@ fn measure_of(row: &Row) -> Measure<'static> {
     }
 }
 
-/// The measure is that of the row.
+/// Checks that the measure is that of the row.
 fn check_measure(rt: &impl Abort, row: &Row, given: Measure<'_>) {
     let is_right = given == measure_of(row);
     assert!(rt; is_right, "{}: {given:?}", row.name);
 }
 
-/// Both calls give the measure, and the looks are as many as the row says.
+/// Checks that `measure` and `measure_counted` return the measure of the row, and that the latter takes as many looks
+/// as the row says.
 fn check_mode(rt: &impl Abort, row: &Row, grok: &Grok, with_alias_only: bool) -> Result<(), Fail> {
     check_measure(rt, row, grok.measure(row.pattern, with_alias_only)?);
     let (given, looks) = grok.measure_counted(row.pattern, with_alias_only)?;
@@ -43,18 +44,11 @@ fn check_row(rt: &(impl Abort + AllocGlobal), row: &Row) -> Result<(), Fail> {
     Ok(())
 }
 
-/// Each of these rows holds.
-fn check_rows(rt: &(impl Abort + AllocGlobal), rows: &[Row]) -> Result<(), Fail> {
-    for row in rows {
-        check_row(rt, row)?;
-    }
-    Ok(())
-}
-
 #[test]
 fn measures(rt: HostRuntime) -> Result<(), Fail> {
-    for part in rows() {
-        check_rows(&rt, part)?;
+    let rows = all_rows(rt.alloc())?;
+    for row in &rows {
+        check_row(&rt, row)?;
     }
     Ok(())
 }

@@ -38,14 +38,14 @@ impl Asked<'_> {
     fn check(
         &mut self,
         rt: &(impl Abort + AllocGlobal),
-        place: &str,
+        call: &str,
         line: &str,
         expected: &str,
     ) -> Result<(), Fail> {
-        check_answer(rt, place, self.pattern.match_against(line)?, line, expected)?;
-        check_answer(rt, place, self.kept.match_against(line)?, line, expected)?;
+        check_answer(rt, call, self.pattern.match_against(line)?, line, expected)?;
+        check_answer(rt, call, self.kept.match_against(line)?, line, expected)?;
         let fresh = self.grok.compile(self.text, true)?;
-        check_answer(rt, place, fresh.match_against(line)?, line, expected)
+        check_answer(rt, call, fresh.match_against(line)?, line, expected)
     }
 }
 
@@ -69,8 +69,8 @@ fn check_in_order(
         let Some((line, expected)) = lines.get(at) else {
             return Err("no lines")?;
         };
-        let place = format!(in rt.alloc(); "{name}, call {number}, {expected}")?;
-        asked.check(rt, place.as_str(), line, expected)?;
+        let call = format!(in rt.alloc(); "{name}, call {number}, {expected}")?;
+        asked.check(rt, call.as_str(), line, expected)?;
     }
     Ok(())
 }

@@ -6,8 +6,9 @@ use crate::rows::Measured::{Faulty, Size};
 use grok::Fault;
 use grok::Fault::{Malformed, Missing, TooDeep};
 use grok::parser::GrokPatternError::{InvalidCharacter, InvalidPattern, InvalidPatternDefinition};
+use std::alloc::{AllocError, Global};
 
-/// What `measure` answers.
+/// What `measure` has to return for a row.
 #[derive(Clone, Copy)]
 pub enum Measured {
     /// The length in bytes, the number of groups, and the nesting.
@@ -15,23 +16,23 @@ pub enum Measured {
     Faulty(Fault<'static>),
 }
 
-/// What `compile` answers.
+/// What `compile` has to return for a row.
 #[derive(Clone, Copy)]
 pub enum Compiled {
-    /// The text, and the keys with a space between.
+    /// A pattern with this expanded text, and with these keys, which have a space between them.
     Pattern(&'static str, &'static str),
-    /// The keys alone, where default definitions make the text long.
+    /// A pattern with these keys. Its text isn't stated, because default definitions make it long.
     Keys(&'static str),
-    /// The text, which `regex` refuses.
+    /// The error that `regex` refuses this expanded text.
     Refused(&'static str),
-    /// The debug text of the error.
+    /// The error with this debug text.
     Error(&'static str),
 }
 
-/// A pattern, and what it gives.
+/// A test case: a pattern over definitions, and all that is expected of it.
 #[derive(Clone, Copy)]
 pub struct Row {
-    /// What the row shows.
+    /// What this test case demonstrates.
     pub name: &'static str,
     /// Names with their definitions, set in this order after the default ones.
     pub definitions: &'static [(&'static str, &'static str)],
@@ -44,7 +45,8 @@ pub struct Row {
     pub looks: (u64, u64),
     pub measured: Measured,
     pub compiled: Compiled,
-    /// Over `Heads`, the keys and the pairs on the line `q`, as they are shown after the text.
+    /// What `shown` writes after the text of the pattern over the engine `Heads`: its keys, and the pairs that it
+    /// finds in the line `q`. With `None` this isn't checked.
     pub over_heads: Option<&'static str>,
     /// Keys with their extracts.
     pub extracts: &'static [(&'static str, Option<&'static str>)],
@@ -58,10 +60,10 @@ const EVERY: &[bool] = &[false];
 /// Placeholders with an alias capture, and no others.
 const ALIASED: &[bool] = &[true];
 
-/// In both modes the same.
+/// The row holds in both modes.
 const BOTH: &[bool] = &[false, true];
 
-/// What a row has where it says nothing else: the empty pattern.
+/// The defaults of a row: the empty pattern.
 const BLANK: Row = Row {
     name: "the empty pattern",
     definitions: &[],
@@ -241,7 +243,8 @@ const PLAIN: &[Row] = &[
     },
 ];
 
-/// Groups written by hand beside placeholders. Of the groups of one key the last one counts.
+/// Named groups that the pattern itself writes, beside placeholders. If several groups have one key, its value is
+/// that of the last one.
 const GROUPS: &[Row] = &[
     Row {
         name: "a generated name without a placeholder",
@@ -492,7 +495,7 @@ const PLACEHOLDERS: &[Row] = &[
         ..BLANK
     },
     Row {
-        name: "the eleventh group has a number of two places",
+        name: "the eleventh group has a number of two digits",
         definitions: A,
         pattern: "%{A}%{A}%{A}%{A}%{A}%{A}%{A}%{A}%{A}%{A}%{A}",
         modes: EVERY,
@@ -609,7 +612,7 @@ const PLACEHOLDERS: &[Row] = &[
     },
 ];
 
-/// Definitions that stand in the text.
+/// Inline definitions.
 const INLINE: &[Row] = &[
     Row {
         name: "a definition in the text",
@@ -854,7 +857,7 @@ const KEYS: &[Row] = &[
     },
 ];
 
-/// Missing definitions, and circles, each found where its name comes again.
+/// Missing definitions, and circles (definitions that use themselves).
 const FAULTS: &[Row] = &[
     Row {
         name: "a missing definition",
@@ -1425,8 +1428,8 @@ fn defaults() -> &'static [Row] {
     DEFAULTS
 }
 
-/// All rows, by what they are of. Each part stands in a function of its own, which keeps the proof of each short.
-pub(crate) fn rows() -> [&'static [Row]; 9] {
+/// The parts of the table. Each part stands in a function of its own, which keeps the proof of each short.
+fn parts() -> [&'static [Row]; 9] {
     [
         plain(),
         groups(),
@@ -1438,4 +1441,13 @@ pub(crate) fn rows() -> [&'static [Row]; 9] {
         extracts(),
         defaults(),
     ]
+}
+
+/// Returns all rows of the table, in its order.
+pub(crate) fn all_rows(alloc: Global) -> Result<Vec<Row>, AllocError> {
+    let mut all = Vec::new(alloc);
+    for part in parts() {
+        all.extend_from_slice(part)?;
+    }
+    Ok(all)
 }

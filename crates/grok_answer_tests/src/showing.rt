@@ -35,7 +35,7 @@ fn show_found<'a, E: Engine>(
     show_counts(alloc, all, found)
 }
 
-/// Appends the match of a line.
+/// Appends the pairs of the match of a line and how many they are, or ` no match`.
 fn show_answer<E: Engine>(
     alloc: Global,
     all: &mut String,

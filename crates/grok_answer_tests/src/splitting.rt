@@ -1,12 +1,12 @@
-//! The pieces of each row.
+//! Tests of the pieces of each row.
 
-use crate::rows::{Row, rows};
+use crate::rows::{Row, all_rows};
 use grok::parser::{GrokComponent, grok_split};
 use std::process::Abort;
 use std::test::Fail;
 
-/// Where a piece begins and ends, or nothing for a fault.
-fn place_of(piece: &GrokComponent<'_>) -> Option<(usize, usize)> {
+/// Returns the byte range of a piece, or `None` for a malformed placeholder.
+fn range_of(piece: &GrokComponent<'_>) -> Option<(usize, usize)> {
     match piece {
         GrokComponent::RegularExpression { range, .. } => Some((range.start, range.end)),
         GrokComponent::GrokPattern { range, .. } => Some((range.start, range.end)),
@@ -14,18 +14,18 @@ fn place_of(piece: &GrokComponent<'_>) -> Option<(usize, usize)> {
     }
 }
 
-/// The piece is displayed so and, unless it is a fault, has this place.
+/// Checks that the piece is displayed as `expected` and, unless it is a malformed placeholder, has this range.
 fn check_piece(
     rt: &(impl Abort + AllocGlobal),
     row: &Row,
     piece: &GrokComponent<'_>,
-    place: (usize, usize),
+    range: (usize, usize),
     expected: &str,
 ) -> Result<(), Fail> {
     let shown = format!(in rt.alloc(); "{piece}")?;
     assert_eq!(rt; shown.as_str(), expected, "{}", row.name);
-    if let Some(given) = place_of(piece) {
-        assert_eq!(rt; given, place, "{}", row.name);
+    if let Some(given) = range_of(piece) {
+        assert_eq!(rt; given, range, "{}", row.name);
     }
     Ok(())
 }
@@ -47,18 +47,11 @@ fn check_row(rt: &(impl Abort + AllocGlobal), row: &Row) -> Result<(), Fail> {
     Ok(())
 }
 
-/// Each of these rows holds.
-fn check_rows(rt: &(impl Abort + AllocGlobal), rows: &[Row]) -> Result<(), Fail> {
-    for row in rows {
-        check_row(rt, row)?;
-    }
-    Ok(())
-}
-
 #[test]
 fn pieces(rt: HostRuntime) -> Result<(), Fail> {
-    for part in rows() {
-        check_rows(&rt, part)?;
+    let rows = all_rows(rt.alloc())?;
+    for row in &rows {
+        check_row(&rt, row)?;
     }
     Ok(())
 }

@@ -23,7 +23,7 @@ fn chain_library(rt: &HostRuntime, count: u32) -> Result<Grok> {
     Ok(grok)
 }
 
-/// Prints the length of the text of a pattern or of a refusal, or the error.
+/// Prints the length of the expanded text if it was compiled or refused, and otherwise the error.
 fn show_answer(rt: &HostRuntime, answer: &Result<Pattern, Error>) -> Result<()> {
     match answer {
         Ok(pattern) => println!(rt; "a pattern of {} bytes", pattern.text().len())?,

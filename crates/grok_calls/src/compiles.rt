@@ -75,7 +75,7 @@ fn compile<E: Engine>(
     Ok(())
 }
 
-/// Compiles a text of `count` pieces without a placeholder, over an engine that makes one allocation.
+/// Compiles `count` regular pieces `%a`, over an engine that makes one allocation.
 fn compile_repeated(rt: &HostRuntime, count: usize) -> Result<()> {
     let mut pattern = String::new(rt.alloc());
     'pieces: for _ in 0..count {

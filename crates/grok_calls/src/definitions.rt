@@ -77,7 +77,7 @@ fn show<T: fmt::Debug + Drop>(rt: &HostRuntime, when: &str, value: T) -> Result<
     Ok(())
 }
 
-/// Prints the definitions of all names, and the measures and expanded texts of the patterns.
+/// Prints all definitions of the library, and for each of `PATTERNS` its measure and the compiled pattern.
 fn show_library(rt: &HostRuntime, when: &str, grok: &Grok) -> Result<()> {
     show(rt, when, grok)?;
     'patterns: for pattern in PATTERNS {
@@ -87,7 +87,7 @@ fn show_library(rt: &HostRuntime, when: &str, grok: &Grok) -> Result<()> {
     Ok(())
 }
 
-/// Gives the name a definition, and prints the library before that and after each call.
+/// Sets the definition of `name` twice, and prints the library before the first call and after each of them.
 fn add_pattern(rt: &HostRuntime, name: &str) -> Result<()> {
     let mut grok = Grok::from_iter(rt.alloc(), &PAIRS)?;
     show_library(rt, "before", &grok)?;

@@ -1,15 +1,15 @@
 //! Makes one call of the library or of the program's commands, the one that the words name.
 //!
 //! `timed` calls are what `bench/` times, and `pairs` compares the ways to match for `tests/pairs/run`. Each other call is
-//! made twice, for `tests/refusals/run`, which refuses the first one each request for memory in turn. It stands between
-//! the lines `[call` and `[done` on standard error, so that no request of the preparations is counted; standard output has
-//! the answers.
+//! made twice, for `tests/refusals/run`, which refuses each request for memory of the first one in turn. The lines `[call`
+//! and `[done` on standard error mark where a call begins and ends, so that no request of the preparations is counted.
+//! Standard output has the answers.
 #![tactic(auto)]
 
-/// The names of the two calls.
+/// The labels of the answers of a call: that of the first time, and that of the second.
 const LABELS: [&str; 2] = ["first", "again"];
 
-/// Makes a call twice and prints its answers.
+/// Makes the call `$call` twice and prints both answers.
 macro_rules! twice {
     ($rt:expr, $call:expr) => {
         'calls: for label in $crate::LABELS {
@@ -34,14 +34,14 @@ mod timed;
 use anyhow::{Result, bail};
 use std::{env, fmt};
 
-/// Ends a call, and prints its answer.
+/// Marks the end of a call on standard error, and prints its answer after the label.
 fn finish<T: fmt::Debug + Drop>(rt: &HostRuntime, label: &str, answer: T) -> Result<()> {
     eprintln!(rt; "[done")?;
     println!(rt; "{label}: {answer:?}")?;
     Ok(())
 }
 
-/// The program's words, without its name.
+/// Returns the words of the command line, without the program's name.
 fn read_words(rt: &HostRuntime) -> Result<Vec<String>> {
     let mut words = Vec::new(rt.alloc());
     for word in env::args(rt)?.skip(1) {
@@ -50,7 +50,7 @@ fn read_words(rt: &HostRuntime) -> Result<Vec<String>> {
     Ok(words)
 }
 
-/// Makes the call of this name, of those of a group, and makes it again.
+/// Makes the call `name` of the group `group` twice.
 fn make_call(rt: &HostRuntime, group: &str, name: &str) -> Result<()> {
     match group {
         "pieces" => pieces::call(rt, name),

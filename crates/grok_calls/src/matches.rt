@@ -11,10 +11,10 @@ const HALF_A_LINE: &str = "5E:FF";
 
 const LINE_WITH_DOTS: &str = "5EFF.56A2.AF15";
 
-/// How many calls a pattern handles before the call that builds its shared search.
+/// How many calls of `match_against` come before the one that builds the pattern's shared search.
 const CALLS_BEFORE_TABLES: u32 = 1;
 
-/// A number of calls after which the search has all of its tables.
+/// A number of calls of `match_against` after which the pattern's shared search has all of its tables.
 const CALLS_WITH_TABLES: u32 = 20;
 
 /// A number of lines after which the search of a matcher has all of its tables.
@@ -73,7 +73,7 @@ fn match_against<E: Engine>(rt: &HostRuntime, pattern: &PatternOf<E>, line: &str
     Ok(())
 }
 
-/// Matches a line after this many calls for another line.
+/// Matches `line` twice, after `count` calls for the line `earlier`.
 fn match_after(
     rt: &HostRuntime,
     pattern: &Pattern,
@@ -119,7 +119,7 @@ fn ask_twice<'t>(rt: &HostRuntime, matcher: &mut Matcher<'t>, line: &'t str) -> 
     Ok(())
 }
 
-/// Calls `find` for a line twice with one matcher, after this many other lines.
+/// Calls `find` for `line` twice with one matcher, after `before` calls for the same line.
 fn find_lines<'t>(
     rt: &HostRuntime,
     pattern: &'t Pattern,

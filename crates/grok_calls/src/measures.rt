@@ -1,4 +1,5 @@
-//! Calls that measure one pattern or several, and calls that locate the first fault of one.
+//! Calls that measure one pattern or several, and calls that locate the first fault of one, its clash, or a byte of its
+//! text.
 use anyhow::{Result, bail};
 use grok::Grok;
 
@@ -9,11 +10,13 @@ pub(crate) fn call(rt: &HostRuntime, name: &str) -> Result<()> {
         "all" => all(rt),
         "fault" => fault(rt),
         "locate" => locate(rt),
+        "locate_byte" => locate_byte(rt),
+        "locate_clash" => locate_clash(rt),
         _ => bail!("no call has this name"),
     }
 }
 
-/// Makes a library of two definitions, of which one uses the other, so that measuring remembers a name.
+/// Makes a library of two definitions, one of which uses the other twice. So measuring has to remember its size.
 fn two_levels(rt: &HostRuntime) -> Result<Grok> {
     let pairs = [("A", "a"), ("B", "%{A}%{A}")];
     Ok(Grok::from_iter(rt.alloc(), &pairs)?)
@@ -49,5 +52,18 @@ fn locate(rt: &HostRuntime) -> Result<()> {
     let pairs = [("A", "a"), ("B", "%{A}%{MISSING}")];
     let grok = Grok::from_iter(rt.alloc(), &pairs)?;
     twice!(rt, grok.locate("%{A}%{B:key}"));
+    Ok(())
+}
+
+fn locate_byte(rt: &HostRuntime) -> Result<()> {
+    let grok = two_levels(rt)?;
+    twice!(rt, grok.locate_byte("%{A}%{B:key}", false, 36));
+    Ok(())
+}
+
+fn locate_clash(rt: &HostRuntime) -> Result<()> {
+    let pairs = [("A", "a"), ("B", "%{A:x}%{A:x}")];
+    let grok = Grok::from_iter(rt.alloc(), &pairs)?;
+    twice!(rt, grok.locate_clash("%{A:x[1]}%{B}", true));
     Ok(())
 }

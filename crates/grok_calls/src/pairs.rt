@@ -1,18 +1,18 @@
-//! Pairs of a pattern and a line, which `tests/pairs/run` makes: every way to match has to return the same.
+//! Compares the ways to match on pairs of a pattern and a line, which `tests/pairs/run` makes. All ways have to return the
+//! same.
 use crate::timed::library;
 use anyhow::{Result, bail};
 use grok::{Grok, Matcher, Pattern};
 use std::alloc::{AllocError, Global};
 use std::{fmt, io};
 
-/// Stands between the definitions and the first pattern, and between two patterns.
+/// Separates the definitions from the first pattern, and patterns from each other.
 const BETWEEN_PATTERNS: char = '\u{1e}';
 
-/// Stands between the parts of a pattern: the letter `a` if only placeholders with an alias capture, its text, and its
-/// lines.
+/// Separates the parts of a pattern: the letter `a` if only placeholders with an alias capture, its text, and its lines.
 const BETWEEN_PARTS: char = '\u{1f}';
 
-/// What each way to match returns for a line, as texts of all keys and values.
+/// What each way to match returns for a line: the debug text of its match, which has all keys and values.
 #[derive(Drop)]
 struct Answers {
     /// The pattern's own call, whose search is built by its second call and kept from then on.
@@ -26,7 +26,7 @@ struct Answers {
 }
 
 impl Answers {
-    /// Matches a line in each way.
+    /// Matches the line in each way. `matcher` is the one that is kept for all lines.
     fn of(
         alloc: Global,
         pattern: &Pattern,
@@ -134,8 +134,8 @@ impl Counts {
     }
 }
 
-/// Reads definitions and patterns with their lines from standard input. For each pattern it prints whether it was refused,
-/// or its counts, and before these a line for each pair whose answers differ.
+/// Reads definitions and patterns with their lines from standard input. For each pattern it prints a line for each of
+/// its lines on which the ways to match differ, and then its counts. If the pattern is refused, it prints the error.
 pub(crate) fn call(rt: &HostRuntime) -> Result<()> {
     let text = io::read_to_string(rt.alloc(), rt.stdin())?;
     let Some((definitions, patterns)) = text.split_once(BETWEEN_PATTERNS) else {

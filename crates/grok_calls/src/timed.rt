@@ -1,5 +1,5 @@
-//! Calls on texts that are too long for a program's words, timed. Standard output has the answer, the same in each run,
-//! and standard error the microseconds, or for lines of a log the nanoseconds a line.
+//! Times calls on texts that are too long for a program's words. Standard output has the answer, which is the same in each
+//! run. Standard error has the microseconds, or for lines of a log the nanoseconds a line.
 mod lines;
 mod split;
 
@@ -11,8 +11,8 @@ use std::alloc::Global;
 use std::io;
 use std::time::Instant;
 
-/// Times a call. Standard input has the pattern to split, the text for `regex`, or the definitions that the pattern is
-/// measured and compiled over, and after an empty line the log that it matches.
+/// Times the call with this name. Standard input has the pattern to split, the text for `regex`, or the definitions
+/// that `pattern` uses. For the calls that match, an empty line and the log follow the definitions.
 pub(crate) fn call(rt: &HostRuntime, name: &str, pattern: Option<&str>) -> Result<()> {
     match (name, pattern) {
         ("split", None) => time_split(rt),
@@ -30,38 +30,38 @@ pub(crate) fn call(rt: &HostRuntime, name: &str, pattern: Option<&str>) -> Resul
         ("own_and_find", Some(pattern)) => lines::call(rt, pattern, Asked::OwnAndFind),
         ("few", Some(pattern)) => lines::call(rt, pattern, Asked::Calls(20_000)),
         ("many", Some(pattern)) => lines::call(rt, pattern, Asked::Calls(2_000_000)),
-        _ => bail!("no timed call has this name and so many words"),
+        _ => bail!("no timed call has this name and this number of words"),
     }
 }
 
-/// Tells how long a step took that began then.
-fn tell(rt: &HostRuntime, step: &str, start: &Instant) -> Result<()> {
+/// Reports the microseconds of a step that began at `start`.
+fn report_time(rt: &HostRuntime, step: &str, start: &Instant) -> Result<()> {
     let time = start.elapsed(rt)?.as_micros();
     eprintln!(rt; "{step} {time} us")?;
     Ok(())
 }
 
-/// Counts the pieces of the pattern that stands on standard input.
+/// Counts the pieces of the pattern on standard input, and reports how long that takes.
 fn time_split(rt: &HostRuntime) -> Result<()> {
     let text = io::read_to_string(rt.alloc(), rt.stdin())?;
     let start = Instant::now(rt)?;
     let pieces = split::count(text.as_str());
-    tell(rt, "split", &start)?;
+    report_time(rt, "split", &start)?;
     println!(rt; "{pieces}")?;
     Ok(())
 }
 
-/// Builds the text that stands on standard input by `regex` alone.
+/// Compiles the text on standard input with `regex` alone, and reports how long that takes.
 fn time_regex(rt: &HostRuntime) -> Result<()> {
     let text = io::read_to_string(rt.alloc(), rt.stdin())?;
     let start = Instant::now(rt)?;
     let is_built = Regex::new(rt.alloc(), text.as_str()).is_ok();
-    tell(rt, "regex", &start)?;
+    report_time(rt, "regex", &start)?;
     println!(rt; "built {is_built}")?;
     Ok(())
 }
 
-/// The library of these lines, `NAME=DEF` each. A later one of a name replaces an earlier one.
+/// Returns the library of these lines `NAME=DEF`. If a name comes twice, the later definition counts.
 pub(crate) fn library(alloc: Global, lines: &str) -> Result<Grok> {
     let mut grok = Grok::empty(alloc);
     for line in lines.lines() {
@@ -73,25 +73,25 @@ pub(crate) fn library(alloc: Global, lines: &str) -> Result<Grok> {
     Ok(grok)
 }
 
-/// Reads a library from standard input and adds its definitions.
+/// Returns the library on standard input, and reports how long it takes to add its definitions.
 fn time_library(rt: &HostRuntime) -> Result<Grok> {
     let lines = io::read_to_string(rt.alloc(), rt.stdin())?;
     let start = Instant::now(rt)?;
     let grok = library(rt.alloc(), lines.as_str())?;
-    tell(rt, "add", &start)?;
+    report_time(rt, "add", &start)?;
     Ok(grok)
 }
 
-/// Measures a pattern, and counts the looks that it took.
+/// Measures a pattern, and prints its measure and how many looks (pieces and ends that were read) it took.
 fn time_measure(rt: &HostRuntime, grok: &Grok, pattern: &str) -> Result<()> {
     let start = Instant::now(rt)?;
     let (measure, looks) = grok.measure_counted(pattern, false)?;
-    tell(rt, "measure", &start)?;
+    report_time(rt, "measure", &start)?;
     println!(rt; "{measure:?} {looks:?}")?;
     Ok(())
 }
 
-/// Tells how long a pattern's text is, and how many keys it has.
+/// Prints the length of a pattern's text, and how many keys the pattern has.
 fn show_pattern(rt: &HostRuntime, pattern: &Pattern) -> Result<()> {
     let length = pattern.text().len();
     let keys = pattern.capture_names().count();
@@ -99,11 +99,11 @@ fn show_pattern(rt: &HostRuntime, pattern: &Pattern) -> Result<()> {
     Ok(())
 }
 
-/// Compiles a pattern.
+/// Compiles a pattern, and reports how long that takes.
 fn time_compile(rt: &HostRuntime, grok: &Grok, pattern: &str) -> Result<()> {
     let start = Instant::now(rt)?;
     let answer = grok.compile(pattern, false);
-    tell(rt, "compile", &start)?;
+    report_time(rt, "compile", &start)?;
     match answer {
         Ok(pattern) => show_pattern(rt, &pattern)?,
         Err(error) => println!(rt; "{error}")?,

@@ -1,4 +1,5 @@
--- Answers that have gone out, one after another.
+-- If the elements of a list are answered one after another, exactly the answers to the first of them have gone out
+-- after each step.
 use Rattle.std.proofs.Common.{◌≡◌, ℕ, List, [], ◌∷◌, ◌++◌, Option, Some, None, refl, sym, ap, map, ◌∙◌, append_assoc, append-nil}
 use Rattle.std.specs.Io.KnownBytes.{Appends, Keeps}
 use Rattle.grok_lines.proofs.Appending.{appends_both, appends_same}

@@ -1,4 +1,4 @@
--- The laws of the words of a command line.
+-- Proves the laws of command lines: words are read as a command exactly if they are the words of that command.
 use Rattle.std.proofs.Common.{◌≡◌, ◌≢◌, ◌⊎◌, ℕ, suc, ◌+◌, Bool, true, false, List, [], ◌∷◌, ◌++◌, ◌==◌, ◌&&◌, ◌||◌, if◌then◌else◌, take, drop, Option, Some, None, codes, refl, sym, ap, ap₂, ◌∙◌, subst, inl, inr, append_assoc, arith}
 use Rattle.std.specs.Option.{option_map}
 use Rattle.std.specs.List.{AllByRecursion, list_all, position_or_len}

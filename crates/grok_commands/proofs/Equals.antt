@@ -1,4 +1,4 @@
--- Where the first `=` of a word stands.
+-- Each word that has a `=` is cut at its first one.
 use Rattle.std.proofs.Common.{◌≡◌, ℕ, ◌+◌, ◌<◌, Bool, true, false, List, [], ◌∷◌, length, arith, Option, Some, None, IsSome, MatchOption, Bor, refl, lit<, ◌||◌, rules}
 use Rattle.std.specs.List.{list_any, position_or_len}
 use Rattle.std.proofs.lemmas.Str.Pattern.{split_once_first, IsSplitOnceResult}

@@ -1,4 +1,4 @@
--- Measures in the order of their names.
+-- There is one measure for each name, in the order of the names, so each line of `check` has the measure of its name.
 use Rattle.std.proofs.Common.{◌≡◌, ℕ, ◌<◌, List, [], ◌∷◌, Bor, length, map, get_or, refl, sym, ◌∙◌, ap, subst, arith}
 use Rattle.std.proofs.lemmas.List.{length-map, get_or-map}
 use Rattle.grok.specs.declared.measure.Measure.{Measure}
@@ -30,7 +30,7 @@ module _ (F : List ℕ → Measured) (measures : List Measure) (patterns names :
       ap measure_view is ∙ sym (get_or-map measure_view measures i measure (measure_view measure) (omega (arith, as_many)))
       ∙ ap (λ xs. get_or xs i (measure_view measure)) whole ∙ get_or-map (λ (n : Bor (List ℕ)). F (placeholder_of n.now)) names i name (measure_view measure) low
 
-  -- the line of a measure is that of the name at its place
+  -- the line of a measure is that of the name with its index
   pub line_at : (i : ℕ) (measure : Measure) (name : Bor (List ℕ)) (line : List ℕ) → measure ≡ get_or measures i measure → i < length names
       → IsMeasuredLine (measure_view measure) (get_or names i name).now line → IsMeasuredLine (F (placeholder_of (get_or names i name).now)) (get_or names i name).now line
   line_at i measure name line is low h = subst (λ size. IsMeasuredLine size (get_or names i name).now line) (measure_at i measure name is low) h

@@ -1,4 +1,5 @@
--- The events of an object of texts, and what its text reads back as.
+-- The events that are sent for pairs write the text of their object, and if the keys of the pairs are in order, this
+-- text reads back as the pairs.
 use Rattle.std.proofs.Common.{◌≡◌, ℕ, List, [], ◌∷◌, ◌++◌, ◌≤◌, Some, None, false, Less, Greater, refl, sym, ap, ◌∙◌, subst, append_assoc, append-nil, arith, option_map, option_and_then}
 use Rattle.std.proofs.lemmas.Cmp.{nat_list_cmp_total}
 use Rattle.std.specs.Ordering.{nat_cmp, ordering_reverse}

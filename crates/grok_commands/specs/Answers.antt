@@ -1,25 +1,29 @@
--- Which answers were written.
+-- Which answers were written. `old` and `new` are the bytes that the output had before and has after, or `None`
+-- for an output whose bytes the kit doesn't know.
 use Rattle.std.specs.Prelude.{◌≡◌, ℕ, List, [], ◌∷◌, ◌++◌, Option, Some, None}
 use Rattle.std.specs.Io.KnownBytes.{Appends}
 
--- The text is printed so. If the words aren't specified (`None`), they may be any.
+-- `printed` is the text in the first argument. If that is `None`, the text isn't specified, and `printed` may be
+-- any.
 abbrev pub Prints : Option (List ℕ) → List ℕ → Type 0
 Prints None printed = Unit {0}
 Prints (Some text) printed = printed ≡ text
 
--- the bytes are an answer to each of these items, one after another
+-- `bytes` are an answer to each element of the list, one after another, and nothing else. `IsAnswer` says what an
+-- answer is.
 abbrev pub AreAnswers : {A : Type 0} → (A → List ℕ → Type 0) → List A → List ℕ → Type 0
 AreAnswers IsAnswer [] bytes = bytes ≡ []
 AreAnswers IsAnswer (x ∷ xs) bytes =
     (answer rest : List ℕ) × (bytes ≡ answer ++ rest) × IsAnswer x answer × AreAnswers IsAnswer xs rest
 
--- the answers to all of these items were written, and nothing else
+-- the output got an answer to each element of `items`, one after another, and nothing else
 abbrev pub HasAnswered : {A : Type 0} → (A → List ℕ → Type 0) → List A
     → Option (List ℕ) → Option (List ℕ) → Type 0
 HasAnswered IsAnswer items old new =
     (bytes : List ℕ) × AreAnswers IsAnswer items bytes × Appends old new bytes
 
--- the answers to some first ones of these items were written, each as a whole, and nothing else
+-- The output got the answers to the first elements of `items` (none, some or all), each as a whole, and nothing
+-- else.
 abbrev pub HasBegun : {A : Type 0} → (A → List ℕ → Type 0) → List A
     → Option (List ℕ) → Option (List ℕ) → Type 0
 HasBegun {A} IsAnswer items old new =

@@ -13,19 +13,20 @@ abbrev pub definition_words : List (List ℕ × List ℕ) → List (List ℕ)
 definition_words definitions =
     map (λ definition. definition.0 ++ codes "=" ++ definition.1) definitions
 
--- No name has a `=` in it, since a name ends before the first one.
+-- No name has a `=` in it, since a word `NAME=DEF` is cut at its first `=`.
 abbrev pub NamesLackEquals : List (List ℕ × List ℕ) → Type 0
 NamesLackEquals definitions =
     AllByRecursion (λ definition. has_equals definition.0 ≡ false) definitions
 
--- `COMMAND [-a] PATTERN [NAME=DEF]..`. If the pattern is the text `-a`, another `-a` has to come before it.
+-- `words` are `COMMAND [-a] PATTERN [NAME=DEF]..` for this command and this request. If the pattern is the text
+-- `-a`, another `-a` has to come before it.
 pub record AreRequest (command : List ℕ) (request : RequestValue) (words : List (List ℕ)) : Type 0 where
   pub are : words ≡ command ∷ (mode_words request.alias_only
       ++ request.pattern ∷ definition_words request.definitions)
   pub names : NamesLackEquals request.definitions
   pub mode : request.alias_only ≡ false → request.pattern ≢ codes "-a"
 
--- the words are this command
+-- `words` have the form of this command: its name, and then its arguments
 abbrev pub AreCommand : CommandValue → List (List ℕ) → Type 0
 AreCommand (Split pattern) words = words ≡ codes "split" ∷ (pattern ∷ [])
 AreCommand (Measure request) words = AreRequest (codes "measure") request words
@@ -40,7 +41,7 @@ abbrev pub CommandsAreTheirWords : Type 0
 CommandsAreTheirWords = (words : List (List ℕ)) (command : CommandValue)
     → (command_of words ≡ Some command) ↔ AreCommand command words
 
--- THE LAW: words that belong to no command are read as none.
+-- THE LAW: words that are those of no command are read as no command (`None`).
 abbrev pub OtherWordsAreNoCommand : Type 0
 OtherWordsAreNoCommand = (words : List (List ℕ))
     → ((command : CommandValue) → ¬ AreCommand command words) → command_of words ≡ None

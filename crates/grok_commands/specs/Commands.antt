@@ -28,7 +28,7 @@ cut_word word = (before_first is_equals word, after_first is_equals word)
 abbrev pub cut_words : List (List ℕ) → List (List ℕ × List ℕ)
 cut_words words = map cut_word words
 
--- the names with their definitions, if each word has a `=`
+-- each name with its definition, or `None` if a word has no `=`
 abbrev pub definitions_of : List (List ℕ) → Option (List (List ℕ × List ℕ))
 definitions_of words = if list_all has_equals words then Some (cut_words words) else None
 
@@ -54,13 +54,14 @@ pub data CommandValue : Type 0 where
   Json : (request : RequestValue) → CommandValue
   Check : (alias_only : Bool) (definitions : List (List ℕ × List ℕ)) → CommandValue
 
--- The mode, and the words after it. If the first word is `-a`, it chooses alias-only mode, and is never the
--- pattern.
+-- Whether the first word is `-a`, and the words without it. `-a` chooses alias-only mode, in which only
+-- placeholders with an alias capture. As the first word it is never the pattern.
 abbrev pub mode_of : List (List ℕ) → Bool × List (List ℕ)
 mode_of [] = (false, [])
 mode_of (word ∷ words) = if bytes_eq word (codes "-a") then (true, words) else (false, word ∷ words)
 
--- a pattern and its definitions, after the mode was read
+-- the request in the words `PATTERN [NAME=DEF]..`, whose mode was read before, or `None` if the words don't have
+-- this form
 abbrev pub request_after : Bool → List (List ℕ) → Option RequestValue
 request_after alias_only [] = None
 request_after alias_only (pattern ∷ words) =
@@ -70,21 +71,21 @@ request_after alias_only (pattern ∷ words) =
       definitions = definitions;
     }) (definitions_of words)
 
--- the request in the words `[-a] PATTERN [NAME=DEF]..`
+-- the request in the words `[-a] PATTERN [NAME=DEF]..`, or `None` if the words don't have this form
 abbrev pub request_of : List (List ℕ) → Option RequestValue
 request_of words = request_after (mode_of words).0 (mode_of words).1
 
--- the command `split` with the word `PATTERN`
+-- the command `split` if the words after its name are one word `PATTERN`, and otherwise `None`
 abbrev pub split_of : List (List ℕ) → Option CommandValue
 split_of [] = None
 split_of (pattern ∷ []) = Some (Split pattern)
 split_of (pattern ∷ word ∷ words) = None
 
--- the command `check` with the words `[-a] [NAME=DEF]..`
+-- the command `check` if the words after its name are `[-a] [NAME=DEF]..`, and otherwise `None`
 abbrev pub check_of : List (List ℕ) → Option CommandValue
 check_of words = option_map (Check (mode_of words).0) (definitions_of (mode_of words).1)
 
--- THE COMMAND of a command line, if the words are one
+-- THE COMMAND that the words of a command line are, or `None` if they are no command
 abbrev pub command_of : List (List ℕ) → Option CommandValue
 command_of [] = None
 command_of (name ∷ words) =

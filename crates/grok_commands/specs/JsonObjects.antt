@@ -8,22 +8,23 @@ use Rattle.serde_json.specs.Data.{Data, null, boolean, number, string, array, ob
 use Rattle.serde_json.specs.Read.{read}
 use Rattle.serde_json.specs.Written.{compact_text}
 
--- a member for each pair, whose value is a string
+-- a member for each pair: its key, and its value as a string
 abbrev pub members_of : List (List ℕ × List ℕ) → Members
 members_of [] = no_members
 members_of (pair ∷ pairs) = member pair.0 (string pair.1) (members_of pairs)
 
--- the object of these members, as a value of `serde_json`
+-- the JSON object with a member for each pair, as a value of `serde_json`
 abbrev pub object_of : List (List ℕ × List ℕ) → Data
 object_of pairs = object (members_of pairs)
 
--- the text of the object, without spaces
+-- the text of the JSON object of these pairs, with no spaces between keys and values
 abbrev pub object_text : List (List ℕ × List ℕ) → List ℕ
 object_text pairs = compact_text (object_of pairs)
 
 -- ---- the way back
 
--- A member, and then the pairs of the members after it. There are no pairs if a value isn't a string.
+-- Puts the pair of a member before the pairs of the members after it. The result is `None` if the value of the
+-- member, or of one after it, isn't a string.
 abbrev pub with_pair : List ℕ → Data
     → Option (List (List ℕ × List ℕ)) → Option (List (List ℕ × List ℕ))
 with_pair key (string text) pairs = option_map (λ pairs. (key, text) ∷ pairs) pairs
@@ -33,12 +34,13 @@ with_pair key (number n) pairs = None
 with_pair key (array items) pairs = None
 with_pair key (object inner) pairs = None
 
--- the pairs of members whose values are strings
+-- the keys and values of all members, or `None` if the value of one of them isn't a string
 abbrev pub pairs_in_members : Members → Option (List (List ℕ × List ℕ))
 pairs_in_members no_members = Some []
 pairs_in_members (member key d more) = with_pair key d (pairs_in_members more)
 
--- the pairs of an object whose values are strings
+-- the keys and values of the members of an object, or `None` if it isn't an object or one of the values isn't a
+-- string
 abbrev pub pairs_in : Data → Option (List (List ℕ × List ℕ))
 pairs_in (object inner) = pairs_in_members inner
 pairs_in null = None

@@ -10,9 +10,9 @@ pub mod CommandLaws
 pub mod SizeTexts
 pub mod Split
 pub mod Runs
--- THE WORDS FOR CALLERS: every word that a clause of `run` uses.
+-- THE WORDS FOR CALLERS: every definition that the contract of `run` uses, and those that explain these.
 pub use Rattle.grok_commands.specs.Commands.{texts, RequestValue, CommandValue, command_of}
-pub use Rattle.grok_commands.specs.Runs.{Job, HasJob, IsPatternFault, IsUntouched, IsDone, IsCutShort, IsReadFault, IsWriteFault}
+pub use Rattle.grok_commands.specs.Runs.{IsRunOf, EndsAs, Job, HasJob, IsPatternFault, IsUntouched, IsDone, IsCutShort, IsReadFault, IsWriteFault}
 pub use Rattle.grok_lines.specs.Traffic.{traffic}
 pub use Rattle.grok_commands.specs.Library.{library_of}
 pub use Rattle.grok_commands.specs.Faults.{fault_text}

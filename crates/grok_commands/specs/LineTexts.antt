@@ -8,7 +8,7 @@ use Rattle.grok_commands.specs.JsonObjects.{object_text}
 use Rattle.grok_commands.specs.declared.line_answers.LineFormat.{LineFormat}
 use Rattle.grok_commands.specs.declared.line_answers.LineFormat.TheVariants.{Pairs, Object}
 
--- for each line, what its groups captured, or none if nothing matches
+-- for each line, what each group captured (`None` for a group that took no part), or `None` if nothing matches
 abbrev pub Finds : Type 0
 Finds = List ℕ → Option (List (Option (List ℕ)))
 
@@ -31,7 +31,8 @@ abbrev pub match_text : LineFormat → List (List ℕ × List ℕ) → List ℕ
 match_text Pairs pairs = flat_map pair_line pairs ++ codes "\n"
 match_text Object pairs = object_text pairs ++ codes "\n"
 
--- the answer to a line with these captures, or without a match
+-- the answer to a line in which the groups captured `captures`, or, for `None`, to a line in which nothing
+-- matches
 abbrev pub found_text : LineFormat → Entries → Option (List (Option (List ℕ))) → List ℕ
 found_text format keys None = no_match_text format
 found_text format keys (Some captures) = match_text format (walk keys captures)

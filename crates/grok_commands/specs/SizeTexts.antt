@@ -12,7 +12,7 @@ abbrev pub size_text : ℕ → ℕ → ℕ → List ℕ
 size_text length groups nesting = codes "length " ++ decimal length ++ codes " groups " ++ decimal groups
     ++ codes " nesting " ++ decimal nesting
 
--- what is printed for a measure without a fault
+-- what is printed for a size, or `None` if measuring found a fault
 abbrev pub text_of_size : Measured → Option (List ℕ)
 text_of_size (Faulty fault) = None
 text_of_size (Sized length groups nesting) = Some (size_text length groups nesting)
@@ -28,7 +28,7 @@ measured_in texts alias_only pattern = measured_tree alias_only (tree_of texts p
 abbrev pub measure_of : RequestValue → Measured
 measure_of request = measured_in (library_of request.definitions) request.alias_only request.pattern
 
--- the measure has a fault, and this is its error
+-- the result of measuring is a fault, and `error` is an error for this fault
 abbrev pub IsFaulty : Measured → ErrorValue → Type 0
 IsFaulty (Faulty fault) error = IsFaultError fault error
 IsFaulty (Sized length groups nesting) error = ⊥
@@ -36,8 +36,8 @@ IsFaulty TooLong error = ⊥
 
 -- ---- check
 
--- The text is the size, or the text of the fault's error. For a malformed placeholder, that isn't specified if
--- the character in the fault isn't ASCII.
+-- `text` is the size, or the text of the fault's error. If the fault is a character that isn't allowed in a
+-- placeholder, and this character isn't ASCII, the text of the error isn't specified.
 abbrev pub IsMeasuredText : Measured → List ℕ → Type 0
 IsMeasuredText (Faulty fault) text = (error : ErrorValue) × IsFaultError fault error
     × (text ≡ error_text error)
@@ -48,12 +48,12 @@ IsMeasuredText TooLong text = text ≡ codes "too long"
 abbrev pub placeholder_of : List ℕ → List ℕ
 placeholder_of name = codes "%{" ++ name ++ codes "}"
 
--- a name, `: `, the size or the fault, and a line feed
+-- `line` is the name, `: `, the size or the text of the fault's error, and a line feed
 abbrev pub IsMeasuredLine : Measured → List ℕ → List ℕ → Type 0
 IsMeasuredLine size name line = (text : List ℕ) × IsMeasuredText size text
     × (line ≡ name ++ codes ": " ++ text ++ codes "\n")
 
--- the line of `check` for a definition: its name, and the size or fault of the pattern `%{NAME}`
+-- `line` is what `check` writes for a definition: its name, and the size or fault of the pattern `%{NAME}`
 abbrev pub IsCheckLine : Texts → Bool → List ℕ → List ℕ → Type 0
 IsCheckLine texts alias_only name line = IsMeasuredLine (measured_in texts alias_only
     (placeholder_of name)) name line

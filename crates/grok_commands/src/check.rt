@@ -29,7 +29,7 @@ fn text_of(alloc: Global, measure: Measure<'_>) -> Result<String, AllocError>
     }
 }
 
-/// Returns the names of a library in a list, in byte order.
+/// Returns a list of the names of all definitions in `grok`, in byte order.
 fn names_in<'a>(alloc: Global, grok: &'a Grok) -> Result<Vec<&'a str>, AllocError>
     ensures { IfOk result (λ names. texts names.items ≡ finite.keys grok.now) }
 {
@@ -49,7 +49,7 @@ fn placeholders(alloc: Global, names: &[&str]) -> Result<Vec<String>, AllocError
     Ok(patterns)
 }
 
-/// Returns these strings as slices.
+/// Returns a slice of each of the strings, in their order.
 fn texts_in<'a>(alloc: Global, strings: &'a [String]) -> Result<Vec<&'a str>, AllocError>
     ensures { IfOk result (λ all. texts all.items ≡ map string_bytes strings.now) }
 {
@@ -60,7 +60,8 @@ fn texts_in<'a>(alloc: Global, strings: &'a [String]) -> Result<Vec<&'a str>, Al
     Ok(all)
 }
 
-/// Replaces `line` by the line for a name and the measure of its definition.
+/// Replaces the text of `line` by what `check` writes for a definition: `name`, `: `, the size or
+/// the text of the error, and a line feed.
 fn write_line(
     alloc: Global,
     line: &mut String,
@@ -75,8 +76,8 @@ fn write_line(
     write!(line, "{name}: {text}\n")
 }
 
-/// Answers with a line for each definition of the library. Answers that aren't sent yet are in
-/// `held`.
+/// Adds the line of each definition of the library to `held`, and sends what is held to `output`
+/// whenever it is long. What isn't sent yet stays in `held`.
 fn hold_definitions<W: Write>(
     alloc: Global,
     alias_only: bool,
@@ -114,7 +115,8 @@ fn hold_definitions<W: Write>(
 ///
 /// # Errors
 ///
-/// - `Memory` if an allocation fails. The lines of some first names were sent, each as a whole.
+/// - `Memory` if an allocation fails. Some lines may have been sent: those of the first names, each
+///   as a whole.
 /// - `Write` if the output fails. It isn't stated how much was sent.
 pub fn check_definitions<W: Write>(
     alloc: Global,

@@ -1,4 +1,4 @@
-//! The words of a command line.
+//! Reads a command from the words of a command line, which are its arguments.
 ghost use Rattle.std.specs.Prelude.{◌≡◌};
 ghost use Rattle.std.specs.Option.{option_map};
 ghost use Rattle.grok_commands.specs.Commands.{texts, mode_of, request_of, check_of, command_of};
@@ -37,7 +37,7 @@ pub enum Command<'a> {
     },
 }
 
-/// Returns whether the words begin with `-a`, and the words after that.
+/// Returns whether the first word is `-a`, and the words without it.
 fn read_mode<'a>(words: &'a [&'a str]) -> (bool, &'a [&'a str])
     ensures { (result.0, texts result.1.now) ≡ mode_of (texts words.now) }
 {
@@ -47,8 +47,8 @@ fn read_mode<'a>(words: &'a [&'a str]) -> (bool, &'a [&'a str])
     }
 }
 
-/// Returns the request that the words `[-a] PATTERN [NAME=DEF]..` make, or `None` if they aren't
-/// such words.
+/// Reads the words `[-a] PATTERN [NAME=DEF]..` as a request. Returns `None` if the words don't have
+/// this form.
 fn read_request<'a>(words: &'a [&'a str]) -> Option<Request<'a>>
     ensures { option_map request_view result ≡ request_of (texts words.now) }
 {
@@ -61,8 +61,8 @@ fn read_request<'a>(words: &'a [&'a str]) -> Option<Request<'a>>
     })
 }
 
-/// Returns the command `check` with the words `[-a] [NAME=DEF]..`, or `None` if they aren't such
-/// words.
+/// Reads the words `[-a] [NAME=DEF]..` as the command `check`. Returns `None` if the words don't
+/// have this form.
 fn read_check<'a>(words: &'a [&'a str]) -> Option<Command<'a>>
     ensures { option_map command_view result ≡ check_of (texts words.now) }
 {
@@ -73,7 +73,7 @@ fn read_check<'a>(words: &'a [&'a str]) -> Option<Command<'a>>
     })
 }
 
-/// Returns the command that the words of a command line are, or `None` if they are no command.
+/// Reads the words of a command line as a command. Returns `None` if they are no command.
 pub fn read_command<'a>(words: &'a [&'a str]) -> Option<Command<'a>>
     ensures { option_map command_view result ≡ command_of (texts words.now) }
 {

@@ -8,7 +8,8 @@ use grok::Grok;
 use std::alloc::{AllocError, Global};
 use std::marker::Model;
 
-/// Words `NAME=DEF`, of which each has a `=`. Contracts see the names with their definitions.
+/// Words of the form `NAME=DEF`: each of them has a `=`. Contracts see a list with the name and the
+/// definition of each word.
 #[derive(Drop)]
 pub struct Definitions<'a> {
     words: &'a [&'a str],
@@ -59,8 +60,8 @@ impl<'a> Definitions<'a> {
         }
     }
 
-    /// Returns the library of the default definitions and these ones. A later definition of a name
-    /// replaces an earlier one.
+    /// Returns a `Grok` with the default definitions, and then those of the words. A later
+    /// definition of a name replaces an earlier one.
     ///
     /// # Errors
     ///

@@ -28,7 +28,7 @@ impl<'m> Serialize for MatchObject<'m> {
     }
 }
 
-/// Appends the JSON object of a match, without spaces.
+/// Appends the pairs of a match to `text` as a JSON object, with no spaces between keys and values.
 ///
 /// # Errors
 ///

@@ -42,7 +42,7 @@ fn write_pair(text: &mut Vec<u8>, key: &str, value: &str) -> Result<(), AllocErr
     Ok(())
 }
 
-/// Appends the pairs of a match.
+/// Appends a line `KEY=VALUE` for each pair of a match.
 fn write_pairs(text: &mut Vec<u8>, matches: MatchesRef<'_>) -> Result<(), AllocError>
     ensures { OnOk result (text.new.items ≡ text.old.items
         ++ flat_map pair_line (walk (borrowed_keys matches.entry) (borrowed_captures matches.entry))) }
@@ -100,14 +100,14 @@ pub struct MatchAnswers<'p, E: HasMatcher<'p>> {
     pub alloc: Global,
     pub format: LineFormat,
     pub matcher: MatcherOf<'p, E>,
-    /// The answer to a match is put together here. It replaces that of the line before.
+    /// The buffer for the answer to one match. It is cleared before each match.
     pub answer: Vec<u8>,
 }
 
 impl<'p, E: HasMatcher<'p>> LineAnswers for MatchAnswers<'p, E> {
     ghost use Rattle.grok_commands.specs.LineTexts.{line_answer};
 
-    ghost answer = { λ answers. line_answer answers.format
+    ghost answer = { λ answers n. line_answer answers.format
         (E.answer_to answers.matcher.engine) answers.matcher.keys };
 
     #[inline(never)]
@@ -118,8 +118,8 @@ impl<'p, E: HasMatcher<'p>> LineAnswers for MatchAnswers<'p, E> {
         }
     }
 
-    // With all that it calls for a line that doesn't match, this is compiled into the loop over
-    // lines, which is faster.
+    // This is inlined into the loop over lines, together with what it calls for a line that doesn't
+    // match. That is faster.
     #[inline(always)]
     #[tactic(auto, using(crate::proofs::Utf8Lines::text_of_line))]
     fn answer_str(&mut self, text: &mut Vec<u8>, line: &str) -> Result<(), AllocError> {

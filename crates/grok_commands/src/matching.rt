@@ -1,11 +1,11 @@
 //! The runs of `match` and of `json`, which read lines.
-ghost use Rattle.std.specs.Prelude.{◌≡◌, ◌≢◌, ◌⊎◌, IfOk, IfErr, OnOk, IsErrOf};
+ghost use Rattle.std.specs.Prelude.{◌≡◌, ◌≢◌, ◌⊎◌, IfOk, IfErr, OnOk, IsErrOf, flat_map};
 ghost use Rattle.std.specs.Io.KnownBytes.{Keeps};
 ghost use Rattle.grok.specs.Errors.{error_value, Memory as memory};
 ghost use Rattle.grok.specs.declared.errors.error.Error.{Error};
 ghost use Rattle.grok_commands.specs.Views.{request_view};
 ghost use Rattle.grok_lines.specs.Traffic.{traffic};
-ghost use Rattle.grok_lines.specs.Streams.{HasAnsweredInput, HasAnsweredEnded, HasAnsweredSome};
+ghost use Rattle.grok_lines.specs.Streams.{answers_of, HasAnsweredInput, HasAnsweredInputThen, HasAnsweredEnded, HasAnsweredSome};
 ghost use Rattle.grok_commands.specs.Runs.{answer_by, IsCompiled, IsRefused, HasPattern};
 
 use crate::command::Request;
@@ -16,7 +16,7 @@ use grok_lines::{LineAnswers, answer_lines};
 use std::alloc::Global;
 use std::io::{Read, Write};
 
-/// Returns the fault of a run if compiling its pattern returned this error.
+/// Returns the fault with which a run ends if compiling its pattern returns `error`.
 fn pattern_fault(error: grok::Error) -> ToolFault
     ensures memory { error_value error ≡ memory → result ≡ ToolFault.Memory }
     ensures pattern { error_value error ≢ memory → result ≡ ToolFault.Pattern error }
@@ -31,7 +31,8 @@ fn pattern_fault(error: grok::Error) -> ToolFault
 ///
 /// # Errors
 ///
-/// `Memory` or `Pattern`.
+/// `Memory` if an allocation fails, and `Pattern` if the pattern has a fault or the engine refuses
+/// it.
 fn compile(alloc: Global, request: &Request<'_>) -> Result<Pattern, ToolFault>
     ensures ok { IfOk result (IsCompiled (request_view request.now)) }
     ensures pattern { (error : Error) → result ≡ Err (ToolFault.Pattern error)
@@ -44,20 +45,20 @@ fn compile(alloc: Global, request: &Request<'_>) -> Result<Pattern, ToolFault>
         .map_err(pattern_fault)
 }
 
-/// Answers each line of the input, as `answer_lines` does, and returns its error as a fault of a run.
+/// Answers each line of the input by `answer_lines`, and returns its error as a `ToolFault`.
 fn answer_each<A: LineAnswers, R: Read, W: Write>(
     alloc: Global,
     answers: &mut A,
     input: &mut R,
     output: &mut W,
 ) -> Result<(), ToolFault>
-    ensures ok { OnOk result (HasAnsweredInput (A.answer answers.old)
+    ensures ok { OnOk result (HasAnsweredInputThen (A.answer answers.old) (A.answer answers.new)
         (traffic (R.remaining input.old) (R.remaining input.new)
         (W.contents output.old) (W.contents output.new))) }
-    ensures read { IsErrOf result ToolFault.Read → HasAnsweredEnded (A.answer answers.old)
+    ensures read { IsErrOf result ToolFault.Read → HasAnsweredEnded (answers_of (A.answer answers.old))
         (traffic (R.remaining input.old) (R.remaining input.new)
         (W.contents output.old) (W.contents output.new)) }
-    ensures memory { IsErrOf result ToolFault.Memory → HasAnsweredSome (A.answer answers.old)
+    ensures memory { IsErrOf result ToolFault.Memory → HasAnsweredSome (answers_of (A.answer answers.old))
         (traffic (R.remaining input.old) (R.remaining input.new)
         (W.contents output.old) (W.contents output.new)) }
     ensures kind { IfErr result
@@ -76,7 +77,7 @@ pub fn answer_input<R: Read, W: Write>(
     output: &mut W,
 ) -> Result<(), ToolFault>
     ensures ok { OnOk result (HasPattern (request_view request.now) (λ pattern.
-        HasAnsweredInput (answer_by format pattern) (traffic (R.remaining input.old)
+        HasAnsweredInput (flat_map (answer_by format pattern)) (traffic (R.remaining input.old)
         (R.remaining input.new) (W.contents output.old) (W.contents output.new)))) }
     ensures pattern { (error : Error) → result ≡ Err (ToolFault.Pattern error)
         → IsRefused (request_view request.now) (error_value error)
@@ -86,11 +87,11 @@ pub fn answer_input<R: Read, W: Write>(
         → (Keeps (R.remaining input.old) (R.remaining input.new)
         × Keeps (W.contents output.old) (W.contents output.new))
         ⊎ HasPattern (request_view request.now) (λ pattern.
-        HasAnsweredSome (answer_by format pattern) (traffic (R.remaining input.old)
+        HasAnsweredSome (flat_map (answer_by format pattern)) (traffic (R.remaining input.old)
         (R.remaining input.new) (W.contents output.old) (W.contents output.new))) }
     ensures read { IsErrOf result ToolFault.Read
         → HasPattern (request_view request.now) (λ pattern.
-        HasAnsweredEnded (answer_by format pattern) (traffic (R.remaining input.old)
+        HasAnsweredEnded (flat_map (answer_by format pattern)) (traffic (R.remaining input.old)
         (R.remaining input.new) (W.contents output.old) (W.contents output.new))) }
     ensures write { IsErrOf result ToolFault.Write
         → HasPattern (request_view request.now) (λ pattern. Unit {0}) }

@@ -16,7 +16,8 @@ use grok_lines::send;
 use std::alloc::{AllocError, Global};
 use std::io::Write;
 
-/// Appends the size in a measure, or returns the fault in it.
+/// Appends the size in `measure` to `text` and returns `None`. If `measure` is a fault, returns the
+/// fault.
 ///
 /// # Errors
 ///
@@ -51,7 +52,8 @@ pub fn write_measure<'a>(
 ///
 /// # Errors
 ///
-/// - `Pattern` with the pattern's first structural fault. Nothing was written.
+/// - `Pattern` with the pattern's first structural fault: a malformed placeholder, a missing
+///   definition, or nesting that is too deep. Nothing was written.
 /// - `Memory` if an allocation fails. Nothing was written.
 /// - `Write` if the output fails. The pattern has no fault then. It isn't stated how much was
 ///   written.

@@ -14,14 +14,15 @@ use grok_lines::{LinesError, finish, hold};
 use std::alloc::{AllocError, Global};
 use std::io::Write;
 
-/// Returns the name of a fault, as Debug prints it.
+/// Returns a fault as Debug prints it, such as `InvalidCharacter('!')`.
 fn words_of(alloc: Global, fault: &GrokPatternError) -> Result<String, AllocError>
     ensures { IfOk result (λ words. Prints (fault_words fault.now) (string_bytes words)) }
 {
     format!(in alloc; "{fault:?}")
 }
 
-/// Replaces `text` by the line for a piece.
+/// Replaces `text` by what `split` writes for a piece: its text, or `<error F>` for a fault F, and
+/// a line feed.
 fn write_line(alloc: Global, text: &mut String, piece: &GrokComponent<'_>) -> Result<(), AllocError>
     ensures { OnOk result (IsPieceLine (piece_view piece.now) (string_bytes text.new)) }
 {
@@ -37,8 +38,8 @@ fn write_line(alloc: Global, text: &mut String, piece: &GrokComponent<'_>) -> Re
     text.push('\n')
 }
 
-/// Answers with the pieces of a pattern, each with a line feed. Answers that aren't sent yet are in
-/// `held`.
+/// Adds the line of each piece of a pattern to `held`, and sends what is held to `output` whenever
+/// it is long. What isn't sent yet stays in `held`.
 fn hold_pieces<W: Write>(
     alloc: Global,
     pattern: &str,
@@ -65,7 +66,8 @@ fn hold_pieces<W: Write>(
 ///
 /// # Errors
 ///
-/// - `Memory` if an allocation fails. Some first pieces were sent, each as a whole.
+/// - `Memory` if an allocation fails. Some pieces may have been sent: the first ones, each as a
+///   whole.
 /// - `Write` if the output fails. It isn't stated how much was sent.
 pub fn split<W: Write>(alloc: Global, pattern: &str, output: &mut W) -> Result<(), ToolFault>
     ensures ok { OnOk result (HasAnswered IsPieceLine (pieces pattern.now)

@@ -27,7 +27,7 @@ fn check_error(rt: &(impl Abort + AllocGlobal), row: &Row, error: &Error) -> Res
     Ok(())
 }
 
-/// Checks that compiling over that engine returns a pattern of this measure, or the error of the row.
+/// Checks that compiling over the engine `Heads` returns a pattern of this measure, or the error of the row.
 fn check_mode(
     rt: &(impl Abort + AllocGlobal),
     row: &Row,
@@ -89,7 +89,8 @@ fn compiled_clashes(rt: HostRuntime) -> Result<(), Fail> {
     Ok(())
 }
 
-/// Appends the heads of `count` groups, with numbers or without.
+/// Appends the heads of `count` groups: `(?:` if only placeholders with an alias capture, and otherwise `(?<_n_0>`,
+/// `(?<_n_1>` and so on.
 fn push_fronts(all: &mut String, count: u32, with_alias_only: bool) -> Result<(), AllocError> {
     for number in 0..count {
         if with_alias_only {
@@ -101,7 +102,8 @@ fn push_fronts(all: &mut String, count: u32, with_alias_only: bool) -> Result<()
     Ok(())
 }
 
-/// Returns the expanded text of a chain of `count` groups, with numbers or without.
+/// Returns `count` groups in one another around the letter `x`. They have names unless only placeholders with an
+/// alias capture.
 fn nested(alloc: Global, count: u32, with_alias_only: bool) -> Result<String, AllocError> {
     let mut all = String::new(alloc);
     push_fronts(&mut all, count, with_alias_only)?;

@@ -160,11 +160,11 @@ fn shown_errors(rt: HostRuntime) -> Result<(), Fail> {
 }
 
 /// Checks that a clone of the error at this index equals that error and no other one.
-fn check_clone(rt: &impl Abort, errors: &[Error], place: usize, error: &Error) -> Result<(), Fail> {
+fn check_clone(rt: &impl Abort, errors: &[Error], index: usize, error: &Error) -> Result<(), Fail> {
     let copy = error.clone()?;
-    for (other_place, other) in errors.iter().enumerate() {
+    for (other_index, other) in errors.iter().enumerate() {
         let is_same = copy == *other;
-        assert_eq!(rt; is_same, place == other_place, "{error:?} {other:?}");
+        assert_eq!(rt; is_same, index == other_index, "{error:?} {other:?}");
     }
     Ok(())
 }
@@ -181,8 +181,8 @@ fn check_refusals(rt: &(impl Abort + AllocGlobal)) -> Result<(), Fail> {
 #[test]
 fn equal_errors(rt: HostRuntime) -> Result<(), Fail> {
     let errors = errors(rt.alloc())?;
-    for (place, error) in errors.iter().enumerate() {
-        check_clone(&rt, &errors, place, error)?;
+    for (index, error) in errors.iter().enumerate() {
+        check_clone(&rt, &errors, index, error)?;
     }
     check_refusals(&rt)
 }

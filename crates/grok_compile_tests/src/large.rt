@@ -8,7 +8,7 @@ use std::alloc::{AllocError, Global};
 use std::process::Abort;
 use std::test::Fail;
 
-/// A class of a and b, written in so many bytes, which are even.
+/// Returns a class of a and b, such as `[abab]`, that is `length` bytes long. The length is even.
 fn class_of(alloc: Global, length: u32) -> Result<String, AllocError> {
     let mut text = String::from_str(alloc, "[")?;
     for _ in 1..length / 2 {
@@ -18,14 +18,14 @@ fn class_of(alloc: Global, length: u32) -> Result<String, AllocError> {
     Ok(text)
 }
 
-/// A library with this one definition.
+/// Returns a library with this one definition.
 fn library_of(alloc: Global, name: &str, definition: &str) -> Result<Grok, AllocError> {
     let mut grok = Grok::empty(alloc);
     grok.add_pattern(name, definition)?;
     Ok(grok)
 }
 
-/// So many placeholders of this name, whose aliases are `k0`, `k1` and so on.
+/// Returns `count` placeholders of this name with the aliases `k0`, `k1` and so on: `%{name:k0}%{name:k1}`.
 fn many_keys(alloc: Global, name: &str, count: u32) -> Result<String, AllocError> {
     let mut text = String::new(alloc);
     for number in 0..count {
@@ -34,7 +34,7 @@ fn many_keys(alloc: Global, name: &str, count: u32) -> Result<String, AllocError
     Ok(text)
 }
 
-/// So many placeholders `%{A:k}`.
+/// Returns `count` times the placeholder `%{A:k}`.
 fn one_key(alloc: Global, count: u32) -> Result<String, AllocError> {
     let mut text = String::new(alloc);
     for _ in 0..count {
@@ -43,7 +43,7 @@ fn one_key(alloc: Global, count: u32) -> Result<String, AllocError> {
     Ok(text)
 }
 
-/// The placeholders `%{N0}`, `%{N1}` and so on, so many of them.
+/// Returns the first `count` of the placeholders `%{N0}`, `%{N1}` and so on.
 fn many_names(alloc: Global, count: u32) -> Result<String, AllocError> {
     let mut text = String::new(alloc);
     for number in 0..count {
@@ -52,7 +52,7 @@ fn many_names(alloc: Global, count: u32) -> Result<String, AllocError> {
     Ok(text)
 }
 
-/// A library in which `N0`, `N1` and so on, so many of them, stand for `a`.
+/// Returns a library in which the first `count` of the names `N0`, `N1` and so on stand for `a`.
 fn many_definitions(alloc: Global, count: u32) -> Result<Grok, AllocError> {
     let mut grok = Grok::empty(alloc);
     for number in 0..count {
@@ -62,7 +62,7 @@ fn many_definitions(alloc: Global, count: u32) -> Result<Grok, AllocError> {
     Ok(grok)
 }
 
-/// A line of so many x's, and a z.
+/// Returns a line of `count` times the letter x, and a z. The count is a multiple of 10.
 fn long_line(alloc: Global, count: u32) -> Result<String, AllocError> {
     let mut text = String::new(alloc);
     for _ in 0..count / 10 {
@@ -72,7 +72,7 @@ fn long_line(alloc: Global, count: u32) -> Result<String, AllocError> {
     Ok(text)
 }
 
-/// The pattern finds this text of a key in the line.
+/// Checks that the pattern finds this value of the key in the line.
 fn check_found(
     rt: &impl Abort,
     pattern: &Pattern,
@@ -87,7 +87,22 @@ fn check_found(
     Ok(())
 }
 
-/// The pattern has so many keys, and this one is among them.
+/// Each of the first calls of the pattern finds this text. The first call uses a matcher of its own, the second one builds
+/// the search that the pattern keeps, and the later ones use that search.
+fn check_each_call(
+    rt: &impl Abort,
+    pattern: &Pattern,
+    line: &str,
+    key: &str,
+    expected: &str,
+) -> Result<(), Fail> {
+    for _ in 0..4u32 {
+        check_found(rt, pattern, line, key, expected)?;
+    }
+    Ok(())
+}
+
+/// Checks that the pattern has `count` keys, and that this one is among them.
 fn check_keys(rt: &impl Abort, pattern: &PatternOf<Heads>, count: usize, last: &str) {
     assert_eq!(rt; pattern.capture_names().count(), count);
     let has_last = pattern.capture_names().any(|name| name == last);
@@ -142,6 +157,15 @@ fn check_many_pairs(rt: &impl Abort, found: Option<MatchesRef<'_>>) -> Result<()
     Ok(())
 }
 
+/// A line of 1,100 a's.
+fn line_of_1100(alloc: Global) -> Result<String, AllocError> {
+    let mut line = String::new(alloc);
+    for _ in 0..1100u32 {
+        line.push_str("a")?;
+    }
+    Ok(line)
+}
+
 /// The kept matcher finds the line, which has an `a` for each group.
 fn check_kept(rt: &impl Abort, matcher: &mut Matcher<'_>, line: &str) -> Result<(), Fail> {
     check_many_pairs(rt, matcher.find(line)?)?;
@@ -151,16 +175,13 @@ fn check_kept(rt: &impl Abort, matcher: &mut Matcher<'_>, line: &str) -> Result<
     Ok(())
 }
 
-/// The second and the third line meet the tables that the matcher made at the first.
+/// The second and the third time the line is matched with the tables that the matcher made at the first.
 #[test]
 fn a_kept_matcher_with_1100_named_groups(rt: HostRuntime) -> Result<(), Fail> {
     let grok = library_of(rt.alloc(), "A", "a")?;
     let text = many_keys(rt.alloc(), "A", 1100)?;
     let pattern = grok.compile(text.as_str(), true)?;
-    let mut line = String::new(rt.alloc());
-    for _ in 0..1100u32 {
-        line.push_str("a")?;
-    }
+    let line = line_of_1100(rt.alloc())?;
     let mut matcher = pattern.matcher()?;
     for _ in 0..3u32 {
         check_kept(&rt, &mut matcher, line.as_str())?;
@@ -168,7 +189,17 @@ fn a_kept_matcher_with_1100_named_groups(rt: HostRuntime) -> Result<(), Fail> {
     Ok(())
 }
 
-/// The library of these pairs of names and definitions has each of the 2,000.
+#[test]
+fn own_calls_with_1100_named_groups(rt: HostRuntime) -> Result<(), Fail> {
+    let grok = library_of(rt.alloc(), "A", "a")?;
+    let text = many_keys(rt.alloc(), "A", 1100)?;
+    let pattern = grok.compile(text.as_str(), true)?;
+    let line = line_of_1100(rt.alloc())?;
+    check_each_call(&rt, &pattern, line.as_str(), "k0", "a")?;
+    check_each_call(&rt, &pattern, line.as_str(), "k1099", "a")
+}
+
+/// Checks that `from_iter` makes a library that has a definition for each of the 2,000 names.
 fn check_from_iter(rt: &(impl Abort + AllocGlobal), names: &Vec<String>) -> Result<(), Fail> {
     let mut pairs = Vec::new(rt.alloc());
     for name in names {
@@ -238,13 +269,13 @@ fn a_clash_after_two_million_uses(rt: HostRuntime) -> Result<(), Fail> {
     check_clash(&rt, &grok, text.as_str(), "Alias k[1999999] already exists")
 }
 
-/// Each of the three calls finds the z at the end.
+/// Each way to match finds the z at the end.
 #[test]
 fn a_line_of_20_megabytes(rt: HostRuntime) -> Result<(), Fail> {
     let grok = Grok::empty(rt.alloc());
     let pattern = grok.compile("(?<k>x)y|(?<l>z)", true)?;
     let line = long_line(rt.alloc(), 20_000_000)?;
-    check_found(&rt, &pattern, line.as_str(), "l", "z")?;
+    check_each_call(&rt, &pattern, line.as_str(), "l", "z")?;
     let mut matcher = pattern.matcher()?;
     let found = matcher.match_against(line.as_str())?;
     let is_right = found.is_some_and(|found| found.get("l") == Some("z"));
@@ -255,7 +286,7 @@ fn a_line_of_20_megabytes(rt: HostRuntime) -> Result<(), Fail> {
     Ok(())
 }
 
-/// Whether `regex` takes so many a's in a row.
+/// Returns whether `regex` accepts a pattern of `count` times the letter a.
 fn takes(rt: &impl AllocGlobal, count: u32) -> Result<bool, Fail> {
     let grok = Grok::empty(rt.alloc());
     let text = format!(in rt.alloc(); "(?<k>a{{{count}}})")?;

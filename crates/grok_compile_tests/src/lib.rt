@@ -3,6 +3,10 @@
 #![tactic(auto)]
 
 #[cfg(test)]
+mod byte_locations;
+#[cfg(test)]
+mod clash_locations;
+#[cfg(test)]
 mod deep;
 #[cfg(test)]
 mod definitions;

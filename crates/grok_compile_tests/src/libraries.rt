@@ -1,9 +1,9 @@
-//! Makes libraries with long chains of definitions, and with doublings.
+//! Makes libraries with long chains of definitions, and with doublings (definitions that use the one before twice).
 
 use grok::Grok;
 use std::alloc::{AllocError, Global};
 
-/// Adds the definition that is named by this letter and number, with this text.
+/// Adds the definition with this text, whose name is the letter and the number, as in `C1`.
 fn add_link(
     alloc: Global,
     grok: &mut Grok,
@@ -15,7 +15,8 @@ fn add_link(
     grok.add_pattern(name.as_str(), text)
 }
 
-/// Adds the definition that is named by this letter and number, and that uses the one with the next number.
+/// Adds the definition whose name is the letter and the number, and which uses the one with the next number: `C1`
+/// stands for `%{C2}`.
 fn add_inner_link(
     alloc: Global,
     grok: &mut Grok,
@@ -42,7 +43,7 @@ pub(crate) fn add_chain(
     add_link(alloc, grok, letter, count, last)
 }
 
-/// Adds the definition that uses the doubling with this number twice.
+/// Adds the doubling after `below`, which uses the doubling `below` twice: `D3` stands for `%{D2}%{D2}`.
 fn add_doubling(alloc: Global, grok: &mut Grok, below: u32) -> Result<(), AllocError> {
     let text = format!(in alloc; "%{{D{below}}}%{{D{below}}}")?;
     add_link(alloc, grok, "D", below.saturating_add(1), text.as_str())

@@ -216,7 +216,7 @@ fn check_location(rt: &impl Abort, row: &Located, location: &FaultLocation<'_>) 
     assert_eq!(rt; location.range.start, row.begin, "{}", row.name);
 }
 
-/// Checks that the piece that was found has the same fault if it is measured alone.
+/// Checks that the piece of the row has the same fault if it is measured as a pattern of its own.
 fn check_alone(rt: &impl Abort, grok: &Grok, row: &Located) -> Result<(), Fail> {
     let alone = grok.measure(row.piece, false)?;
     assert_eq!(rt; alone, Measure::Fault(row.fault), "{}", row.name);
@@ -320,7 +320,8 @@ const DEEP: &[Deep] = &[
     },
 ];
 
-/// Returns the library of the row, with doublings of one letter.
+/// Returns the library of the row: its chain, `D0`, which stands for `a`, and `D1` to `D70`, each of which uses the
+/// one before twice.
 fn deep_library(rt: &impl AllocGlobal, row: &Deep) -> Result<Grok, Fail> {
     let mut grok = Grok::empty(rt.alloc());
     let (count, last) = row.chain;

@@ -72,7 +72,8 @@ fn check_measure(rt: &impl Abort, name: &str, given: Measure<'_>, expected: Meas
     assert!(rt; is_right, "{name}: {given:?}");
 }
 
-/// Checks that the looks are those of the row, or at most those if there is a fault.
+/// Checks that the looks (pieces and ends that were read) are as many as the row says, or at most as many if the
+/// measure is a fault.
 fn check_looks(rt: &impl Abort, row: &Row, expected: Measure<'_>, looks: Looks) {
     let Some((pieces, ends)) = row.looks else {
         return;
@@ -83,7 +84,8 @@ fn check_looks(rt: &impl Abort, row: &Row, expected: Measure<'_>, looks: Looks) 
     assert!(rt; is_right, "{}: {looks:?}", row.name);
 }
 
-/// Checks that `measure` and `measure_counted` return this measure, after as many looks as the row says.
+/// Checks that `measure` and `measure_counted` return the measure `expected`, and that the latter takes as many looks
+/// as the row says.
 fn check_mode(
     rt: &impl Abort,
     row: &Row,
@@ -131,7 +133,7 @@ fn repeated(alloc: Global, text: &str, times: u32) -> Result<String, AllocError>
     Ok(all)
 }
 
-/// Checks that this many placeholders side by side have this measure.
+/// Checks that `times` placeholders side by side have the measure `expected`.
 fn check_repeated(
     rt: &(impl Abort + AllocGlobal),
     grok: &Grok,
@@ -155,7 +157,7 @@ fn long_numbers(rt: HostRuntime) -> Result<(), Fail> {
     Ok(())
 }
 
-/// Checks that the placeholder with this name has the measure of the text that it is compiled to.
+/// Checks that the measure of the pattern is that of the text that the pattern is compiled to.
 fn check_default(
     rt: &impl Abort,
     grok: &Grok,
@@ -208,7 +210,7 @@ fn turns_and_letters(alloc: Global, letters: u32) -> Result<String, AllocError> 
     Ok(pattern)
 }
 
-/// Checks that those turns with this many letters have this measure.
+/// Checks that the pattern of `turns_and_letters` with this many letters has the measure `expected`.
 fn check_letters(
     rt: &(impl Abort + AllocGlobal),
     grok: &Grok,
@@ -267,10 +269,10 @@ fn shown_measures(rt: HostRuntime) -> Result<(), Fail> {
 }
 
 /// Checks that the measure equals the one at this index, and no other one.
-fn check_equal<'m>(rt: &impl Abort, measures: &[Measure<'m>], place: usize, measure: &Measure<'m>) {
-    for (other_place, other) in measures.iter().enumerate() {
+fn check_equal<'m>(rt: &impl Abort, measures: &[Measure<'m>], index: usize, measure: &Measure<'m>) {
+    for (other_index, other) in measures.iter().enumerate() {
         let is_same = measure == other;
-        assert_eq!(rt; is_same, place == other_place, "{measure:?} {other:?}");
+        assert_eq!(rt; is_same, index == other_index, "{measure:?} {other:?}");
     }
 }
 
@@ -300,8 +302,8 @@ fn measures_differ(rt: HostRuntime) -> Result<(), Fail> {
         Measure::Fault(Malformed(InvalidCharacter('a'))),
         Measure::Fault(Malformed(InvalidCharacter('b'))),
     ];
-    for (place, measure) in measures.iter().enumerate() {
-        check_equal(&rt, &measures, place, measure);
+    for (index, measure) in measures.iter().enumerate() {
+        check_equal(&rt, &measures, index, measure);
     }
     check_shown_fault(&rt)
 }

@@ -11,7 +11,7 @@ use std::test::Fail;
 struct Split {
     name: &'static str,
     text: &'static str,
-    /// The range, the text and the parts of each piece, followed by a line feed.
+    /// For each piece a line with its range, its text and, if it is a placeholder, its parts.
     pieces: &'static str,
 }
 
@@ -421,7 +421,7 @@ fn check_rows(
     Ok(())
 }
 
-/// Returns the fault of a text, if it is the only piece of the text.
+/// Returns the fault of a text that is a single malformed placeholder, and `None` for any other text.
 fn only_fault(text: &str) -> Option<GrokPatternError> {
     let mut split = grok_split(text);
     let first = split.next()?;

@@ -224,7 +224,7 @@ fn nothing_refused(rt: HostRuntime) -> Result<(), Fail> {
     Ok(())
 }
 
-/// All other errors are those of compiling.
+/// If a pattern has another error than a refusal, `why_refused` returns the same error as `compile`.
 #[test]
 fn other_errors(rt: HostRuntime) -> Result<(), Fail> {
     let grok = Grok::default(rt.alloc())?;

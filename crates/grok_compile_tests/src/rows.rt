@@ -14,7 +14,7 @@ pub struct Row {
     pub name: &'static str,
     /// Names with their definitions.
     pub definitions: &'static [(&'static str, &'static str)],
-    /// The letter of each chain, the number of its definitions, and the text of the last one.
+    /// For each chain of definitions its letter, how many definitions it has, and the text of the last one.
     pub chains: &'static [(&'static str, u32, &'static str)],
     /// The text of `D0`, if the library has doublings.
     pub doubled: Option<&'static str>,
@@ -23,7 +23,8 @@ pub struct Row {
     pub every: Measure<'static>,
     /// The measure if only placeholders with an alias capture.
     pub aliased: Measure<'static>,
-    /// How many pieces and ends `measure_counted` reads, or the most that it may read if there is a fault.
+    /// How many pieces and ends of texts `measure_counted` reads, or the most that it may read if there is a fault.
+    /// With `None` they aren't checked.
     pub looks: Option<(u64, u64)>,
     /// The debug text of the error of compiling, in both modes, if there is one.
     pub error: Option<&'static str>,
@@ -101,7 +102,7 @@ const MANY_KEYS: Row = Row {
     name: "a key that is used 2^44 times",
     definitions: &[("A", "a")],
     doubled: Some("%{A:x}"),
-    pattern: "%{A:y[1]}%{D44}%{missing}",
+    pattern: "%{A:x[17592186044416]}%{D44}%{missing}",
     every: Fault(Missing("missing")),
     aliased: Fault(Missing("missing")),
     looks: None,
@@ -111,7 +112,7 @@ const MANY_KEYS: Row = Row {
 
 /// Definitions that together use a key 2^64 - 1 times, followed by a missing one.
 const MOST_USES: &str =
-    "%{A:y[1]}%{D63}%{D62}%{D61}%{D60}%{D59}%{D58}%{D57}%{D56}%{D55}%{D54}%{D53}%{D52}%{D51}%{D50}%{D49}%{D48}%{D47}%{D46}%{D45}%{D44}%{D43}%{D42}%{D41}%{D40}%{D39}%{D38}%{D37}%{D36}%{D35}%{D34}%{D33}%{D32}%{D31}%{D30}%{D29}%{D28}%{D27}%{D26}%{D25}%{D24}%{D23}%{D22}%{D21}%{D20}%{D19}%{D18}%{D17}%{D16}%{D15}%{D14}%{D13}%{D12}%{D11}%{D10}%{D9}%{D8}%{D7}%{D6}%{D5}%{D4}%{D3}%{D2}%{D1}%{D0}%{missing}";
+    "%{A:x[18446744073709551616]}%{D63}%{D62}%{D61}%{D60}%{D59}%{D58}%{D57}%{D56}%{D55}%{D54}%{D53}%{D52}%{D51}%{D50}%{D49}%{D48}%{D47}%{D46}%{D45}%{D44}%{D43}%{D42}%{D41}%{D40}%{D39}%{D38}%{D37}%{D36}%{D35}%{D34}%{D33}%{D32}%{D31}%{D30}%{D29}%{D28}%{D27}%{D26}%{D25}%{D24}%{D23}%{D22}%{D21}%{D20}%{D19}%{D18}%{D17}%{D16}%{D15}%{D14}%{D13}%{D12}%{D11}%{D10}%{D9}%{D8}%{D7}%{D6}%{D5}%{D4}%{D3}%{D2}%{D1}%{D0}%{missing}";
 
 const ROWS: &[Row] = &[
     DEEPEST,
@@ -411,14 +412,19 @@ const ROWS: &[Row] = &[
     },
     Row {
         name: "a key that is used 2^64 times",
-        pattern: "%{A:y[1]}%{D62}%{D62}%{D62}%{D62}%{missing}",
+        pattern: "%{A:x[18446744073709551616]}%{D62}%{D62}%{D62}%{D62}%{missing}",
         error: Some("Memory"),
         ..MANY_KEYS
     },
     Row {
         name: "a key that is used 2^70 times",
-        pattern: "%{A:y[1]}%{D70}%{missing}",
+        pattern: "%{A:x[18446744073709551616]}%{D70}%{missing}",
         error: Some("Memory"),
+        ..MANY_KEYS
+    },
+    Row {
+        name: "a key that is used 2^70 times and can't clash",
+        pattern: "%{A:y[1]}%{D70}%{missing}",
         ..MANY_KEYS
     },
 ];
@@ -504,7 +510,7 @@ pub(crate) fn clashes() -> &'static [Row] {
     CLASHES
 }
 
-/// Returns all other rows.
+/// Returns all rows but those of `clashes`.
 pub(crate) fn rows() -> &'static [Row] {
     ROWS
 }

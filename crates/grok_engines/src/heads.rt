@@ -47,43 +47,44 @@ impl Engine for Heads {
         line: &'t str,
     ) -> Result<Option<Vec<Option<&'t str>>>, AllocError> {
         let mut captures = Vec::with_capacity(alloc, self.names.len())?;
-        'all_groups: for place in 0..self.names.len() {
-            let capture = whole_at(line, place);
+        'all_groups: for group in 0..self.names.len() {
+            let capture = whole_at(line, group);
             captures.push(capture)?;
         }
         Ok(Some(captures))
     }
 }
 
-/// Returns what group number `place` captures: the whole line for 0 and for each odd number, and nothing for the
-/// others.
+/// Returns what group number `group` captures: the whole line for 0 and for each odd number, and
+/// `None` for the others.
 #[tactic(auto, using(crate::proofs::WholeLines::whole))]
-fn whole_at(line: &str, place: usize) -> Option<&str>
-    ensures text { option_map text_of result ≡ line_at line.now place }
+fn whole_at(line: &str, group: usize) -> Option<&str>
+    ensures text { option_map text_of result ≡ line_at line.now group }
     ensures slice { IfSome (option_map text_of result) (IsSliceOf line.now) }
 {
-    if place == 0 || place % 2 == 1 {
+    if group == 0 || group % 2 == 1 {
         Some(line)
     } else {
         None
     }
 }
 
-/// Returns the byte range that group number `place` captures: that of the whole line for 0 and for each odd number, and
-/// nothing for the others.
+/// Returns the byte range that group number `group` captures: that of the whole line for 0 and for
+/// each odd number, and `None` for the others.
 #[tactic(auto, using(crate::proofs::WholeLines::whole_place, crate::proofs::WholeLines::whole_text))]
-fn location_at(line: &str, place: usize) -> Option<(usize, usize)>
-    ensures text { option_map (located_text line.now) result ≡ line_at line.now place }
+fn location_at(line: &str, group: usize) -> Option<(usize, usize)>
+    ensures text { option_map (located_text line.now) result ≡ line_at line.now group }
     ensures inside { ForSome result (IsLocationIn line.now) }
 {
-    if place == 0 || place % 2 == 1 {
+    if group == 0 || group % 2 == 1 {
         Some((0, line.len()))
     } else {
         None
     }
 }
 
-/// Replaces the contents of the list by what this many groups capture in the line.
+/// Replaces the contents of `locations` by the byte ranges that the first `count` groups capture in
+/// the line.
 fn write_locations(
     locations: &mut Vec<Option<(usize, usize)>>,
     line: &str,
@@ -95,13 +96,13 @@ fn write_locations(
     ensures inside { OnOk result (AreLocationsIn line.now locations.new.items) }
 {
     locations.clear();
-    'all_groups: for place in 0..count {
-        locations.push(location_at(line, place))?;
+    'all_groups: for group in 0..count {
+        locations.push(location_at(line, group))?;
     }
     Ok(())
 }
 
-/// Returns the text between the first `(?<` and the next `>`, and the text after that.
+/// Returns the text between the first `(?<` and the next `>`, and the text after that `>`.
 fn split_head(text: &str) -> Option<(&str, &str)> {
     let (_, head) = text.split_once("(?<")?;
     split_close(head)

@@ -1,4 +1,4 @@
--- What the first line feed of a list says of the bytes before it.
+-- The bytes before the first line feed of a list are a line, and a list without a line feed is one as a whole.
 use Rattle.std.proofs.Common.{◌≡◌, ℕ, zero, suc, Bool, true, false, List, [], ◌∷◌, ◌++◌, ◌==◌, ◌<◌, ◌≤◌, ◌+◌, ◌-◌, length, take, drop, refl, sym, ap, ◌∙◌, arith, slice_index, length-drop}
 use Rattle.std.proofs.Math.Seq.{take-length}
 use Rattle.std.proofs.lemmas.List.{drop_more, take-append-drop}

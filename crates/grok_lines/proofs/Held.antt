@@ -1,4 +1,5 @@
--- What is held after a writer's bytes.
+-- The bytes that a writer took and those still held for it grow together by the bytes that are added, and stay the
+-- same if all held bytes are sent.
 use Rattle.std.proofs.Common.{◌≡◌, ℕ, List, [], ◌++◌, Option, Some, None, sym, ap, ◌∙◌, append_assoc, append-nil}
 use Rattle.std.specs.Io.KnownBytes.{Appends, Keeps, append_known}
 

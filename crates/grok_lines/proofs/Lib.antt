@@ -4,4 +4,5 @@ pub mod LineFeeds
 pub mod LineLemmas
 pub mod LineLaws
 pub mod Held
+pub mod Numbering
 pub mod Steps

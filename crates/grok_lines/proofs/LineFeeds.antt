@@ -1,5 +1,5 @@
--- The places of the line feeds of a list, one after another.
-use Rattle.std.proofs.Common.{◌≡◌, ℕ, zero, suc, Bool, true, List, [], ◌∷◌, ◌++◌, ◌<◌, ◌≤◌, ◌+◌, ◌-◌, inl, inr, length, take, drop, sym, ap, ◌∙◌, arith, slice_index}
+-- Each line feed of a list ends one line, and what follows the last one is the unended line.
+use Rattle.std.proofs.Common.{◌≡◌, ℕ, zero, suc, List, [], ◌∷◌, ◌++◌, ◌<◌, ◌≤◌, ◌+◌, ◌-◌, inl, inr, length, take, drop, sym, ap, ◌∙◌, arith, slice_index}
 use Rattle.std.proofs.lemmas.Bool.{cases_Bool, cases_eq, eqb-true}
 use Rattle.std.proofs.lemmas.List.{get_or-drop, drop-drop, drop_more, take_more, take-append-drop, take_rest, append-nil}
 use Rattle.memchr.specs.Find.{Nowhere, NoneBefore, Passes, is_byte, places_from, places_between}
@@ -8,12 +8,12 @@ use Rattle.grok_lines.proofs.Cuts.{line_below, line_none}
 use Rattle.grok_lines.proofs.LineLemmas.{ended-append, unended-append, ended-none, unended-none, unended-line}
 use Rattle.grok_lines.proofs.LineLaws.{no_line_holds_a_line_feed}
 
--- the first of the places, and the places after it
-first-place : (hay : List ℕ) (i n p : ℕ) (ps : List ℕ) → places_from (is_byte 10) hay i n ≡ p ∷ ps
+-- the first of the positions, and the positions after it
+first-position : (hay : List ℕ) (i n p : ℕ) (ps : List ℕ) → places_from (is_byte 10) hay i n ≡ p ∷ ps
     → NoneBefore (Passes (is_byte 10) hay) i (i + n) p × Passes (is_byte 10) hay p × (ps ≡ places_from (is_byte 10) hay (p + 1) (i + n - (p + 1)))
 unfolding places_from
-first-place hay i zero p ps h = cc
-first-place hay i (suc n) p ps h =
+first-position hay i zero p ps h = cc
+first-position hay i (suc n) p ps h =
     elim (cases_Bool (is_byte 10 (slice_index hay i))) [
       | inl feeds ↦
           let is : i ∷ places_from (is_byte 10) hay (i + 1) n ≡ p ∷ ps = rw feeds at h in
@@ -26,7 +26,7 @@ first-place hay i (suc n) p ps h =
           )
       | inr other_byte ↦
           let is : places_from (is_byte 10) hay (i + 1) n ≡ p ∷ ps = rw other_byte at h in
-          let more = first-place hay (i + 1) n p ps is in
+          let more = first-position hay (i + 1) n p ps is in
           let none = more.0 in
           let same : i + 1 + n ≡ i + suc n = omega arith in (
             record {
@@ -42,14 +42,14 @@ first-place hay i (suc n) p ps h =
           )
     ]
 
-no-place : (hay : List ℕ) (i n : ℕ) → places_from (is_byte 10) hay i n ≡ [] → Nowhere (Passes (is_byte 10) hay) i (i + n)
+no-position : (hay : List ℕ) (i n : ℕ) → places_from (is_byte 10) hay i n ≡ [] → Nowhere (Passes (is_byte 10) hay) i (i + n)
 unfolding places_from
-no-place hay i zero h = λ k a b. absurd (omega arith)
-no-place hay i (suc n) h =
+no-position hay i zero h = λ k a b. absurd (omega arith)
+no-position hay i (suc n) h =
     elim (cases_Bool (is_byte 10 (slice_index hay i))) [
       | inl feeds ↦ let is = rw feeds at h in cc
       | inr other_byte ↦
-          let more = no-place hay (i + 1) n (rw other_byte at h) in
+          let more = no-position hay (i + 1) n (rw other_byte at h) in
           λ k a b passes. elim (cases_eq k i) [
             | inl here ↦ let is_i = rw here at passes in cc
             | inr other ↦ more k (omega arith) (omega arith) passes
@@ -71,7 +71,7 @@ pub record EndsLine (hay : List ℕ) (i p : ℕ) (ps : List ℕ) : Type 0 where
 pub next_line : (hay : List ℕ) (i p : ℕ) (ps : List ℕ) → i ≤ length hay → places_between (is_byte 10) hay i (length hay) ≡ p ∷ ps → EndsLine hay i p ps
 next_line hay i p ps le h =
     let whole : i + (length hay - i) ≡ length hay = omega arith in
-    let found = first-place hay i (length hay - i) p ps h in
+    let found = first-position hay i (length hay - i) p ps h in
     let none = found.0 in
     let low : i ≤ p = none.low in
     let high : p < length hay = omega (arith, none.high) in
@@ -88,7 +88,7 @@ next_line hay i p ps le h =
     }
 
 pub no_line : (hay : List ℕ) (i : ℕ) → i ≤ length hay → places_between (is_byte 10) hay i (length hay) ≡ [] → IsLine (drop i hay)
-no_line hay i le h = rw (← take_rest hay i) (line-between hay i (length hay - i) (no-place hay i (length hay - i) h))
+no_line hay i le h = rw (← take_rest hay i) (line-between hay i (length hay - i) (no-position hay i (length hay - i) h))
 
 -- ---- the last line feed
 

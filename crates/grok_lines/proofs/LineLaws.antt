@@ -1,4 +1,5 @@
--- The laws of the lines of an input.
+-- Proves the laws of lines: the lines of an input and their line feeds make it up, no line holds a line feed, only
+-- the last may lack its own, and no other lines make up the input.
 use Rattle.std.proofs.Common.{◌≡◌, ℕ, Bool, true, false, List, [], ◌∷◌, ◌++◌, ◌==◌, if◌then◌else◌, refl, sym, ap, ◌∙◌, append_assoc}
 use Rattle.std.proofs.lemmas.Bool.{eqb-true}
 use Rattle.std.specs.List.{AllByRecursion}

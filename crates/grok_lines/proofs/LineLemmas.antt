@@ -1,4 +1,5 @@
--- Lines of a list that is cut in two.
+-- The lines of a list that is cut in two are the ended lines of its first part, and then the lines of the rest of
+-- that part followed by the second part.
 use Rattle.std.proofs.Common.{◌≡◌, ℕ, Bool, true, false, List, [], ◌∷◌, ◌++◌, ◌==◌, if◌then◌else◌, refl, ap}
 use Rattle.grok_lines.specs.Lines.{lines_of, ended_lines_of, unended_of, last_line, onto_first, onto_ended, is_none, IsLine}
 

@@ -1,13 +1,14 @@
--- The laws of the lines of an input.
-use Rattle.std.specs.Prelude.{◌≡◌, ℕ, List, ◌++◌, codes, flat_map}
+-- The laws of the lines of an input, and of the answers to them.
+use Rattle.std.specs.Prelude.{◌≡◌, ℕ, List, ◌++◌, codes, flat_map, length}
 use Rattle.std.specs.List.{AllByRecursion}
 use Rattle.grok_lines.specs.Lines.{lines_of, ended_lines_of, unended_of, last_line, IsLine}
+use Rattle.grok_lines.specs.Streams.{answers_of, AreAnswersAfter}
 
 -- the lines, each with its line feed, one after another
 abbrev pub joined : List (List ℕ) → List ℕ
 joined lines = flat_map (λ line. line ++ codes "\n") lines
 
--- The lines that end in a line feed, joined with these, and then the rest of the input, are the input.
+-- The lines that end in a line feed, each with its line feed, and then the rest of the input, are the input.
 abbrev pub InputsAreTheirLines : Type 0
 InputsAreTheirLines = (input : List ℕ) → joined (ended_lines_of input) ++ unended_of input ≡ input
 
@@ -21,8 +22,24 @@ abbrev pub OnlyTheLastMayLackItsLineFeed : Type 0
 OnlyTheLastMayLackItsLineFeed = (input : List ℕ)
     → lines_of input ≡ ended_lines_of input ++ last_line (unended_of input)
 
--- Lines and a rest without line feeds in them, joined to an input, are the lines and the rest of that input.
+-- If lines and a rest, none of which has a line feed in it, are joined to an input, they are the lines and the rest
+-- of this input.
 abbrev pub NoOtherLinesMakeUpAnInput : Type 0
 NoOtherLinesMakeUpAnInput = (lines : List (List ℕ)) (rest : List ℕ)
     → AllByRecursion IsLine lines → IsLine rest
     → (ended_lines_of (joined lines ++ rest) ≡ lines) × (unended_of (joined lines ++ rest) ≡ rest)
+
+-- ---- answers
+
+-- If an answer doesn't depend on how many lines came before, the answers to `lines` are the answers to each line by
+-- itself, one after another.
+abbrev pub AnswersByLinesAlone : Type 0
+AnswersByLinesAlone = (answer : List ℕ → List ℕ) (lines : List (List ℕ))
+    → answers_of (λ n. answer) lines ≡ flat_map answer lines
+
+-- The answers to `lines` and `more` as one list are the answers to `lines`, and then those to `more`, whose numbers
+-- go on after those of `lines`.
+abbrev pub AnswersGoOn : Type 0
+AnswersGoOn = (answer later : ℕ → List ℕ → List ℕ) (lines more : List (List ℕ))
+    → AreAnswersAfter (length lines) answer later
+    → answers_of answer (lines ++ more) ≡ answers_of answer lines ++ answers_of later more

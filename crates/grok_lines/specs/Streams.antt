@@ -1,26 +1,49 @@
--- The answers to the lines of an input, and how far they have gone out. `answer` says what goes out for a
--- line.
-use Rattle.std.specs.Prelude.{◌≡◌, ℕ, List, ◌++◌, Option, flat_map}
+-- The answers to the lines of an input, and how many of them were written. `answers lines` is what is written for
+-- `lines`: the answer to each of them, one after another.
+use Rattle.std.specs.Prelude.{◌≡◌, ℕ, suc, ◌+◌, List, [], ◌∷◌, ◌++◌, Option, length}
 use Rattle.std.specs.Io.KnownBytes.{Appends, Consumes, IsAtEnd}
 use Rattle.grok_lines.specs.Lines.{lines_of, ended_lines_of}
 use Rattle.grok_lines.specs.Traffic.{Traffic}
 
--- these answers, each whole, are a beginning of the answers to the lines, and nothing else has gone out
-abbrev pub HasBegunLines : (List ℕ → List ℕ) → List (List ℕ) → Option (List ℕ) → Option (List ℕ) → Type 0
-HasBegunLines answer lines old new = (sent unsent : List (List ℕ)) × (lines ≡ sent ++ unsent)
-    × Appends old new (flat_map answer sent)
+-- ---- answers that may depend on how many lines came before
 
--- the whole input was read, and the answers to its lines have gone out
-abbrev pub HasAnsweredInput : (List ℕ → List ℕ) → Traffic → Type 0
-HasAnsweredInput answer t = (bytes : List ℕ) × Consumes t.unread_old t.unread_new bytes × IsAtEnd t.unread_new
-    × Appends t.written_old t.written_new (flat_map answer (lines_of bytes))
+-- the answers to these lines, where `answer n` answers the n-th of them, counted from 0
+abbrev pub answers_of : (ℕ → List ℕ → List ℕ) → List (List ℕ) → List ℕ
+answers_of answer [] = []
+answers_of answer (line ∷ lines) = answer 0 line ++ answers_of (λ n. answer (suc n)) lines
 
--- the answers to the lines that a line feed ended in what was read have gone out, and nothing else
-abbrev pub HasAnsweredEnded : (List ℕ → List ℕ) → Traffic → Type 0
-HasAnsweredEnded answer t = (bytes : List ℕ) × Consumes t.unread_old t.unread_new bytes
-    × Appends t.written_old t.written_new (flat_map answer (ended_lines_of bytes))
+-- `later` answers the lines that follow the first `count` lines. It numbers them from 0, so line `n` of `later` is line
+-- `count + n` of `answer`.
+abbrev pub AreAnswersAfter : ℕ → (ℕ → List ℕ → List ℕ) → (ℕ → List ℕ → List ℕ) → Type 0
+AreAnswersAfter count answer later = (n : ℕ) → later n ≡ answer (count + n)
 
--- a beginning of the answers to the lines of what was read has gone out, each whole, and nothing else
-abbrev pub HasAnsweredSome : (List ℕ → List ℕ) → Traffic → Type 0
-HasAnsweredSome answer t = (bytes : List ℕ) × Consumes t.unread_old t.unread_new bytes
-    × HasBegunLines answer (lines_of bytes) t.written_old t.written_new
+-- ---- which answers were written
+
+-- The answers to the first of the lines (none, some or all) were written, each as a whole, and nothing else. `old`
+-- and `new` are the bytes that the output had before and has after.
+abbrev pub HasBegunLines : (List (List ℕ) → List ℕ) → List (List ℕ) → Option (List ℕ) → Option (List ℕ) → Type 0
+HasBegunLines answers lines old new = (sent unsent : List (List ℕ)) × (lines ≡ sent ++ unsent)
+    × Appends old new (answers sent)
+
+-- the whole input was read, and the answers to its lines were written, and nothing else
+abbrev pub HasAnsweredInput : (List (List ℕ) → List ℕ) → Traffic → Type 0
+HasAnsweredInput answers t = (bytes : List ℕ) × Consumes t.unread_old t.unread_new bytes × IsAtEnd t.unread_new
+    × Appends t.written_old t.written_new (answers (lines_of bytes))
+
+-- The whole input was read, and the answers to its lines by `answer` were written, and nothing else. `later` answers
+-- the lines of the next input, whose numbers go on after those of this input.
+abbrev pub HasAnsweredInputThen : (ℕ → List ℕ → List ℕ) → (ℕ → List ℕ → List ℕ) → Traffic → Type 0
+HasAnsweredInputThen answer later t = (bytes : List ℕ) × Consumes t.unread_old t.unread_new bytes × IsAtEnd t.unread_new
+    × Appends t.written_old t.written_new (answers_of answer (lines_of bytes))
+    × AreAnswersAfter (length (lines_of bytes)) answer later
+
+-- the answers to those lines of what was read that end in a line feed were written, and nothing else
+abbrev pub HasAnsweredEnded : (List (List ℕ) → List ℕ) → Traffic → Type 0
+HasAnsweredEnded answers t = (bytes : List ℕ) × Consumes t.unread_old t.unread_new bytes
+    × Appends t.written_old t.written_new (answers (ended_lines_of bytes))
+
+-- The answers to the first lines of what was read (none, some or all) were written, each as a whole, and nothing
+-- else.
+abbrev pub HasAnsweredSome : (List (List ℕ) → List ℕ) → Traffic → Type 0
+HasAnsweredSome answers t = (bytes : List ℕ) × Consumes t.unread_old t.unread_new bytes
+    × HasBegunLines answers (lines_of bytes) t.written_old t.written_new

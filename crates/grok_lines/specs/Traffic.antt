@@ -1,8 +1,8 @@
 -- What a run reads and writes.
 use Rattle.std.specs.Prelude.{ℕ, List, Option}
 
--- The bytes that the reader has left, and those that the writer has got, before the run and after it. The kit
--- doesn't know them of every reader and writer.
+-- The bytes that the reader has left, before the run and after it, and those that the writer has got, before the run
+-- and after it. They are `None` for a reader or a writer whose bytes the kit doesn't know.
 pub record Traffic : Type 0 where
   pub unread_old : Option (List ℕ)
   pub unread_new : Option (List ℕ)

@@ -1,4 +1,4 @@
-//! Why the answering of lines ended early.
+//! Why answering lines can fail.
 ghost use Rattle.std.specs.Prelude.{◌≡◌};
 ghost use Rattle.grok_lines.specs.declared.error.LinesError.TheVariants.{Memory};
 
@@ -6,7 +6,7 @@ use std::alloc::{AllocError, AllocFailed};
 use std::io;
 use thiserror::Error;
 
-/// Why the answering of lines ended early.
+/// Why answering lines failed.
 #[derive(Debug, Drop, Error)]
 pub enum LinesError {
     /// An allocation failed.

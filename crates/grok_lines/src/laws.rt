@@ -1,6 +1,6 @@
-//! Laws of the definition of lines. The function does nothing: the laws are its contract, and that
-//! is proved.
-ghost use Rattle.grok_lines.specs.LineLaws.{InputsAreTheirLines, NoLineHoldsALineFeed, OnlyTheLastMayLackItsLineFeed, NoOtherLinesMakeUpAnInput};
+//! Laws of the definition of lines, and of the answers to them. The functions do nothing: the laws
+//! are their contracts, and that is proved.
+ghost use Rattle.grok_lines.specs.LineLaws.{AnswersByLinesAlone, AnswersGoOn, InputsAreTheirLines, NoLineHoldsALineFeed, OnlyTheLastMayLackItsLineFeed, NoOtherLinesMakeUpAnInput};
 
 /// Laws of the lines of an input.
 ///
@@ -12,4 +12,15 @@ pub fn lines()
     ensures free { NoLineHoldsALineFeed }
     ensures last { OnlyTheLastMayLackItsLineFeed }
     ensures only { NoOtherLinesMakeUpAnInput }
+{}
+
+/// Laws of the answers to lines.
+///
+/// If an answer doesn't depend on how many lines came before, the answers to some lines are the answers to each of
+/// them by itself, one after another. If the numbers of a second list of lines go on after those of a first one, the
+/// answers to the first and then to the second are the answers to both as one list.
+#[tactic(auto, using(crate::proofs::Numbering::answers_by_lines_alone, crate::proofs::Numbering::answers_go_on))]
+pub fn answers()
+    ensures alone { AnswersByLinesAlone }
+    ensures more { AnswersGoOn }
 {}

@@ -1,4 +1,4 @@
-//! Sends answers. They are held back until they are long, and go out before each read of the input
+//! Sends answers. They are held back until they are long, and are sent before each read of the input
 //! and before the run ends.
 ghost use Rattle.std.specs.Prelude.{◌≡◌, ◌⊎◌, [], OnOk, IfErr, IsErrOf};
 ghost use Rattle.std.specs.Io.KnownBytes.{Appends, Keeps, append_known};
@@ -26,7 +26,7 @@ pub fn send<W: Write>(held: &mut Vec<u8>, output: &mut W) -> Result<(), LinesErr
     output.flush().map_err(LinesError::Write)
 }
 
-/// Sends the held answers if they are long, and flushes then.
+/// Sends the held answers and flushes the output, if there are `HELD_SIZE` bytes of them or more.
 ///
 /// # Errors
 ///
@@ -43,7 +43,7 @@ pub fn send_long<W: Write>(held: &mut Vec<u8>, output: &mut W) -> Result<(), Lin
     send(held, output)
 }
 
-/// Adds an answer to the held ones, and sends these if they are long now.
+/// Adds an answer to `held`, and then sends all held answers if there are `HELD_SIZE` bytes of them or more.
 ///
 /// # Errors
 ///

@@ -1,10 +1,10 @@
 //! Reads lines and answers each.
-ghost use Rattle.std.specs.Prelude.{◌≡◌, ◌≤◌, ◌<◌, ◌++◌, ◌∷◌, [], ◌⊎◌, length, take, MatchOption, OnOk, OnErr, IfOk, IfErr, IfSome, IfNone, IsErrOf, vec_len, flat_map};
+ghost use Rattle.std.specs.Prelude.{◌≡◌, ◌≤◌, ◌<◌, ◌++◌, ◌∷◌, [], ◌⊎◌, length, take, MatchOption, OnOk, OnErr, IfOk, IfErr, IfSome, IfNone, IsErrOf, vec_len};
 ghost use Rattle.std.specs.Io.KnownBytes.{Appends, Consumes, IsAtEnd, Keeps, append_known};
 ghost use Rattle.grok_lines.specs.Lines.{IsLine, ended_lines_of, unended_of, last_line};
 ghost use Rattle.grok_lines.specs.Traffic.{traffic};
 ghost use Rattle.grok_lines.specs.Errors.{IsWriteError, UnlessWriteFailed};
-ghost use Rattle.grok_lines.specs.Streams.{HasBegunLines, HasAnsweredInput, HasAnsweredEnded, HasAnsweredSome};
+ghost use Rattle.grok_lines.specs.Streams.{answers_of, AreAnswersAfter, HasBegunLines, HasAnsweredInputThen, HasAnsweredEnded, HasAnsweredSome};
 
 use crate::error::LinesError;
 use crate::output::{finish, send, send_long};
@@ -16,27 +16,30 @@ use std::io::{ErrorKind, Read, Write};
 /// How many bytes are read at once.
 const READ_SIZE: usize = 64 * 1024;
 
-/// What answers lines.
+/// What answers lines, one after another. An answer may depend on how many lines came before.
 pub trait LineAnswers {
     ghost use Rattle.std.specs.Prelude.{ℕ, List};
 
-    // The answer to a line.
-    ghost answer: { Self → List ℕ → List ℕ };
+    // `answer self n line` is the answer to `line` if it is the n-th line from now on, counted from 0.
+    ghost answer: { Self → ℕ → List ℕ → List ℕ };
 
-    /// Appends the answer to a line, or nothing where there is no memory.
+    /// Appends to `text` the answer to the next line, which is `line`. If an allocation fails, appends nothing, and
+    /// doesn't count the line as answered.
     fn answer_line(&mut self, text: &mut Vec<u8>, line: &[u8]) -> Result<(), AllocError>
-        ensures ok { OnOk result (text.new.items ≡ text.old.items ++ answer self.old line.now) }
+        ensures ok { OnOk result (text.new.items ≡ text.old.items ++ answer self.old 0 line.now) }
         ensures memory { OnErr result (text.new.items ≡ text.old.items) }
-        ensures same { answer self.new ≡ answer self.old };
+        ensures next { OnOk result (AreAnswersAfter 1 (answer self.old) (answer self.new)) }
+        ensures same { OnErr result (answer self.new ≡ answer self.old) };
 
-    /// The same for a line that is UTF-8.
+    /// Does the same as `answer_line`, for a line that is UTF-8.
     fn answer_str(&mut self, text: &mut Vec<u8>, line: &str) -> Result<(), AllocError>
-        ensures ok { OnOk result (text.new.items ≡ text.old.items ++ answer self.old line.now) }
+        ensures ok { OnOk result (text.new.items ≡ text.old.items ++ answer self.old 0 line.now) }
         ensures memory { OnErr result (text.new.items ≡ text.old.items) }
-        ensures same { answer self.new ≡ answer self.old };
+        ensures next { OnOk result (AreAnswersAfter 1 (answer self.old) (answer self.new)) }
+        ensures same { OnErr result (answer self.new ≡ answer self.old) };
 }
 
-/// The first line that a line feed ends, and what stands after that line feed.
+/// Returns what comes before the first line feed, and what comes after it. Returns `None` if there is no line feed.
 #[tactic(auto, using(crate::proofs::Cuts::line_none, crate::proofs::Cuts::line_cut))]
 fn first_line(bytes: &[u8]) -> Option<(&[u8], &[u8])>
     ensures { MatchOption result (IsLine bytes.now)
@@ -48,7 +51,7 @@ fn first_line(bytes: &[u8]) -> Option<(&[u8], &[u8])>
     }
 }
 
-/// Answers each of these lines, which line feeds end.
+/// Answers each line of `lines` that ends in a line feed. Answers that aren't sent yet are in `held`.
 fn answer_ended<A: LineAnswers, W: Write>(
     answers: &mut A,
     held: &mut Vec<u8>,
@@ -57,14 +60,16 @@ fn answer_ended<A: LineAnswers, W: Write>(
 ) -> Result<(), LinesError>
     ensures ok { OnOk result (Appends (append_known (W.contents output.old) held.old.items)
         (append_known (W.contents output.new) held.new.items)
-        (flat_map (A.answer answers.old) (ended_lines_of lines.now))) }
-    ensures memory { IsErrOf result LinesError.Memory → HasBegunLines (A.answer answers.old)
+        (answers_of (A.answer answers.old) (ended_lines_of lines.now))) }
+    ensures memory { IsErrOf result LinesError.Memory
+        → HasBegunLines (answers_of (A.answer answers.old))
         (ended_lines_of lines.now) (append_known (W.contents output.old) held.old.items)
         (append_known (W.contents output.new) held.new.items) }
-    ensures same { A.answer answers.new ≡ A.answer answers.old }
+    ensures next { OnOk result (AreAnswersAfter (length (ended_lines_of lines.now))
+        (A.answer answers.old) (A.answer answers.new)) }
     ensures kind { IfErr result (λ error. (error ≡ LinesError.Memory) ⊎ IsWriteError error) }
 {
-    // Where all the lines together are UTF-8, so is each of them.
+    // If all the lines together are UTF-8, so is each of them.
     let utf8 = from_utf8(lines).ok();
     let mut start = 0;
     'lines: for end in memchr_iter(b'\n', lines) {
@@ -78,7 +83,7 @@ fn answer_ended<A: LineAnswers, W: Write>(
     Ok(())
 }
 
-/// The lines that line feeds end, and what stands after them.
+/// Splits the bytes after their last line feed. Returns the lines that end in a line feed, and the rest of the bytes.
 fn split_ended(bytes: &[u8]) -> (&[u8], &[u8])
     ensures ended { ended_lines_of result.0.now ≡ ended_lines_of bytes.now }
     ensures rest { result.1.now ≡ unended_of bytes.now }
@@ -89,8 +94,8 @@ fn split_ended(bytes: &[u8]) -> (&[u8], &[u8])
     }
 }
 
-/// Answers the lines that end in this block, of which the first begins with `partial_line`, and keeps what stands after
-/// them.
+/// Answers the lines that end in this block. `partial_line` has the bytes that were read since the last line feed,
+/// with which the next line begins, both before the call and after it.
 fn feed<A: LineAnswers, W: Write>(
     answers: &mut A,
     held: &mut Vec<u8>,
@@ -101,15 +106,18 @@ fn feed<A: LineAnswers, W: Write>(
     requires { IsLine partial_line.old.items }
     ensures ok { OnOk result (Appends (append_known (W.contents output.old) held.old.items)
         (append_known (W.contents output.new) held.new.items)
-        (flat_map (A.answer answers.old) (ended_lines_of (partial_line.old.items ++ block.now)))) }
+        (answers_of (A.answer answers.old) (ended_lines_of (partial_line.old.items ++ block.now)))) }
     ensures partial_line { OnOk result (partial_line.new.items
         ≡ unended_of (partial_line.old.items ++ block.now)) }
     ensures is_line { OnOk result (IsLine partial_line.new.items) }
-    ensures memory { IsErrOf result LinesError.Memory → HasBegunLines (A.answer answers.old)
+    ensures memory { IsErrOf result LinesError.Memory
+        → HasBegunLines (answers_of (A.answer answers.old))
         (ended_lines_of (partial_line.old.items ++ block.now))
         (append_known (W.contents output.old) held.old.items)
         (append_known (W.contents output.new) held.new.items) }
-    ensures same { A.answer answers.new ≡ A.answer answers.old }
+    ensures next { OnOk result (AreAnswersAfter
+        (length (ended_lines_of (partial_line.old.items ++ block.now)))
+        (A.answer answers.old) (A.answer answers.new)) }
     ensures kind { IfErr result (λ error. (error ≡ LinesError.Memory) ⊎ IsWriteError error) }
 {
     let Some((line, after)) = first_line(block) else {
@@ -125,15 +133,18 @@ fn feed<A: LineAnswers, W: Write>(
     Ok(())
 }
 
-/// Answers the line that no line feed ended, if there is one.
+/// Answers `partial_line`, the rest of the input after its last line feed, as the last line. Does nothing if it is
+/// empty.
 fn answer_last<A: LineAnswers>(
     answers: &mut A,
     held: &mut Vec<u8>,
     partial_line: &[u8],
 ) -> Result<(), AllocError>
     ensures ok { OnOk result (held.new.items ≡ held.old.items
-        ++ flat_map (A.answer answers.old) (last_line partial_line.now)) }
+        ++ answers_of (A.answer answers.old) (last_line partial_line.now)) }
     ensures memory { OnErr result (held.new.items ≡ held.old.items) }
+    ensures next { OnOk result (AreAnswersAfter (length (last_line partial_line.now))
+        (A.answer answers.old) (A.answer answers.new)) }
 {
     if partial_line.is_empty() {
         return Ok(());
@@ -141,8 +152,8 @@ fn answer_last<A: LineAnswers>(
     answers.answer_line(held, partial_line)
 }
 
-/// Sends all that is held, and then reads once. Where the output fails nothing is read, and where the read was interrupted
-/// there is no answer.
+/// Sends all that is held, and then reads once. Returns how many bytes were read, or `None` if the read was
+/// interrupted. If the output fails, nothing is read.
 fn send_and_read<R: Read, W: Write>(
     held: &mut Vec<u8>,
     output: &mut W,
@@ -174,14 +185,14 @@ fn send_and_read<R: Read, W: Write>(
     }
 }
 
-/// So many zeros. It is a function of its own so that no proof meets a list of 65,536 items.
+/// Returns `count` zeros. It is a function of its own, so that no proof has to handle a list of 65,536 items.
 fn zeros(alloc: Global, count: usize) -> Result<Vec<u8>, AllocError>
     ensures { IfOk result (λ zeros. vec_len zeros ≡ count) }
 {
     vec![in alloc; 0u8; count]
 }
 
-/// Answers each line of the input, to its end. What has not gone out is held.
+/// Answers each line of the input, to the end of the input. Answers that aren't sent yet are in `held`.
 fn answer_blocks<A: LineAnswers, R: Read, W: Write>(
     alloc: Global,
     answers: &mut A,
@@ -189,15 +200,15 @@ fn answer_blocks<A: LineAnswers, R: Read, W: Write>(
     held: &mut Vec<u8>,
     output: &mut W,
 ) -> Result<(), LinesError>
-    ensures ok { OnOk result (HasAnsweredInput (A.answer answers.old)
+    ensures ok { OnOk result (HasAnsweredInputThen (A.answer answers.old) (A.answer answers.new)
         (traffic (R.remaining input.old) (R.remaining input.new)
         (append_known (W.contents output.old) held.old.items)
         (append_known (W.contents output.new) held.new.items))) }
-    ensures read { IsErrOf result LinesError.Read → HasAnsweredEnded (A.answer answers.old)
+    ensures read { IsErrOf result LinesError.Read → HasAnsweredEnded (answers_of (A.answer answers.old))
         (traffic (R.remaining input.old) (R.remaining input.new)
         (append_known (W.contents output.old) held.old.items)
         (append_known (W.contents output.new) held.new.items)) }
-    ensures memory { IsErrOf result LinesError.Memory → HasAnsweredSome (A.answer answers.old)
+    ensures memory { IsErrOf result LinesError.Memory → HasAnsweredSome (answers_of (A.answer answers.old))
         (traffic (R.remaining input.old) (R.remaining input.new)
         (append_known (W.contents output.old) held.old.items)
         (append_known (W.contents output.new) held.new.items)) }
@@ -219,20 +230,20 @@ fn answer_blocks<A: LineAnswers, R: Read, W: Write>(
     Err(LinesError::Read)
 }
 
-/// Answers each line of the input, to its end. The answers to what was read go out before more is read.
+/// Answers each line of the input, to the end of the input. The answers to what was read are sent before more is read.
 pub fn answer_lines<A: LineAnswers, R: Read, W: Write>(
     alloc: Global,
     answers: &mut A,
     input: &mut R,
     output: &mut W,
 ) -> Result<(), LinesError>
-    ensures ok { OnOk result (HasAnsweredInput (A.answer answers.old)
+    ensures ok { OnOk result (HasAnsweredInputThen (A.answer answers.old) (A.answer answers.new)
         (traffic (R.remaining input.old) (R.remaining input.new)
         (W.contents output.old) (W.contents output.new))) }
-    ensures read { IsErrOf result LinesError.Read → HasAnsweredEnded (A.answer answers.old)
+    ensures read { IsErrOf result LinesError.Read → HasAnsweredEnded (answers_of (A.answer answers.old))
         (traffic (R.remaining input.old) (R.remaining input.new)
         (W.contents output.old) (W.contents output.new)) }
-    ensures memory { IsErrOf result LinesError.Memory → HasAnsweredSome (A.answer answers.old)
+    ensures memory { IsErrOf result LinesError.Memory → HasAnsweredSome (answers_of (A.answer answers.old))
         (traffic (R.remaining input.old) (R.remaining input.new)
         (W.contents output.old) (W.contents output.new)) }
     ensures kind { IfErr result

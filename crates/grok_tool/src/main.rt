@@ -9,8 +9,8 @@ use std::io::ErrorKind;
 use std::process::ExitCode;
 use std::{env, io};
 
-/// Returns the fault of words that can't be read. Words that aren't UTF-8 are reported as a wrong use, and a failed
-/// allocation as such.
+/// Returns the fault that reports why the words of the command line can't be read: `Memory` if an allocation failed,
+/// and otherwise `Usage`, since a word isn't UTF-8.
 fn words_fault(error: io::Error) -> ToolFault {
     if error.kind() == ErrorKind::OutOfMemory {
         ToolFault::Memory

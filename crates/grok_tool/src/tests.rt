@@ -1,4 +1,4 @@
-//! Tests of `run`, with each command and with various devices, and of the texts of its faults.
+//! Tests of `run`, with each command and with various devices (readers and writers), and of the texts of its faults.
 mod cases;
 mod cuts;
 mod default_sizes;

@@ -6,11 +6,12 @@ use Rattle.std.specs.Str.{bytes_eq}
 use Rattle.std.specs.FinMap as finite
 use Rattle.grok.specs.{Piece, Regular, Placeholder, Malformed, PatternValue, walk}
 
--- What an engine returns for a line: the text of each group, or no match.
+-- What an engine returns for a line: what each group captured (`None` for a group that took no part), or `None` if
+-- the line doesn't match.
 abbrev pub Answers : Type 0 → Type 0
 Answers E = E → List ℕ → Option (List (Option (List ℕ)))
 
--- The pairs that a pattern finds in a line. If the line doesn't match, there are none.
+-- The pairs that a pattern finds in a line: keys with their values. If the line doesn't match, the list is empty.
 abbrev pub pairs_in : {E : Type 0} → Answers E → PatternValue E → List ℕ → List (List ℕ × List ℕ)
 pairs_in answer_to pattern line = option_map_or (walk pattern.keys) (answer_to pattern.engine line) []
 
@@ -27,12 +28,12 @@ is_of_kind pattern kind pair = option_map_or (λ extract. bytes_eq extract kind)
 abbrev pub values_of_kind : {E : Type 0} → PatternValue E → List ℕ → List (List ℕ × List ℕ) → List (List ℕ)
 values_of_kind pattern kind pairs = map (λ pair. pair.1) (filter (is_of_kind pattern kind) pairs)
 
--- The name of a piece, if it is a placeholder.
+-- The name in a piece that is a placeholder, and `None` for any other piece.
 abbrev pub name_of : Piece → Option (List ℕ)
 name_of (Regular from to text) = None
 name_of (Placeholder from to text parts) = Some parts.name
 name_of (Malformed fault) = None
 
--- The whole line as group 0 if the line begins with the text, and otherwise no match.
+-- The whole line as group 0 if the line begins with the text, and otherwise `None`: no match.
 abbrev pub prefix_answer : List ℕ → List ℕ → Option (List (Option (List ℕ)))
 prefix_answer text line = if starts_with nat_eq line text then Some (Some line ∷ []) else None

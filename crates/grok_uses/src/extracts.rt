@@ -1,4 +1,4 @@
-//! An example of a filter by extracts: it keeps only the values of a match whose key has one
+//! An example of a filter by extracts: it keeps only those values of a match whose key has a given
 //! extract.
 ghost use Rattle.std.specs.Prelude.{◌≡◌, IfOk, map, string_bytes};
 ghost use Rattle.grok_uses.specs.Uses.{pairs_in, values_of_kind};

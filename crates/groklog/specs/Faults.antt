@@ -3,8 +3,8 @@ use Rattle.std.specs.Prelude.{ℕ}
 use Rattle.groklog.specs.declared.fault.Fault.{Fault}
 use Rattle.groklog.specs.declared.fault.Fault.TheVariants.{Pattern, Usage, Memory, Read, Write}
 
--- The exit status is 1 for a pattern or a definition, 2 for the options, and 3 if an allocation,
--- reading or writing failed.
+-- The exit status is 1 for a fault of a pattern or a definition, 2 for wrong options, and 3 if an
+-- allocation, reading or writing failed.
 abbrev pub fault_status : Fault → ℕ
 fault_status (Pattern report) = 1
 fault_status (Usage report) = 2

@@ -13,7 +13,8 @@ spelled (Escape c) = 92 ∷ encode_utf8 c
 spelled (Form form spelling) = spelling.now
 spelled (Plain c) = encode_utf8 c
 
--- The part of a lookaround that was read so far, if one is being dropped.
+-- The part of a lookaround that was read so far, if one is being dropped, and otherwise the empty
+-- text.
 abbrev pub dropped_text : Option Dropped → List ℕ
 dropped_text None = []
 dropped_text (Some dropped) = string_bytes dropped.text

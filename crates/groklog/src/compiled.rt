@@ -6,7 +6,7 @@ use crate::library::Library;
 use grok::{Error, Pattern};
 use std::alloc::{AllocError, Global};
 
-/// Returns the fault that the program reports for this error of compiling a pattern.
+/// Returns the fault that the program reports if compiling the pattern returned `error`.
 fn pattern_fault(
     alloc: Global,
     library: &Library<'_>,
@@ -60,7 +60,8 @@ fn has_key(pattern: &Pattern, key: &str) -> bool {
     pattern.capture_names().any(|name| name == key)
 }
 
-/// Returns a fault if the key of an option is also a key of a pattern.
+/// Returns a fault if the key that an option names is also a key of a pattern, and otherwise
+/// `None`.
 ///
 /// # Errors
 ///
@@ -79,6 +80,6 @@ pub fn taken_key(
     }
     let what = format!(in alloc; "{option} has the key {key}, which a pattern has too")?;
     let advice = format!(in alloc; "name another key after {option}")?;
-    let report = Report::new(alloc, what.as_str(), "", advice.as_str())?;
+    let report = Report::new(alloc, what.as_str(), advice.as_str())?;
     Ok(Some(Fault::Usage(report)))
 }

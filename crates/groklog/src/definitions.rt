@@ -36,7 +36,8 @@ fn blanks_len(text: &[u8]) -> usize
     text.iter().take_while(|b| is_blank(**b)).count()
 }
 
-/// Splits a text after the name that it begins with, which may be empty.
+/// Splits a text after the name that it begins with. If it doesn't begin with a name, the first
+/// part is empty.
 #[tactic(auto, using(crate::proofs::NamesAndBlanksEndAtBoundaries::run_ends))]
 fn split_name(text: &str) -> (&str, &str)
     ensures name { result.0.now ≡ take_while is_name_byte text.now }
@@ -54,7 +55,8 @@ fn skip_blanks(text: &str) -> &str
     rest
 }
 
-/// Returns the definition that follows a name: the text after `=`, or the text after blanks.
+/// Returns the definition in `text`, which is what follows a name: the text after `=`, or the text
+/// after one or more blanks. Returns `None` if `text` begins with another character or is empty.
 #[tactic(auto, using(crate::proofs::TextsAfterNames::texts_after_names))]
 fn definition_after(text: &str) -> Option<&str>
     ensures { option_map (λ definition. definition.now) result ≡ definition_after text.now }
@@ -68,6 +70,7 @@ fn definition_after(text: &str) -> Option<&str>
 }
 
 /// Reads a definition of the form `NAME=DEF` or `NAME DEF`, and returns its name and its text.
+/// Returns `None` if the text doesn't have this form.
 pub fn read_definition(text: &str) -> Option<(&str, &str)>
     ensures { option_map pair_texts result ≡ definition_of text.now }
 {
@@ -84,7 +87,7 @@ pub fn read_definition(text: &str) -> Option<(&str, &str)>
 pub enum Origin<'a> {
     /// It is one of the default definitions.
     Default,
-    /// It is on this line of this file. Lines are counted from 1.
+    /// It is on the line `number` of the file `file`. Lines are counted from 1.
     Line { file: &'a str, number: u64 },
     /// It is a word after `-D`.
     Word,
@@ -119,8 +122,8 @@ fn is_skipped(line: &str) -> bool {
     text.is_empty() || text.starts_with('#')
 }
 
-/// Appends the definitions in the text of a file to `found`. Returns the first line that is neither
-/// a definition nor skipped, if there is one, and where it is.
+/// Appends the definitions in the text of a file to `found`. If a line is neither a definition nor
+/// skipped, stops there, and returns where the line is and the line itself.
 ///
 /// # Errors
 ///
@@ -146,7 +149,7 @@ pub fn read_file<'a>(
     Ok(None)
 }
 
-/// Reads the word `NAME=DEF` after `-D`.
+/// Reads a word after `-D`, such as `NAME=DEF`, as a definition. Returns `None` if it isn't one.
 pub fn read_word(word: &str) -> Option<Definition<'_>>
     ensures { option_map (λ definition. (definition.name.now, definition.text.now)) result
         ≡ definition_of word.now }

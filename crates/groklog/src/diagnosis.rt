@@ -1,12 +1,11 @@
 //! Reports what is wrong with a pattern that can't be compiled, where, and what to do.
 
 use crate::excerpt::excerpt;
-use crate::expansion::Expansion;
 use crate::fault::Report;
 use crate::library::Library;
 use crate::logstash::is_refused;
 use grok::parser::GrokPatternError;
-use grok::{Error, Fault, FaultLocation, Grok, RefusalReason};
+use grok::{Error, Fault, FaultLocation, Grok, RefusalReason, WrittenByte};
 use std::alloc::{AllocError, Global};
 use std::ops::Range;
 use strsim::levenshtein;
@@ -25,7 +24,8 @@ const PLACEHOLDERS: &str =
 const FROM_LOGSTASH: &str =
     "use --from-logstash, which rewrites lookarounds, atomic groups and \\h, and reports each change";
 
-/// Returns the known name with the smallest edit distance from this one, if it is close enough.
+/// Returns the name of a definition that has the smallest edit distance from `name`, or `None` if
+/// none is close enough.
 fn nearest_name(alloc: Global, grok: &Grok, name: &str) -> Result<Option<String>, AllocError> {
     let mut nearest = None;
     let mut fewest = MOST_EDITS;
@@ -99,12 +99,14 @@ fn words_end(piece: &str) -> usize {
     }
 }
 
-/// Returns the words of a malformed placeholder, with the colons between them.
+/// Returns the name, the alias and the extract of a malformed placeholder, with the colons between
+/// them: `a:b` of `%{a:b`, and also of `%{a:b=c`.
 fn words_of(piece: &str) -> &str {
     piece.get(2..words_end(piece)).unwrap_or("")
 }
 
-/// Describes what is wrong with a placeholder that has no name, no end, or too many parts.
+/// Returns words that describe what is wrong with a placeholder that has no name, no end, or too
+/// many parts.
 fn incomplete(piece: &str) -> &'static str {
     let words = words_of(piece);
     if name_len(words) == 0 && piece.len() > 2 {
@@ -116,14 +118,15 @@ fn incomplete(piece: &str) -> &'static str {
     }
 }
 
-/// Returns whether the last of a placeholder's alias and extract is empty.
+/// Returns whether the extract of a malformed placeholder is empty, or its alias if it has no
+/// extract.
 fn has_empty_part(piece: &str) -> bool {
     let alias_and_extract = words_of(piece).split(':').skip(1).take(2);
     alias_and_extract.last().is_some_and(|part| part.is_empty())
 }
 
-/// Describes what is wrong with a placeholder that has an empty part, or whose inline definition
-/// can't be read.
+/// Returns words that describe what is wrong with a placeholder that has an empty part, or whose
+/// inline definition can't be read.
 fn wrong_part(piece: &str) -> &'static str {
     if has_empty_part(piece) {
         return "a part of this placeholder is empty";
@@ -140,7 +143,8 @@ fn wrong_part(piece: &str) -> &'static str {
     }
 }
 
-/// Describes what is wrong with a malformed placeholder, and returns the part of it that is wrong.
+/// Returns words that describe what is wrong with a malformed placeholder, and the byte range in
+/// `piece` that is wrong.
 fn malformed(
     alloc: Global,
     fault: GrokPatternError,
@@ -167,7 +171,8 @@ fn moved(range: Range<usize>, by: usize) -> Range<usize> {
     range.start.saturating_add(by)..range.end.saturating_add(by)
 }
 
-/// Returns the first name that the path repeats.
+/// Returns the first name that occurs in the path for the second time, or `None` if each name
+/// occurs once.
 fn repeated<'x>(path: &[&'x str]) -> Option<&'x str> {
     for (number, name) in path.iter().enumerate() {
         if path.iter().take(number).any(|before| *before == *name) {
@@ -177,25 +182,23 @@ fn repeated<'x>(path: &[&'x str]) -> Option<&'x str> {
     None
 }
 
-/// Reports that placeholders are nested too deeply. These are the definitions that lead to them.
+/// Returns the report that placeholders are nested too deeply. `path` has the names of the
+/// definitions that lead there.
 fn too_deep(alloc: Global, path: &[&str]) -> Result<Report, AllocError> {
     let Some(name) = repeated(path) else {
         let what = "placeholders are nested more than 1,023 levels deep";
-        return Report::new(
-            alloc,
-            what,
-            "",
-            "use fewer definitions that use one another",
-        );
+        return Report::new(alloc, what, "use fewer definitions that use one another");
     };
     let what = format!(in alloc; "the definition {name} uses itself")?;
     let advice = format!(in alloc;
         "change {name}, or a definition that it uses, so that it doesn't lead back to {name}"
     )?;
-    Report::new(alloc, what.as_str(), "", advice.as_str())
+    Report::new(alloc, what.as_str(), advice.as_str())
 }
 
-/// Returns the report of a structural fault, without where it is.
+/// Returns the report of a structural fault (a malformed placeholder, a missing definition, or
+/// nesting that is too deep), and the byte range that is wrong in `location.text`. The report
+/// doesn't say yet where the fault is.
 fn structural_report(
     alloc: Global,
     library: &Library<'_>,
@@ -206,22 +209,21 @@ fn structural_report(
         Fault::Malformed(fault) => {
             let piece = location.text.get(range.start..).unwrap_or("");
             let (what, part) = malformed(alloc, fault, piece)?;
-            let report = Report::new(alloc, what.as_str(), "", PLACEHOLDERS)?;
+            let report = Report::new(alloc, what.as_str(), PLACEHOLDERS)?;
             Ok((report, moved(part, range.start)))
         }
         Fault::Missing(name) => {
             let what = format!(in alloc; "there is no definition of {name}")?;
             let advice = advice_for_name(alloc, &library.grok, name)?;
-            Ok((
-                Report::new(alloc, what.as_str(), "", advice.as_str())?,
-                range,
-            ))
+            Ok((Report::new(alloc, what.as_str(), advice.as_str())?, range))
         }
         Fault::TooDeep => Ok((too_deep(alloc, location.path.as_slice())?, range)),
     }
 }
 
-/// Returns the report of a pattern whose first fault is a structural one, or `None` if it has none.
+/// Returns the report of the pattern's first structural fault. Returns `None` if there is none, or
+/// if `error` isn't its error but that of a clash before it (two placeholders that would get the
+/// same key).
 fn located_report(
     alloc: Global,
     library: &Library<'_>,
@@ -235,8 +237,60 @@ fn located_report(
         return Ok(None);
     }
     let (mut report, part) = structural_report(alloc, library, &location)?;
-    report.place = place_of(alloc, library, location.path.as_slice())?;
-    report.excerpt = excerpt(alloc, location.text, part)?;
+    let place = place_of(alloc, library, location.path.as_slice())?;
+    report.add_part(place, excerpt(alloc, location.text, part)?)?;
+    Ok(Some(report))
+}
+
+/// Returns an ordinal number in digits, such as `2nd`.
+fn ordinal(alloc: Global, number: u64) -> Result<String, AllocError> {
+    let ending = match (number % 100, number % 10) {
+        (11..=13, _) => "th",
+        (_, 1) => "st",
+        (_, 2) => "nd",
+        (_, 3) => "rd",
+        _ => "th",
+    };
+    format!(in alloc; "{number}{ending}")
+}
+
+/// Returns the base key and the number of a numbered key: `x` and 1 for `x[1]`.
+fn parts_of_numbered(key: &str) -> Option<(&str, u64)> {
+    let (base, digits) = key.strip_suffix(']')?.rsplit_once('[')?;
+    Some((base, digits.parse().ok()?))
+}
+
+/// Describes how two placeholders get this key. It is the alias of one of them. The other one gets
+/// it because the keys of placeholders with the same base key are numbered.
+fn clashing(alloc: Global, key: &str) -> Result<String, AllocError> {
+    let Some((base, number)) = parts_of_numbered(key) else {
+        // This doesn't happen: only numbered keys clash.
+        return format!(in alloc; "two placeholders get the key {key}");
+    };
+    let nth = ordinal(alloc, number.saturating_add(1))?;
+    format!(in alloc;
+        "two placeholders get the key {key}: one has this alias, and the other is the {nth} that asks for {base}"
+    )
+}
+
+/// Returns the report of a pattern whose first fault is that two placeholders get the same key, or
+/// `None` if its first fault is another one.
+fn clash_report(
+    alloc: Global,
+    library: &Library<'_>,
+    pattern: &str,
+    with_alias_only: bool,
+) -> Result<Option<Report>, AllocError> {
+    let Some(clash) = library.grok.locate_clash(pattern, with_alias_only)? else {
+        return Ok(None);
+    };
+    let what = clashing(alloc, clash.key.as_str())?;
+    let mut report = Report::new(alloc, what.as_str(), "give one of them another alias")?;
+    for placeholder in [&clash.first, &clash.second] {
+        let place = place_of(alloc, library, placeholder.path.as_slice())?;
+        let range = placeholder.range.start..placeholder.range.end;
+        report.add_part(place, excerpt(alloc, placeholder.text, range)?)?;
+    }
     Ok(Some(report))
 }
 
@@ -249,38 +303,89 @@ fn advice_for_refusal(alloc: Global, text: &str) -> Result<&'static str, AllocEr
     })
 }
 
-/// Reports a text whose syntax the engine refuses.
+/// Where a part of an expanded text comes from.
+#[derive(Drop)]
+struct Origin<'a> {
+    /// The names of the placeholders that lead from the pattern to the definition, outermost first.
+    path: Vec<&'a str>,
+    text: &'a str,
+    /// The byte range of the part in `text`, which is a definition or the pattern.
+    range: Range<usize>,
+}
+
+/// Returns where a part of the expanded text of a pattern comes from. If the part begins in regular
+/// text, it comes from where that was copied from, up to the end of the piece at most. If it begins
+/// in the start of a placeholder's group, such as `(?:`, or at the `)` that ends it, it comes from
+/// the whole definition of the placeholder. If it is at the end of the expanded text, it comes from
+/// the whole pattern.
+fn origin_of<'x>(
+    alloc: Global,
+    library: &'x Library<'_>,
+    pattern: &'x str,
+    with_alias_only: bool,
+    part: Range<usize>,
+) -> Result<Origin<'x>, AllocError> {
+    let Some(location) = library
+        .grok
+        .locate_byte(pattern, with_alias_only, part.start)?
+    else {
+        return Ok(Origin {
+            path: Vec::new(alloc),
+            text: pattern,
+            range: 0..pattern.len(),
+        });
+    };
+    let mut path = location.path;
+    match location.part {
+        WrittenByte::Copied(offset) => {
+            let start = location.range.start.saturating_add(offset);
+            let end = start.saturating_add(part.end.saturating_sub(part.start));
+            Ok(Origin {
+                path,
+                text: location.text,
+                range: start..end.min(location.range.end),
+            })
+        }
+        WrittenByte::OfGroup { name, definition } => {
+            path.push(name)?;
+            Ok(Origin {
+                path,
+                text: definition,
+                range: 0..definition.len(),
+            })
+        }
+    }
+}
+
+/// Returns the report of a pattern whose expanded text the engine refuses because of its syntax.
+/// `error` is the engine's error.
 fn syntax_report<'x>(
     alloc: Global,
     library: &'x Library<'_>,
     pattern: &'x str,
-    expanded: &'x str,
+    with_alias_only: bool,
     error: &regex_syntax::Error,
 ) -> Result<Report, AllocError> {
     let what = format!(in alloc; "the engine refuses this: {}", error.kind.message())?;
-    let mut expansion = Expansion::new(alloc, library, pattern, expanded)?;
-    let Some(origin) = expansion.locate(error.span.start..error.span.end)? else {
-        let advice = advice_for_refusal(alloc, pattern)?;
-        return Report::new(alloc, what.as_str(), "the pattern", advice);
-    };
+    let part = error.span.start..error.span.end;
+    let origin = origin_of(alloc, library, pattern, with_alias_only, part)?;
     let advice = advice_for_refusal(alloc, origin.text)?;
     let place = place_of(alloc, library, origin.path.as_slice())?;
-    let mut report = Report::new(alloc, what.as_str(), place.as_str(), advice)?;
-    report.excerpt = excerpt(alloc, origin.text, origin.range)?;
+    let mut report = Report::new(alloc, what.as_str(), advice)?;
+    report.add_part(place, excerpt(alloc, origin.text, origin.range)?)?;
     Ok(report)
 }
 
-/// Reports a pattern that is too large for the engine.
+/// Returns the report of a pattern that is too large for the engine.
 fn too_large(alloc: Global) -> Result<Report, AllocError> {
     Report::new(
         alloc,
         "the pattern is too large for the engine",
-        "",
         "write fewer or smaller repetitions such as {1,1000}, or \\w and \\d for ASCII only: (?-u:\\w)",
     )
 }
 
-/// Reports a pattern whose expanded text the engine refuses.
+/// Returns the report of a pattern whose expanded text the engine refuses.
 fn refusal_report(
     alloc: Global,
     library: &Library<'_>,
@@ -290,7 +395,7 @@ fn refusal_report(
     match library.grok.why_refused(pattern, with_alias_only) {
         Ok(Some(refusal)) => match refusal.reason {
             RefusalReason::Syntax(error) => {
-                syntax_report(alloc, library, pattern, refusal.text.as_str(), &error)
+                syntax_report(alloc, library, pattern, with_alias_only, &error)
             }
             RefusalReason::TooBig => too_large(alloc),
         },
@@ -302,7 +407,7 @@ fn refusal_report(
     }
 }
 
-/// Reports why a pattern can't be compiled. `error` is the error of compiling it.
+/// Returns the report of why a pattern can't be compiled. `error` is what compiling it returned.
 ///
 /// # Errors
 ///
@@ -320,23 +425,19 @@ pub fn report_of(
     if let Some(report) = located_report(alloc, library, pattern, error)? {
         return Ok(report);
     }
+    if let Some(report) = clash_report(alloc, library, pattern, with_alias_only)? {
+        return Ok(report);
+    }
     match error {
         Error::CompiledPatternIsEmpty(_) => Report::new(
             alloc,
             "the pattern is empty",
-            "",
             "write a regular expression, with placeholders such as %{USERNAME:user}",
         ),
-        // All other causes of this error are handled above, so two placeholders have the same key.
-        Error::GenericCompilationFailure(words) => Report::new(
-            alloc,
-            words.as_str(),
-            "the pattern",
-            "give one of the two placeholders another alias",
-        ),
+        // This doesn't happen: all other errors are reported above.
         error => {
             let what = error.to_string(alloc)?;
-            Report::new(alloc, what.as_str(), "the pattern", "")
+            Report::new(alloc, what.as_str(), "")
         }
     }
 }

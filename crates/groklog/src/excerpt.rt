@@ -15,7 +15,7 @@ fn shown(c: char) -> char {
     if c.is_control() { ' ' } else { c }
 }
 
-/// Returns how many characters of a text begin before this byte position.
+/// Returns how many characters of a text begin before the byte position `end`.
 fn chars_before(text: &str, end: usize) -> usize {
     text.char_indices().take_while(|(at, _)| *at < end).count()
 }

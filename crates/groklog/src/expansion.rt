@@ -1,17 +1,13 @@
-//! Finds out which definition each part of an expanded text comes from. For that, it reads the
-//! pattern and the expanded text side by side.
+//! Finds the placeholder of each group of an expanded text. For that, it reads the pattern and the
+//! expanded text side by side.
 
 use crate::library::Library;
 use grok::parser::{GrokComponent, GrokSplit, grok_split};
 use std::alloc::{AllocError, Global};
-use std::ops::Range;
 
 /// A text that is being read: the pattern, or the definition of a placeholder.
 #[derive(Drop)]
 struct Frame<'a> {
-    /// The name of the placeholder. For the pattern itself it is empty.
-    name: &'a str,
-    text: &'a str,
     pieces: GrokSplit<'a>,
     /// The inline definitions of this text that were read so far: names and texts.
     inline: Vec<(&'a str, &'a str)>,
@@ -41,22 +37,12 @@ impl<'a> Placeholder<'a> {
 /// One step of reading the expanded text.
 #[derive(Clone, Copy)]
 pub enum Step<'a> {
-    /// A part without placeholders, which begins at this byte of its text.
-    Text { begin: usize },
+    /// A part without placeholders.
+    Text,
     /// The start of the group of a placeholder.
     Open(Placeholder<'a>),
     /// The end of the group of a placeholder.
     Close,
-}
-
-/// Where a part of the expanded text comes from.
-#[derive(Drop)]
-pub struct Origin<'a> {
-    /// The names of the placeholders that lead from the pattern to the definition, outermost first.
-    pub path: Vec<&'a str>,
-    pub text: &'a str,
-    /// The byte range in that text.
-    pub range: Range<usize>,
 }
 
 /// Reads a pattern and its expanded text side by side.
@@ -70,8 +56,8 @@ pub struct Expansion<'a, 'd> {
     frames: Vec<Frame<'a>>,
 }
 
-/// Returns how long the head of a group is that the text begins with, in bytes, and whether the
-/// group has a name.
+/// Returns the length, in bytes, of the start of a group such as `(?:` or `(?<_n_0>`, with which
+/// the text begins, and whether the group has a name.
 fn group_head(text: &str) -> (usize, bool) {
     if text.starts_with("(?:") {
         return (3, false);
@@ -83,10 +69,8 @@ fn group_head(text: &str) -> (usize, bool) {
 }
 
 impl<'a> Frame<'a> {
-    fn new(alloc: Global, name: &'a str, text: &'a str) -> Frame<'a> {
+    fn new(alloc: Global, text: &'a str) -> Frame<'a> {
         Frame {
-            name,
-            text,
             pieces: grok_split(text),
             inline: Vec::new(alloc),
         }
@@ -117,7 +101,7 @@ impl<'a, 'd> Expansion<'a, 'd> {
         expanded: &'a str,
     ) -> Result<Expansion<'a, 'd>, AllocError> {
         let mut frames = Vec::new(alloc);
-        frames.push(Frame::new(alloc, "", pattern))?;
+        frames.push(Frame::new(alloc, pattern))?;
         Ok(Expansion {
             alloc,
             library,
@@ -137,7 +121,8 @@ impl<'a, 'd> Expansion<'a, 'd> {
         self.expanded.get(self.at..).unwrap_or("")
     }
 
-    /// Begins the group of a placeholder in this text.
+    /// Begins the group of a placeholder in the text of `frame`: skips the start of the group in
+    /// the expanded text, and continues with the definition of the placeholder.
     fn open(
         &mut self,
         mut frame: Frame<'a>,
@@ -149,7 +134,7 @@ impl<'a, 'd> Expansion<'a, 'd> {
         }
         let text = frame.meaning(self.library, name);
         self.frames.push(frame)?;
-        self.frames.push(Frame::new(self.alloc, name, text))?;
+        self.frames.push(Frame::new(self.alloc, text))?;
         let (head, is_named) = group_head(self.rest());
         self.skip(head);
         placeholder.is_capturing = is_named;
@@ -167,10 +152,10 @@ impl<'a, 'd> Expansion<'a, 'd> {
             return Ok(None);
         };
         match frame.pieces.next() {
-            Some(GrokComponent::RegularExpression { range, string }) => {
+            Some(GrokComponent::RegularExpression { string, .. }) => {
                 self.frames.push(frame)?;
                 self.skip(string.len());
-                Ok(Some(Step::Text { begin: range.start }))
+                Ok(Some(Step::Text))
             }
             Some(
                 GrokComponent::GrokPattern {
@@ -200,57 +185,5 @@ impl<'a, 'd> Expansion<'a, 'd> {
                 })
             }
         }
-    }
-
-    /// Returns the names of the open definitions, outermost first.
-    fn path(&self) -> Result<Vec<&'a str>, AllocError> {
-        let mut path = Vec::new(self.alloc);
-        for frame in self.frames.iter().skip(1) {
-            path.push(frame.name)?;
-        }
-        Ok(path)
-    }
-
-    /// Returns this range of the innermost open text, or all of that text if there is no range.
-    fn origin(&self, range: Option<Range<usize>>) -> Result<Option<Origin<'a>>, AllocError> {
-        let path = self.path()?;
-        Ok(match self.frames.last() {
-            None => None,
-            Some(frame) => Some(Origin {
-                path,
-                text: frame.text,
-                range: range.unwrap_or(0..frame.text.len()),
-            }),
-        })
-    }
-
-    /// Returns where a part of the expanded text comes from. The brackets of the group of a
-    /// placeholder count as its whole definition.
-    ///
-    /// # Errors
-    ///
-    /// If an allocation fails.
-    pub fn locate(&mut self, part: Range<usize>) -> Result<Option<Origin<'a>>, AllocError> {
-        // This many steps are enough: each group takes at least four bytes and two steps.
-        for _ in 0..self.expanded.len().saturating_add(2) {
-            let before = self.at;
-            let closing = self.origin(None)?;
-            let Some(step) = self.next()? else {
-                return Ok(closing);
-            };
-            if self.at <= part.start {
-                continue;
-            }
-            return match step {
-                Step::Text { begin } => {
-                    let start = begin.saturating_add(part.start.saturating_sub(before));
-                    let len = part.end.min(self.at).saturating_sub(part.start);
-                    self.origin(Some(start..start.saturating_add(len)))
-                }
-                Step::Open(_) => self.origin(None),
-                Step::Close => Ok(closing),
-            };
-        }
-        Ok(None)
     }
 }

@@ -7,8 +7,8 @@ use regex::Regex;
 use std::alloc::{AllocError, Global};
 use std::collections::BTreeMap;
 
-/// Returns the key of a placeholder with this base key, if `before` placeholders before it have the
-/// same base key.
+/// Returns the key of a placeholder with the base key `key` (its alias, or its name if it has
+/// none), if `before` placeholders before it have the same base key.
 fn numbered(alloc: Global, key: &str, before: u64) -> Result<String, AllocError> {
     if before == 0 {
         return String::from_str(alloc, key);
@@ -16,7 +16,8 @@ fn numbered(alloc: Global, key: &str, before: u64) -> Result<String, AllocError>
     format!(in alloc; "{key}[{before}]")
 }
 
-/// Returns the keys of the capturing placeholders, in the order of their numbers.
+/// Returns the keys of the capturing placeholders of the pattern `text`, in reading order. The one
+/// with the index k is the key of the group `_n_k` in `expanded`.
 fn keys_of<'x>(
     alloc: Global,
     library: &'x Library<'_>,

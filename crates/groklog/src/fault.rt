@@ -7,14 +7,22 @@ ghost use Rattle.groklog.specs.declared.fault.Fault.TheVariants.{Memory};
 use std::alloc::{AllocError, AllocFailed, Global};
 use std::fmt;
 
-/// What is wrong, where, and what to do. A part that isn't known is empty.
+/// A part of a text that is wrong, and where that text is.
+#[derive(Debug, Drop)]
+pub struct FaultyPart {
+    /// Where the text is, in words, such as the name of a file.
+    pub place: String,
+    /// Two lines: the part with some of the text around it, and carets under it.
+    pub excerpt: String,
+}
+
+/// What is wrong, where, and what to do. If there is no advice, it is empty.
 #[derive(Debug, Drop)]
 pub struct Report {
     pub what: String,
-    /// Where it is wrong, in words, such as the name of a file.
-    pub place: String,
-    /// Two lines: a part of the text that is wrong, and carets under the faulty part.
-    pub excerpt: String,
+    /// The parts that are wrong, in reading order: the two placeholders of a clash of keys, and
+    /// otherwise at most one part.
+    pub parts: Vec<FaultyPart>,
     pub advice: String,
 }
 
@@ -34,18 +42,26 @@ pub enum Fault {
 }
 
 impl Report {
-    /// Makes a report without an excerpt.
+    /// Makes a report that shows no part of a text.
     ///
     /// # Errors
     ///
     /// If an allocation fails.
-    pub fn new(alloc: Global, what: &str, place: &str, advice: &str) -> Result<Report, AllocError> {
+    pub fn new(alloc: Global, what: &str, advice: &str) -> Result<Report, AllocError> {
         Ok(Report {
             what: String::from_str(alloc, what)?,
-            place: String::from_str(alloc, place)?,
-            excerpt: String::new(alloc),
+            parts: Vec::new(alloc),
             advice: String::from_str(alloc, advice)?,
         })
+    }
+
+    /// Adds a part that is wrong: where its text is, and an excerpt of that text.
+    ///
+    /// # Errors
+    ///
+    /// If an allocation fails.
+    pub fn add_part(&mut self, place: String, excerpt: String) -> Result<(), AllocError> {
+        Ok(self.parts.push(FaultyPart { place, excerpt })?)
     }
 }
 
@@ -67,12 +83,10 @@ impl Fault {
 impl fmt::Display for Report {
     fn fmt<W: fmt::Write>(&self, f: &mut fmt::Formatter<W>) -> fmt::Result {
         writeln!(f, "groklog: {}", self.what)?;
-        if !self.place.is_empty() {
-            let end = if self.excerpt.is_empty() { "" } else { ":" };
-            writeln!(f, "  in {}{end}", self.place)?;
-        }
-        if !self.excerpt.is_empty() {
-            writeln!(f, "    {}", self.excerpt)?;
+        for (index, part) in self.parts.iter().enumerate() {
+            let start = if index == 0 { "in" } else { "and in" };
+            writeln!(f, "  {start} {}:", part.place)?;
+            writeln!(f, "    {}", part.excerpt)?;
         }
         if !self.advice.is_empty() {
             writeln!(f, "  try: {}", self.advice)?;

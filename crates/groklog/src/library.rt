@@ -34,16 +34,16 @@ pub struct Library<'a> {
     pub changes: Vec<String>,
 }
 
-/// Returns the fault of a line or a word that isn't a definition.
+/// Returns the fault that reports that a line or a word isn't a definition.
 fn no_definition(alloc: Global, origin: Origin<'_>, line: &str) -> Result<Fault, AllocError> {
     let advice = "write NAME=DEF or NAME DEF, where a NAME has a-z A-Z 0-9 _";
     let place = format!(in alloc; "{origin}")?;
-    let mut report = Report::new(alloc, "this isn't a definition", place.as_str(), advice)?;
-    report.excerpt = excerpt(alloc, line, 0..line.len())?;
+    let mut report = Report::new(alloc, "this isn't a definition", advice)?;
+    report.add_part(place, excerpt(alloc, line, 0..line.len())?)?;
     Ok(Fault::Pattern(report))
 }
 
-/// Appends the definitions of a file.
+/// Appends the definitions of a file to `found`.
 fn add_file<'a>(
     alloc: Global,
     found: &mut Vec<Definition<'a>>,
@@ -55,7 +55,7 @@ fn add_file<'a>(
     }
 }
 
-/// Appends the definition in a word after `-D`.
+/// Appends the definition in a word after `-D` to `found`.
 fn add_word<'a>(
     alloc: Global,
     found: &mut Vec<Definition<'a>>,
@@ -142,8 +142,8 @@ impl<'a> Library<'a> {
     }
 
     /// Returns the text that is compiled: rewritten if it was made for Logstash, and otherwise as
-    /// it is. Each change is noted with this place. If a place has the same change several times,
-    /// it is noted once.
+    /// it is. Each change is noted together with `place`, which says where the text is. If the same
+    /// change occurs several times at a place, it is noted once.
     ///
     /// # Errors
     ///
@@ -162,7 +162,8 @@ impl<'a> Library<'a> {
         Ok(text)
     }
 
-    /// Returns the definition of a name, and where it was given.
+    /// Returns the definition of a name, and where it was given, or `None` if the name has no
+    /// definition.
     pub fn source(&self, name: &str) -> Option<&Source<'a>> {
         self.sources.get(name)
     }

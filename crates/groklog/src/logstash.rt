@@ -1,11 +1,13 @@
-//! Rewrites texts that were made for Logstash, whose engine knows forms that `regex` refuses.
+//! Rewrites texts that were made for Logstash, whose engine knows forms that `regex` refuses or
+//! reads in another way.
 ghost use Rattle.std.specs.Prelude.{◌≡◌, ◌≤◌, ◌+◌, ◌++◌, [], OnOk, IfOk, IfSome, None, false, string_bytes, vec_len};
 ghost use Rattle.groklog.specs.Rewriting.{spelled, taken};
 
 use std::alloc::{AllocError, Global};
 use std::fmt;
 
-/// A form that is rewritten, or that has to be recognized to tell what is rewritten.
+/// A form of Logstash's regular expressions that is rewritten, or the start of a character class,
+/// in which these forms have no special meaning.
 #[derive(Clone, Copy)]
 enum Form {
     Atomic,
@@ -16,14 +18,14 @@ enum Form {
     Class,
 }
 
-/// A token of a regular expression, as rewriting distinguishes them.
+/// A token of a regular expression. Rewriting distinguishes four kinds.
 #[derive(Clone, Copy)]
 enum Token<'a> {
     /// A placeholder: the text between its `%{` and `}`.
     Placeholder(&'a str),
     /// A backslash and the character after it.
     Escape(char),
-    /// A form, and how it is spelled.
+    /// A form of Logstash's regular expressions, and the text that begins it, such as `(?>`.
     Form(Form, &'static str),
     /// Any other character.
     Plain(char),
@@ -209,7 +211,7 @@ impl Rewriter {
         }
     }
 
-    /// Records a change of this text.
+    /// Records a change of this kind, and the text that was replaced or dropped.
     fn note(&mut self, kind: ChangeKind, text: &str) -> Result<(), AllocError>
         ensures { OnOk result (vec_len self.new.changes ≡ vec_len self.old.changes + 1) }
     {
@@ -263,7 +265,7 @@ impl Rewriter {
         self.note(dropped.kind, dropped.text.as_str())
     }
 
-    /// Begins to drop a lookaround.
+    /// Begins to drop a lookaround, whose first token is spelled `spelling`.
     fn begin_drop(&mut self, kind: ChangeKind, spelling: &str) -> Result<(), AllocError>
         ensures changes { self.new.changes ≡ self.old.changes }
         ensures taken { OnOk result (taken self.new ≡ string_bytes self.old.text ++ spelling.now) }
@@ -285,8 +287,9 @@ impl Rewriter {
         self.note(kind, old)
     }
 
-    /// Writes a token, rewritten if it is a form that `regex` refuses. In Logstash's engine `\h` is
-    /// a hexadecimal digit.
+    /// Writes a token. It is rewritten if it is a form that `regex` refuses, or a possessive
+    /// quantifier, which `regex` reads in another way. In Logstash's engine `\h` is a hexadecimal
+    /// digit.
     fn write_token(&mut self, token: Token<'_>) -> Result<(), AllocError>
         ensures grows { OnOk result (vec_len self.old.changes ≤ vec_len self.new.changes) }
         ensures taken { OnOk result (vec_len self.new.changes ≡ 0 → self.old.dropped ≡ None →

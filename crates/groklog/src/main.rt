@@ -27,7 +27,6 @@ fn read_words(rt: &HostRuntime) -> Result<Vec<String>, Fault> {
         Err(_) => Err(Fault::Usage(Report::new(
             rt.alloc(),
             "a word of the command line isn't UTF-8",
-            "",
             "write patterns and names of files in UTF-8",
         )?)),
     }

@@ -34,12 +34,41 @@ pub struct Options<'a> {
     pub lines: Lines,
     pub keep: Option<&'a str>,
     pub tag: Option<&'a str>,
+    pub number: Option<&'a str>,
     pub are_pairs: bool,
     pub is_typed: bool,
     /// Whether placeholders without an alias capture too.
     pub is_all: bool,
     pub is_explained: bool,
     pub is_from_logstash: bool,
+}
+
+/// An option that names a key, with the key if the option was given.
+#[derive(Clone, Copy)]
+pub struct KeyOption<'a> {
+    pub option: &'static str,
+    pub key: Option<&'a str>,
+}
+
+impl<'a> Options<'a> {
+    /// Returns the options that name keys, in the order in which an answer has these keys.
+    pub fn key_options(&self) -> [KeyOption<'a>; 3] {
+        let (number, tag, keep) = (self.number, self.tag, self.keep);
+        [
+            KeyOption {
+                option: "--number",
+                key: number,
+            },
+            KeyOption {
+                option: "--tag",
+                key: tag,
+            },
+            KeyOption {
+                option: "--keep",
+                key: keep,
+            },
+        ]
+    }
 }
 
 /// Makes an option that takes one value.
@@ -127,6 +156,12 @@ fn with_output<'a>(alloc: Global, command: Command<'a>) -> Result<Command<'a>, A
             "tag",
             "KEY",
             "Also write the pattern that matched, under this key",
+        ))?
+        .arg(with_value(
+            alloc,
+            "number",
+            "KEY",
+            "Also write the number of the line, under this key",
         ))?
         .arg(flag(alloc, "matched", "Only lines that match").conflicts_with("unmatched")?)?
         .arg(flag(alloc, "unmatched", "Only lines that don't match"))?
@@ -217,6 +252,7 @@ pub fn read_options<'a>(alloc: Global, words: &'a [String]) -> Result<Options<'a
         lines: chosen_lines(&matches),
         keep: matches.get_str("keep"),
         tag: matches.get_str("tag"),
+        number: matches.get_str("number"),
         are_pairs: matches.get_flag("pairs"),
         is_typed: matches.get_flag("typed"),
         is_all: matches.get_flag("all"),
@@ -225,23 +261,40 @@ pub fn read_options<'a>(alloc: Global, words: &'a [String]) -> Result<Options<'a
     })
 }
 
-/// Returns a fault if `--tag` and `--keep` name the same key.
-///
-/// # Errors
-///
-/// If an allocation fails.
-pub fn repeated_key(alloc: Global, options: &Options<'_>) -> Result<Option<Fault>, AllocError> {
-    match (options.tag, options.keep) {
-        (Some(tag), Some(keep)) if tag == keep => {
-            let what = format!(in alloc; "--tag and --keep have the same key {tag}")?;
+/// Returns a fault if these two options name the same key, and otherwise `None`.
+fn same_key(
+    alloc: Global,
+    one: KeyOption<'_>,
+    other: KeyOption<'_>,
+) -> Result<Option<Fault>, AllocError> {
+    match (one.key, other.key) {
+        (Some(key), Some(other_key)) if key == other_key => {
+            let (one, other) = (one.option, other.option);
+            let what = format!(in alloc; "{one} and {other} have the same key {key}")?;
             let advice = "name another key after one of them";
-            Ok(Some(Fault::Usage(Report::new(alloc, what.as_str(), "", advice)?)))
+            Ok(Some(Fault::Usage(Report::new(alloc, what.as_str(), advice)?)))
         }
         _ => Ok(None),
     }
 }
 
-/// Returns whether the error of clap is the help or the version that the words ask for.
+/// Returns a fault if two options name the same key, and otherwise `None`.
+///
+/// # Errors
+///
+/// If an allocation fails.
+pub fn repeated_key(alloc: Global, options: &Options<'_>) -> Result<Option<Fault>, AllocError> {
+    let [number, tag, keep] = options.key_options();
+    for (one, other) in &[(number, tag), (number, keep), (tag, keep)] {
+        if let Some(fault) = same_key(alloc, *one, *other)? {
+            return Ok(Some(fault));
+        }
+    }
+    Ok(None)
+}
+
+/// Returns whether the error of clap is not a fault, but the help or the version that the words ask
+/// for.
 pub fn is_answer(error: &Error) -> bool {
     matches!(
         error.kind(),
@@ -249,7 +302,7 @@ pub fn is_answer(error: &Error) -> bool {
     )
 }
 
-/// Returns the fault of words that clap refuses.
+/// Returns the fault that reports why clap refuses the words.
 ///
 /// # Errors
 ///
@@ -268,5 +321,5 @@ pub fn usage_fault(alloc: Global, error: &Error) -> Result<Fault, AllocError> {
         Some(tip) => tip.split('\n').next().unwrap_or(tip),
         None => "groklog --help",
     };
-    Ok(Fault::Usage(Report::new(alloc, what.trim_end(), "", advice)?))
+    Ok(Fault::Usage(Report::new(alloc, what.trim_end(), advice)?))
 }

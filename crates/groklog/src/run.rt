@@ -22,7 +22,7 @@ enum Answered {
     Enough,
 }
 
-/// Returns the fault of a file that can't be opened or read.
+/// Returns the fault that reports that a file can't be opened or read.
 fn file_fault(alloc: Global, file: &str, kind: ErrorKind) -> Result<Fault, AllocError> {
     let (what, advice) = match kind {
         ErrorKind::OutOfMemory => return Ok(Fault::Memory),
@@ -33,16 +33,17 @@ fn file_fault(alloc: Global, file: &str, kind: ErrorKind) -> Result<Fault, Alloc
         ErrorKind::InvalidData => (format!(in alloc; "{file} isn't UTF-8")?, "save it as UTF-8"),
         kind => (format!(in alloc; "can't read {file}: {kind}")?, ""),
     };
-    Ok(Fault::Read(Report::new(alloc, what.as_str(), "", advice)?))
+    Ok(Fault::Read(Report::new(alloc, what.as_str(), advice)?))
 }
 
-/// Returns the fault of an output that can't be written, or `None` if its reader closed the pipe.
+/// Returns the fault that reports that the output can't be written, or `None` if its reader closed
+/// the pipe.
 fn write_fault(alloc: Global, error: &io::Error) -> Result<Option<Fault>, AllocError> {
     if error.kind() == ErrorKind::BrokenPipe {
         return Ok(None);
     }
     let what = format!(in alloc; "can't write the answers: {error}")?;
-    Ok(Some(Fault::Write(Report::new(alloc, what.as_str(), "", "")?)))
+    Ok(Some(Fault::Write(Report::new(alloc, what.as_str(), "")?)))
 }
 
 /// Reads a file of definitions.
@@ -103,7 +104,7 @@ fn notes_of_extracts(alloc: Global, pattern: &Pattern) -> Result<Vec<String>, Al
     Ok(notes)
 }
 
-/// Pairs each pattern with its text.
+/// Pairs each pattern with its text, which is the tag of the pattern.
 fn with_texts<'p>(
     alloc: Global,
     texts: &[&'p str],
@@ -127,26 +128,28 @@ fn layout_of<'a>(options: &Options<'a>) -> Layout<'a> {
         },
         keep: options.keep,
         tag: options.tag,
+        number: options.number,
         typed: options.is_typed,
     }
 }
 
-/// Checks that the keys of the options differ from each other and from the keys of the patterns.
+/// Checks that the keys that options such as `--tag` name differ from each other and from the keys
+/// of the patterns.
 fn check_keys(alloc: Global, options: &Options<'_>, patterns: &[Pattern]) -> Result<(), Fault> {
     if let Some(fault) = repeated_key(alloc, options)? {
         return Err(fault);
     }
-    if let Some(fault) = taken_key(alloc, patterns, "--tag", options.tag)? {
-        return Err(fault);
-    }
-    if let Some(fault) = taken_key(alloc, patterns, "--keep", options.keep)? {
-        return Err(fault);
+    for named in &options.key_options() {
+        if let Some(fault) = taken_key(alloc, patterns, named.option, named.key)? {
+            return Err(fault);
+        }
     }
     Ok(())
 }
 
-/// Returns the fault of an input whose lines weren't all answered, or `None` if the reader of the
-/// answers closed the pipe. If reading failed, `failure` says why.
+/// Returns the fault that reports `error`, with which answering the lines of the input `name`
+/// ended, or `None` if the reader of the answers closed the pipe. If reading failed, `failure` says
+/// why.
 fn lines_fault(
     alloc: Global,
     name: &str,
@@ -163,7 +166,7 @@ fn lines_fault(
     }
 }
 
-/// Answers each line of an input.
+/// Answers each line of an input. Faults call the input `name`.
 fn answer_input<R: Read>(
     rt: &HostRuntime,
     answers: &mut LogAnswers<'_>,
@@ -181,7 +184,8 @@ fn answer_input<R: Read>(
     }
 }
 
-/// Watches a file while it is read, and shows the progress if `shows` is set.
+/// Returns the file as an input that is watched while it is read. It shows the progress if `shows`
+/// is set and the size of the file is known and isn't 0.
 fn watch<'a>(rt: &'a HostRuntime, file: File, name: &'a str, shows: bool) -> Watched<'a, File> {
     let size = match file.metadata() {
         Ok(metadata) => metadata.len(),
@@ -195,7 +199,8 @@ fn watch<'a>(rt: &'a HostRuntime, file: File, name: &'a str, shows: bool) -> Wat
     }
 }
 
-/// Answers each line of a file. The name `-` means standard input.
+/// Answers each line of a file, and shows the progress if `shows` is set. The name `-` means
+/// standard input, which has no progress.
 fn answer_file(
     rt: &HostRuntime,
     answers: &mut LogAnswers<'_>,
@@ -241,7 +246,7 @@ pub fn write_output(rt: &HostRuntime, text: &str) -> Result<(), Fault> {
     Ok(())
 }
 
-/// Explains each pattern.
+/// Writes the explanation of each pattern to standard output.
 fn explain_all(
     rt: &HostRuntime,
     library: &Library<'_>,

@@ -9,7 +9,7 @@ use std::time::{Duration, Instant};
 /// How many seconds pass before progress is first shown, and between two updates of it.
 const WAIT_SECONDS: u64 = 1;
 
-/// The links to the open files of standard output and standard error on Linux.
+/// The link to the open file of standard output on Linux. `ERRORS` is that of standard error.
 const OUTPUT: &str = "/proc/self/fd/1";
 
 const ERRORS: &str = "/proc/self/fd/2";
@@ -100,7 +100,8 @@ impl<'a, R> Watched<'a, R> {
         }
     }
 
-    /// Shows the progress of reading a file of this name and size.
+    /// Returns the same input, which now also shows the progress of reading a file of this name and
+    /// size in bytes.
     pub fn with_progress(
         mut self,
         rt: &'a HostRuntime,

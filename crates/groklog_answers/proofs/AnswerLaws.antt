@@ -3,6 +3,7 @@ use Rattle.std.proofs.Common.{◌≡◌, ◌≢◌, ◌⊎◌, inl, inr, ℕ, Li
 use Rattle.std.specs.Option.{option_or}
 use Rattle.std.specs.Str.{is_utf8}
 use Rattle.std.specs.Str.Lossy.{utf8_lossy}
+use Rattle.grok.specs.Numeral.{numeral}
 use Rattle.groklog_answers.specs.Layouts.{LayoutValue}
 use Rattle.groklog_answers.specs.Patterns.{PatternText, MatchText, match_of, first_match}
 use Rattle.groklog_answers.specs.Objects.{match_members, unmatched_members, object_text}
@@ -26,30 +27,30 @@ none_that_matches_is_no_match (pattern ∷ patterns) line none = rw none.0 (none
 -- ---- which lines are answered
 
 -- Which lines are answered doesn't change how an answer is written.
-match_is_same : (format : OutputFormat) (a b : Lines) (layout : LayoutValue) (found : MatchText) (line : List ℕ)
-    → match_text format (with_lines a layout) found line ≡ match_text format (with_lines b layout) found line
-match_is_same Json a b layout found line = refl
-match_is_same Pairs a b layout found line = refl
+match_is_same : (format : OutputFormat) (a b : Lines) (layout : LayoutValue) (found : MatchText) (n : ℕ) (line : List ℕ)
+    → match_text format (with_lines a layout) found n line ≡ match_text format (with_lines b layout) found n line
+match_is_same Json a b layout found n line = refl
+match_is_same Pairs a b layout found n line = refl
 
-unmatched_is_same : (format : OutputFormat) (a b : Lines) (layout : LayoutValue) (line : List ℕ)
-    → unmatched_text format (with_lines a layout) line ≡ unmatched_text format (with_lines b layout) line
-unmatched_is_same Json a b layout line = refl
-unmatched_is_same Pairs a b layout line = refl
+unmatched_is_same : (format : OutputFormat) (a b : Lines) (layout : LayoutValue) (n : ℕ) (line : List ℕ)
+    → unmatched_text format (with_lines a layout) n line ≡ unmatched_text format (with_lines b layout) n line
+unmatched_is_same Json a b layout n line = refl
+unmatched_is_same Pairs a b layout n line = refl
 
-shared_by : (layout : LayoutValue) (found : Option MatchText) (line : List ℕ)
-    → Share (answer_by (with_lines Matched layout) found line) (answer_by (with_lines Unmatched layout) found line) (answer_by (with_lines All layout) found line)
-shared_by layout None line = inr (refl, unmatched_is_same layout.format Unmatched All layout line)
-shared_by layout (Some found) line = inl (match_is_same layout.format Matched All layout found line, refl)
+shared_by : (layout : LayoutValue) (found : Option MatchText) (n : ℕ) (line : List ℕ)
+    → Share (answer_by (with_lines Matched layout) found n line) (answer_by (with_lines Unmatched layout) found n line) (answer_by (with_lines All layout) found n line)
+shared_by layout None n line = inr (refl, unmatched_is_same layout.format Unmatched All layout n line)
+shared_by layout (Some found) n line = inl (match_is_same layout.format Matched All layout found n line, refl)
 
-shared : (b : Bool) (layout : LayoutValue) (found : Option MatchText) (line lossy : List ℕ)
-    → Share (if b then answer_by (with_lines Matched layout) found line else unmatched_answer Matched (with_lines Matched layout) lossy)
-    (if b then answer_by (with_lines Unmatched layout) found line else unmatched_answer Unmatched (with_lines Unmatched layout) lossy)
-    (if b then answer_by (with_lines All layout) found line else unmatched_answer All (with_lines All layout) lossy)
-shared true layout found line lossy = shared_by layout found line
-shared false layout found line lossy = inr (refl, unmatched_is_same layout.format Unmatched All layout lossy)
+shared : (b : Bool) (layout : LayoutValue) (found : Option MatchText) (n : ℕ) (line lossy : List ℕ)
+    → Share (if b then answer_by (with_lines Matched layout) found n line else unmatched_answer Matched (with_lines Matched layout) n lossy)
+    (if b then answer_by (with_lines Unmatched layout) found n line else unmatched_answer Unmatched (with_lines Unmatched layout) n lossy)
+    (if b then answer_by (with_lines All layout) found n line else unmatched_answer All (with_lines All layout) n lossy)
+shared true layout found n line lossy = shared_by layout found n line
+shared false layout found n line lossy = inr (refl, unmatched_is_same layout.format Unmatched All layout n lossy)
 
 pub each_answer_is_of_one_kind : EachAnswerIsOfOneKind
-each_answer_is_of_one_kind layout patterns line = shared (is_utf8 line) layout (first_match patterns line) line (utf8_lossy line)
+each_answer_is_of_one_kind layout patterns n line = shared (is_utf8 line) layout (first_match patterns line) n line (utf8_lossy line)
 
 -- ---- with `All` each line has an answer
 
@@ -61,24 +62,26 @@ filled (x ∷ a) b h e = cc
 feed : codes "\n" ≢ []
 feed e = cc
 
-match_is_written : (format : OutputFormat) (layout : LayoutValue) (found : MatchText) (line : List ℕ) → match_text format layout found line ≢ []
-match_is_written Json layout found line = filled (object_text (match_members layout found line)) (codes "\n") feed
-match_is_written Pairs layout found line =
-    filled (optional_line layout.tag found.tag) _
-    (filled (flat_map pair_line found.pairs) _ (filled (optional_line layout.keep line) (codes "\n") feed))
+match_is_written : (format : OutputFormat) (layout : LayoutValue) (found : MatchText) (n : ℕ) (line : List ℕ) → match_text format layout found n line ≢ []
+match_is_written Json layout found n line = filled (object_text (match_members layout found n line)) (codes "\n") feed
+match_is_written Pairs layout found n line =
+    filled (optional_line layout.number (numeral n)) _
+    (filled (optional_line layout.tag found.tag) _
+    (filled (flat_map pair_line found.pairs) _ (filled (optional_line layout.keep line) (codes "\n") feed)))
 
-unmatched_is_written : (format : OutputFormat) (layout : LayoutValue) (line : List ℕ) → unmatched_text format layout line ≢ []
-unmatched_is_written Json layout line = filled (object_text (unmatched_members layout line)) (codes "\n") feed
-unmatched_is_written Pairs layout line = filled (optional_line layout.keep line) (codes "\n") feed
+unmatched_is_written : (format : OutputFormat) (layout : LayoutValue) (n : ℕ) (line : List ℕ) → unmatched_text format layout n line ≢ []
+unmatched_is_written Json layout n line = filled (object_text (unmatched_members layout n line)) (codes "\n") feed
+unmatched_is_written Pairs layout n line =
+    filled (optional_line layout.number (numeral n)) _ (filled (optional_line layout.keep line) (codes "\n") feed)
 
-written_by : (layout : LayoutValue) (found : Option MatchText) (line : List ℕ) → answer_by (with_lines All layout) found line ≢ []
-written_by layout None line = unmatched_is_written layout.format (with_lines All layout) line
-written_by layout (Some found) line = match_is_written layout.format (with_lines All layout) found line
+written_by : (layout : LayoutValue) (found : Option MatchText) (n : ℕ) (line : List ℕ) → answer_by (with_lines All layout) found n line ≢ []
+written_by layout None n line = unmatched_is_written layout.format (with_lines All layout) n line
+written_by layout (Some found) n line = match_is_written layout.format (with_lines All layout) found n line
 
-written : (b : Bool) (layout : LayoutValue) (found : Option MatchText) (line lossy : List ℕ)
-    → (if b then answer_by (with_lines All layout) found line else unmatched_answer All (with_lines All layout) lossy) ≢ []
-written true layout found line lossy = written_by layout found line
-written false layout found line lossy = unmatched_is_written layout.format (with_lines All layout) lossy
+written : (b : Bool) (layout : LayoutValue) (found : Option MatchText) (n : ℕ) (line lossy : List ℕ)
+    → (if b then answer_by (with_lines All layout) found n line else unmatched_answer All (with_lines All layout) n lossy) ≢ []
+written true layout found n line lossy = written_by layout found n line
+written false layout found n line lossy = unmatched_is_written layout.format (with_lines All layout) n lossy
 
 pub each_line_is_answered : EachLineIsAnswered
-each_line_is_answered layout patterns line = written (is_utf8 line) layout (first_match patterns line) line (utf8_lossy line)
+each_line_is_answered layout patterns n line = written (is_utf8 line) layout (first_match patterns line) n line (utf8_lossy line)

@@ -1,8 +1,10 @@
 mod Numbers
+mod Numerals
 mod FirstMatches
 mod Objects
 mod Utf8Lines
 mod ReadsBack
 mod AnswerLaws
+mod LineNumbers
 mod NumberLines
 mod ObjectLines

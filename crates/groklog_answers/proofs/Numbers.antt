@@ -1,4 +1,4 @@
--- Texts that are JSON numbers.
+-- The test `is_json_number` is true only for JSON numbers, and each value that is written as a number is one.
 use Rattle.std.proofs.Common.{◌≡◌, ℕ, Bool, true, false, ◌&&◌, ◌||◌, not, List, [], ◌∷◌, Option, Some, None, codes, refl}
 use Rattle.std.specs.List.{list_any}
 use Rattle.std.specs.Str.{bytes_eq}

@@ -118,32 +118,32 @@ object_line members flat =
 abbrev IsLineOrNone : List ℕ → Type 0
 IsLineOrNone answer = (answer ≡ []) ⊎ ((object : List ℕ) × IsLine object × (answer ≡ object ++ codes "\n"))
 
-match_lines_up : (format : OutputFormat) (layout : LayoutValue) (found : MatchText) (line : List ℕ) → format ≡ Json → IsLineOrNone (match_text format layout found line)
-match_lines_up Json layout found line is = inr (object_text (match_members layout found line), object_line _ (match_is_flat layout found line), refl)
-match_lines_up Pairs layout found line is = cc
+match_lines_up : (format : OutputFormat) (layout : LayoutValue) (found : MatchText) (n : ℕ) (line : List ℕ) → format ≡ Json → IsLineOrNone (match_text format layout found n line)
+match_lines_up Json layout found n line is = inr (object_text (match_members layout found n line), object_line _ (match_is_flat layout found n line), refl)
+match_lines_up Pairs layout found n line is = cc
 
-unmatched_lines_up : (format : OutputFormat) (layout : LayoutValue) (line : List ℕ) → format ≡ Json → IsLineOrNone (unmatched_text format layout line)
-unmatched_lines_up Json layout line is = inr (object_text (unmatched_members layout line), object_line _ (unmatched_is_flat layout line), refl)
-unmatched_lines_up Pairs layout line is = cc
+unmatched_lines_up : (format : OutputFormat) (layout : LayoutValue) (n : ℕ) (line : List ℕ) → format ≡ Json → IsLineOrNone (unmatched_text format layout n line)
+unmatched_lines_up Json layout n line is = inr (object_text (unmatched_members layout n line), object_line _ (unmatched_is_flat layout n line), refl)
+unmatched_lines_up Pairs layout n line is = cc
 
-by_match : (lines : Lines) (layout : LayoutValue) (found : MatchText) (line : List ℕ) → layout.format ≡ Json → IsLineOrNone (match_answer lines layout found line)
-by_match All layout found line is = match_lines_up layout.format layout found line is
-by_match Matched layout found line is = match_lines_up layout.format layout found line is
-by_match Unmatched layout found line is = inl refl
+by_match : (lines : Lines) (layout : LayoutValue) (found : MatchText) (n : ℕ) (line : List ℕ) → layout.format ≡ Json → IsLineOrNone (match_answer lines layout found n line)
+by_match All layout found n line is = match_lines_up layout.format layout found n line is
+by_match Matched layout found n line is = match_lines_up layout.format layout found n line is
+by_match Unmatched layout found n line is = inl refl
 
-without_match : (lines : Lines) (layout : LayoutValue) (line : List ℕ) → layout.format ≡ Json → IsLineOrNone (unmatched_answer lines layout line)
-without_match All layout line is = unmatched_lines_up layout.format layout line is
-without_match Matched layout line is = inl refl
-without_match Unmatched layout line is = unmatched_lines_up layout.format layout line is
+without_match : (lines : Lines) (layout : LayoutValue) (n : ℕ) (line : List ℕ) → layout.format ≡ Json → IsLineOrNone (unmatched_answer lines layout n line)
+without_match All layout n line is = unmatched_lines_up layout.format layout n line is
+without_match Matched layout n line is = inl refl
+without_match Unmatched layout n line is = unmatched_lines_up layout.format layout n line is
 
-by_any : (layout : LayoutValue) (found : Option MatchText) (line : List ℕ) → layout.format ≡ Json → IsLineOrNone (answer_by layout found line)
-by_any layout None line is = without_match layout.lines layout line is
-by_any layout (Some found) line is = by_match layout.lines layout found line is
+by_any : (layout : LayoutValue) (found : Option MatchText) (n : ℕ) (line : List ℕ) → layout.format ≡ Json → IsLineOrNone (answer_by layout found n line)
+by_any layout None n line is = without_match layout.lines layout n line is
+by_any layout (Some found) n line is = by_match layout.lines layout found n line is
 
-either_way : (b : Bool) (layout : LayoutValue) (found : Option MatchText) (line lossy : List ℕ) → layout.format ≡ Json
-    → IsLineOrNone (if b then answer_by layout found line else unmatched_answer layout.lines layout lossy)
-either_way true layout found line lossy is = by_any layout found line is
-either_way false layout found line lossy is = without_match layout.lines layout lossy is
+either_way : (b : Bool) (layout : LayoutValue) (found : Option MatchText) (n : ℕ) (line lossy : List ℕ) → layout.format ≡ Json
+    → IsLineOrNone (if b then answer_by layout found n line else unmatched_answer layout.lines layout n lossy)
+either_way true layout found n line lossy is = by_any layout found n line is
+either_way false layout found n line lossy is = without_match layout.lines layout n lossy is
 
 pub objects_are_lines : ObjectsAreLines
-objects_are_lines layout patterns line is = either_way (is_utf8 line) layout (first_match patterns line) line (utf8_lossy line) is
+objects_are_lines layout patterns n line is = either_way (is_utf8 line) layout (first_match patterns line) n line (utf8_lossy line) is

@@ -11,7 +11,7 @@ members_are (pair ∷ more) =
     ap (λ ts. Token.key pair.0 ∷ (json_tokens pair.1 ++ ts)) (members_are more)
     ∙ sym (append_assoc (member_tokens pair) (flat_map member_tokens more) (Token.end_object ∷ []))
 
-pub object_is : (members : KeyValues)
+object_is : (members : KeyValues)
     → json_tokens (object (members_of members)) ≡ Token.begin_object ∷ (flat_map member_tokens members ++ Token.end_object ∷ [])
 object_is members = ap (λ ts. Token.begin_object ∷ ts) (members_are members)
 
@@ -21,12 +21,24 @@ tokens_append (pair ∷ more) b =
     ap (λ ts. member_tokens pair ++ ts) (tokens_append more b)
     ∙ sym (append_assoc (member_tokens pair) (flat_map member_tokens more) (flat_map member_tokens b))
 
--- The members are written in three parts: the tag, the pairs, and the line itself.
-pub object_in_parts : (a b c : KeyValues)
-    → json_tokens (object (members_of (a ++ (b ++ c))))
-    ≡ Token.begin_object ∷ (((flat_map member_tokens a ++ flat_map member_tokens b) ++ flat_map member_tokens c) ++ Token.end_object ∷ [])
-object_in_parts a b c =
-    object_is (a ++ (b ++ c))
+-- The members for a line that no pattern matches are written in two parts: the number of the line, and
+-- the line itself.
+pub object_in_two_parts : (a b : KeyValues)
+    → json_tokens (object (members_of (a ++ b)))
+    ≡ Token.begin_object ∷ ((flat_map member_tokens a ++ flat_map member_tokens b) ++ Token.end_object ∷ [])
+object_in_two_parts a b =
+    object_is (a ++ b) ∙ ap (λ ts. Token.begin_object ∷ (ts ++ Token.end_object ∷ [])) (tokens_append a b)
+
+-- Those of a match are written in four parts: the number of the line, the tag, the pairs, and the line
+-- itself.
+pub object_in_four_parts : (a b c d : KeyValues)
+    → json_tokens (object (members_of (a ++ (b ++ (c ++ d)))))
+    ≡ Token.begin_object ∷ ((((flat_map member_tokens a ++ flat_map member_tokens b) ++ flat_map member_tokens c)
+    ++ flat_map member_tokens d) ++ Token.end_object ∷ [])
+object_in_four_parts a b c d =
+    object_is (a ++ (b ++ (c ++ d)))
     ∙ ap (λ ts. Token.begin_object ∷ (ts ++ Token.end_object ∷ []))
-    (tokens_append a (b ++ c) ∙ ap (λ ts. flat_map member_tokens a ++ ts) (tokens_append b c)
-    ∙ sym (append_assoc (flat_map member_tokens a) (flat_map member_tokens b) (flat_map member_tokens c)))
+    (tokens_append a (b ++ (c ++ d)) ∙ ap (λ ts. flat_map member_tokens a ++ ts) (tokens_append b (c ++ d))
+    ∙ ap (λ ts. flat_map member_tokens a ++ (flat_map member_tokens b ++ ts)) (tokens_append c d)
+    ∙ sym (append_assoc (flat_map member_tokens a) (flat_map member_tokens b) (flat_map member_tokens c ++ flat_map member_tokens d))
+    ∙ sym (append_assoc (flat_map member_tokens a ++ flat_map member_tokens b) (flat_map member_tokens c) (flat_map member_tokens d)))

@@ -8,9 +8,10 @@ use Rattle.json.proofs.Printed.Trees.{document-print}
 use Rattle.groklog_answers.specs.Layouts.{LayoutValue}
 use Rattle.groklog_answers.specs.Patterns.{MatchText}
 use Rattle.groklog_answers.specs.Values.{is_written_as_number, json_value}
-use Rattle.groklog_answers.specs.Objects.{KeyValues, members_of, typed_pair, extract_for, optional_member, match_members, unmatched_members, object_text}
+use Rattle.groklog_answers.specs.Objects.{KeyValues, members_of, typed_pair, extract_for, optional_member, number_member, match_members, unmatched_members, object_text}
 use Rattle.groklog_answers.specs.AnswerLaws.{MatchesReadBack, UnmatchedLinesReadBack}
 use Rattle.groklog_answers.proofs.Numbers.{written_is_number}
+use Rattle.groklog_answers.proofs.Numerals.{numeral_is_number}
 
 -- The value of the member is a string, or a number whose text is a JSON number.
 abbrev pub IsFlat : List ℕ × Json → Type 0
@@ -33,17 +34,22 @@ optional_is_flat : (name : Option (List ℕ)) (text : List ℕ) → AllByRecursi
 optional_is_flat None text = tt
 optional_is_flat (Some name) text = ((tt, refl), tt)
 
+number_is_flat : (name : Option (List ℕ)) (n : ℕ) → AllByRecursion IsFlat (number_member name n)
+number_is_flat None n = tt
+number_is_flat (Some name) n = ((numeral_is_number n, refl), tt)
+
 both_are_flat : (a b : KeyValues) → AllByRecursion IsFlat a → AllByRecursion IsFlat b → AllByRecursion IsFlat (a ++ b)
 both_are_flat [] b h k = k
 both_are_flat (pair ∷ a) b h k = (h.0, both_are_flat a b h.1 k)
 
-pub match_is_flat : (layout : LayoutValue) (found : MatchText) (line : List ℕ) → AllByRecursion IsFlat (match_members layout found line)
-match_is_flat layout found line =
-    both_are_flat _ _ (optional_is_flat layout.tag found.tag)
-    (both_are_flat _ _ (pairs_are_flat layout.typed found.extracts found.pairs) (optional_is_flat layout.keep line))
+pub match_is_flat : (layout : LayoutValue) (found : MatchText) (n : ℕ) (line : List ℕ) → AllByRecursion IsFlat (match_members layout found n line)
+match_is_flat layout found n line =
+    both_are_flat _ _ (number_is_flat layout.number n)
+    (both_are_flat _ _ (optional_is_flat layout.tag found.tag)
+    (both_are_flat _ _ (pairs_are_flat layout.typed found.extracts found.pairs) (optional_is_flat layout.keep line)))
 
-pub unmatched_is_flat : (layout : LayoutValue) (line : List ℕ) → AllByRecursion IsFlat (unmatched_members layout line)
-unmatched_is_flat layout line = optional_is_flat layout.keep line
+pub unmatched_is_flat : (layout : LayoutValue) (n : ℕ) (line : List ℕ) → AllByRecursion IsFlat (unmatched_members layout n line)
+unmatched_is_flat layout n line = both_are_flat _ _ (number_is_flat layout.number n) (optional_is_flat layout.keep line)
 
 pub have_numbers : (members : KeyValues) → AllByRecursion IsFlat members → MembersHaveNumbers (members_of members)
 have_numbers [] h = tt
@@ -59,7 +65,7 @@ reads_back members h =
     document-print (object (members_of members)) (have_numbers members h) (omega (arith, flat))
 
 pub matches_read_back : MatchesReadBack
-matches_read_back layout found line = reads_back _ (match_is_flat layout found line)
+matches_read_back layout found n line = reads_back _ (match_is_flat layout found n line)
 
 pub unmatched_lines_read_back : UnmatchedLinesReadBack
-unmatched_lines_read_back layout line = reads_back _ (unmatched_is_flat layout line)
+unmatched_lines_read_back layout n line = reads_back _ (unmatched_is_flat layout n line)

@@ -1,12 +1,13 @@
 -- THE LAWS of the answers.
-use Rattle.std.specs.Prelude.{◌≡◌, ◌≢◌, ◌⊎◌, ℕ, List, [], ◌∷◌, ◌++◌, Option, Some, None, codes}
+use Rattle.std.specs.Prelude.{◌≡◌, ◌≢◌, ◌⊎◌, ℕ, ◌+◌, List, [], ◌∷◌, ◌++◌, Option, Some, None, length, codes}
 use Rattle.std.specs.List.{AllByRecursion}
 use Rattle.json.specs.Json.{document, object}
 use Rattle.grok_lines.specs.Lines.{IsLine}
+use Rattle.grok_lines.specs.Streams.{answers_of}
 use Rattle.groklog_answers.specs.Layouts.{LayoutValue}
 use Rattle.groklog_answers.specs.Patterns.{PatternText, MatchText, match_of, first_match}
 use Rattle.groklog_answers.specs.Objects.{KeyValues, members_of, match_members, unmatched_members, object_text}
-use Rattle.groklog_answers.specs.LogAnswers.{log_answer}
+use Rattle.groklog_answers.specs.LogAnswers.{log_answer, log_answers_from}
 use Rattle.groklog_answers.specs.declared.layout.Lines.{Lines}
 use Rattle.groklog_answers.specs.declared.layout.Lines.TheVariants.{All, Matched, Unmatched}
 use Rattle.groklog_answers.specs.declared.layout.OutputFormat.TheVariants.{Json}
@@ -30,47 +31,67 @@ NoneThatMatchesIsNoMatch = (patterns : List PatternText) (line : List ℕ)
 
 -- ---- which lines are answered
 
--- The same layout, but for which lines are answered.
+-- The layout `layout`, changed to answer `lines`: all lines, only matched ones, or only unmatched
+-- ones.
 abbrev pub with_lines : Lines → LayoutValue → LayoutValue
 with_lines lines layout = record {
   lines = lines;
   format = layout.format;
   keep = layout.keep;
   tag = layout.tag;
+  number = layout.number;
   typed = layout.typed;
 }
 
--- With `All` each line has an answer.
+-- With `All` each line has an answer, which isn't empty.
 abbrev pub EachLineIsAnswered : Type 0
-EachLineIsAnswered = (layout : LayoutValue) (patterns : List PatternText) (line : List ℕ)
-    → log_answer (with_lines All layout) patterns line ≢ []
+EachLineIsAnswered = (layout : LayoutValue) (patterns : List PatternText) (n : ℕ) (line : List ℕ)
+    → log_answer (with_lines All layout) patterns n line ≢ []
 
--- One of the two answers is the answer with `All`, and the other one is empty.
+-- One of the answers `matched` and `unmatched` is the answer `all`, and the other one is empty.
 abbrev pub Share : List ℕ → List ℕ → List ℕ → Type 0
 Share matched unmatched all = ((matched ≡ all) × (unmatched ≡ [])) ⊎ ((matched ≡ []) × (unmatched ≡ all))
 
 -- For each line, either `Matched` or `Unmatched` gives the same answer as `All`, and the other one
--- of the two gives none.
+-- of the two gives an empty answer.
 abbrev pub EachAnswerIsOfOneKind : Type 0
-EachAnswerIsOfOneKind = (layout : LayoutValue) (patterns : List PatternText) (line : List ℕ)
-    → Share (log_answer (with_lines Matched layout) patterns line)
-    (log_answer (with_lines Unmatched layout) patterns line)
-    (log_answer (with_lines All layout) patterns line)
+EachAnswerIsOfOneKind = (layout : LayoutValue) (patterns : List PatternText) (n : ℕ) (line : List ℕ)
+    → Share (log_answer (with_lines Matched layout) patterns n line)
+    (log_answer (with_lines Unmatched layout) patterns n line)
+    (log_answer (with_lines All layout) patterns n line)
+
+-- ---- the numbers of the lines
+
+-- The answers to the lines of an input come in the order of the lines. The number of a line is how
+-- many lines come before it, plus 1, whichever of them match and whichever are answered.
+abbrev pub EachLineHasItsNumber : Type 0
+EachLineHasItsNumber = (layout : LayoutValue) (patterns : List PatternText) (before after : List (List ℕ)) (line : List ℕ)
+    → answers_of (log_answers_from layout patterns 1) (before ++ line ∷ after)
+    ≡ answers_of (log_answers_from layout patterns 1) before
+    ++ (log_answer layout patterns (length before + 1) line
+    ++ answers_of (log_answers_from layout patterns (length before + 2)) after)
+
+-- If no number is written, the answer depends on the line alone.
+abbrev pub WithoutNumbersLinesStandAlone : Type 0
+WithoutNumbersLinesStandAlone = (layout : LayoutValue) (patterns : List PatternText) (m n : ℕ) (line : List ℕ)
+    → layout.number ≡ None → log_answer layout patterns m line ≡ log_answer layout patterns n line
 
 -- ---- JSON
 
--- If the object of a match is read as JSON, it has these members in this order.
+-- If the object that is written for a match is read as JSON, it has the members that were written,
+-- in the same order.
 abbrev pub MatchesReadBack : Type 0
-MatchesReadBack = (layout : LayoutValue) (found : MatchText) (line : List ℕ)
-    → document (object_text (match_members layout found line)) ≡ Some (object (members_of (match_members layout found line)))
+MatchesReadBack = (layout : LayoutValue) (found : MatchText) (n : ℕ) (line : List ℕ)
+    → document (object_text (match_members layout found n line)) ≡ Some (object (members_of (match_members layout found n line)))
 
--- The same holds for the object of a line that no pattern matches.
+-- If the object that is written for a line that no pattern matches is read as JSON, it has the
+-- members that were written, in the same order.
 abbrev pub UnmatchedLinesReadBack : Type 0
-UnmatchedLinesReadBack = (layout : LayoutValue) (line : List ℕ)
-    → document (object_text (unmatched_members layout line)) ≡ Some (object (members_of (unmatched_members layout line)))
+UnmatchedLinesReadBack = (layout : LayoutValue) (n : ℕ) (line : List ℕ)
+    → document (object_text (unmatched_members layout n line)) ≡ Some (object (members_of (unmatched_members layout n line)))
 
--- A JSON answer is one line, whatever the values hold.
+-- A JSON answer is empty or one line, whatever the values hold.
 abbrev pub ObjectsAreLines : Type 0
-ObjectsAreLines = (layout : LayoutValue) (patterns : List PatternText) (line : List ℕ) → layout.format ≡ Json
-    → (log_answer layout patterns line ≡ [])
-    ⊎ ((object : List ℕ) × IsLine object × (log_answer layout patterns line ≡ object ++ codes "\n"))
+ObjectsAreLines = (layout : LayoutValue) (patterns : List PatternText) (n : ℕ) (line : List ℕ) → layout.format ≡ Json
+    → (log_answer layout patterns n line ≡ [])
+    ⊎ ((object : List ℕ) × IsLine object × (log_answer layout patterns n line ≡ object ++ codes "\n"))

@@ -8,10 +8,12 @@ use Rattle.groklog_answers.specs.declared.layout.Layout.{Layout}
 pub record LayoutValue : Type 0 where
   pub lines : Lines
   pub format : OutputFormat
-  -- the key under which the line itself is written, if it is
+  -- the key under which the line itself is written, or `None` if it isn't written
   pub keep : Option (List ℕ)
-  -- the key under which the tag is written, if it is
+  -- the key under which the tag is written, or `None` if it isn't written
   pub tag : Option (List ℕ)
+  -- the key under which the number of the line is written, or `None` if it isn't written
+  pub number : Option (List ℕ)
   pub typed : Bool
 
 abbrev pub layout_value : Layout → LayoutValue
@@ -20,5 +22,6 @@ layout_value layout = record {
   format = layout.format;
   keep = option_map (λ name. name.now) layout.keep;
   tag = option_map (λ name. name.now) layout.tag;
+  number = option_map (λ name. name.now) layout.number;
   typed = layout.typed;
 }

@@ -2,8 +2,9 @@
 use Rattle.std.specs.Prelude.{ℕ, List, [], ◌∷◌, ◌++◌, Bool, Option, Some, None, if◌then◌else◌, map}
 use Rattle.std.specs.FinMap as finite
 use Rattle.grok.specs.Maps.{Texts}
+use Rattle.grok.specs.Numeral.{numeral}
 use Rattle.json.specs.Token.{Token}
-use Rattle.json.specs.Json.{Json, string, object, Members, no_members, member}
+use Rattle.json.specs.Json.{Json, string, number, object, Members, no_members, member}
 use Rattle.json.specs.Tree.{json_tokens}
 use Rattle.json.specs.Print.{print}
 use Rattle.groklog_answers.specs.Values.{json_value}
@@ -14,29 +15,39 @@ use Rattle.groklog_answers.specs.Patterns.{MatchText}
 abbrev pub KeyValues : Type 0
 KeyValues = List (List ℕ × Json)
 
--- The extract that decides how a value is written. Without `typed` there is none.
+-- The extract of the key `name`, which decides how its value is written. It is `None` if the key
+-- has no extract, or if `typed` is false.
 abbrev pub extract_for : Bool → Texts → List ℕ → Option (List ℕ)
 extract_for typed extracts name = if typed then finite.get extracts name else None
 
--- The member of a pair of a match. The extract of its key decides how its value is written.
+-- The member for a pair of a match. If `typed` is true, the extract of the key decides how the
+-- value is written.
 abbrev pub typed_pair : Bool → Texts → List ℕ × List ℕ → List ℕ × Json
 typed_pair typed extracts pair = (pair.0, json_value (extract_for typed extracts pair.0) pair.1)
 
--- The member of an optional key, such as that of the tag or of the line itself. If there is no key,
--- there is no member.
+-- The member with this key and the string `text`, such as the tag or the line itself. If the key is
+-- `None`, there is no member.
 abbrev pub optional_member : Option (List ℕ) → List ℕ → KeyValues
 optional_member None text = []
 optional_member (Some name) text = (name, string text) ∷ []
 
--- The members of a match: the tag, the pairs in their order, and the line itself.
-abbrev pub match_members : LayoutValue → MatchText → List ℕ → KeyValues
-match_members layout found line =
-    optional_member layout.tag found.tag
-    ++ (map (typed_pair layout.typed found.extracts) found.pairs ++ optional_member layout.keep line)
+-- The member with this key and the number of a line, which is written as a JSON number. If the key
+-- is `None`, there is no member.
+abbrev pub number_member : Option (List ℕ) → ℕ → KeyValues
+number_member None n = []
+number_member (Some name) n = (name, number (numeral n)) ∷ []
 
--- The members for a line that no pattern matches: the line itself alone.
-abbrev pub unmatched_members : LayoutValue → List ℕ → KeyValues
-unmatched_members layout line = optional_member layout.keep line
+-- The members of a match in the n-th line: the number of the line, the tag, the pairs in their
+-- order, and the line itself.
+abbrev pub match_members : LayoutValue → MatchText → ℕ → List ℕ → KeyValues
+match_members layout found n line =
+    number_member layout.number n
+    ++ (optional_member layout.tag found.tag
+    ++ (map (typed_pair layout.typed found.extracts) found.pairs ++ optional_member layout.keep line))
+
+-- The members for the n-th line if no pattern matches it: its number, and the line itself.
+abbrev pub unmatched_members : LayoutValue → ℕ → List ℕ → KeyValues
+unmatched_members layout n line = number_member layout.number n ++ optional_member layout.keep line
 
 abbrev pub members_of : KeyValues → Members
 members_of [] = no_members

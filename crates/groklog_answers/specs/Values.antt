@@ -5,7 +5,8 @@ use Rattle.std.specs.Str.{bytes_eq}
 use Rattle.json.specs.Word.{after_number}
 use Rattle.json.specs.Json.{Json, string, number}
 
--- A reader succeeded and left nothing of the text.
+-- Whether a reader has read the whole of a text. The argument is what it left of the text, or
+-- `None` if it failed.
 abbrev pub is_all : Option (List ℕ) → Bool
 is_all None = false
 is_all (Some []) = true
@@ -19,7 +20,7 @@ is_json_number text = is_all (after_number text)
 abbrev pub begins_fraction_or_exponent : ℕ → Bool
 begins_fraction_or_exponent b = (b == 46) || (b == 101) || (b == 69)
 
--- The text is a JSON number without a fraction and an exponent.
+-- The text is a JSON number that has neither a fraction nor an exponent.
 abbrev pub is_json_integer : List ℕ → Bool
 is_json_integer text = is_json_number text && not (list_any begins_fraction_or_exponent text)
 

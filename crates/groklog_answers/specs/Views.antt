@@ -1,8 +1,7 @@
 -- What contracts see of patterns, of their matches, and of a `LogAnswers`.
-use Rattle.std.specs.Prelude.{ℕ, List, Option, length, map}
-use Rattle.grok.specs.Strings.{regex_pattern, regex_names}
+use Rattle.std.specs.Prelude.{ℕ, List, Option, map}
 use Rattle.grok.specs.Engines.{engine_regex}
-use Rattle.grok.specs.RegexFinds.{captures_in}
+use Rattle.grok.specs.RegexFinds.{captures_by}
 use Rattle.grok.specs.Answers.{walk}
 use Rattle.grok.specs.BorrowedMatches.{borrowed_keys, borrowed_captures}
 use Rattle.grok.specs.declared.engine.regex_engine.RegexEngine.{RegexEngine}
@@ -15,7 +14,7 @@ use Rattle.groklog_answers.specs.declared.log_answers.LogAnswers.{LogAnswers}
 
 -- What `regex` captures in each line.
 abbrev pub finds_of : RegexEngine → List ℕ → Option (List (Option (List ℕ)))
-finds_of engine = let regex = engine_regex engine in captures_in (regex_pattern regex) (length (regex_names regex))
+finds_of engine = captures_by (engine_regex engine)
 
 abbrev pub pattern_text : NamedPattern → PatternText
 pattern_text named = record {
@@ -25,7 +24,7 @@ pattern_text named = record {
   extracts = named.pattern.now.extracts;
 }
 
--- What contracts see of a match of this pattern.
+-- What contracts see of a match of the pattern `named`.
 abbrev pub match_text_of : NamedPattern → MatchesRef → MatchText
 match_text_of named matches = record {
   tag = named.tag.now;
@@ -33,7 +32,8 @@ match_text_of named matches = record {
   pairs = walk (borrowed_keys matches) (borrowed_captures matches);
 }
 
--- What contracts see of a pattern with its matcher.
+-- What contracts see of a pattern with its matcher: its tag (the text that `--tag` writes), what its engine finds
+-- in a line, its keys, and their extracts.
 abbrev pub searched : Search → PatternText
 searched search = record {
   tag = search.named.tag.now;
@@ -49,3 +49,7 @@ patterns_of answers = map searched answers.searches.items
 -- The layout of the answers.
 abbrev pub layout_of : LogAnswers → LayoutValue
 layout_of answers = layout_value answers.layout
+
+-- The number of the line that is answered next.
+abbrev pub next_number_of : LogAnswers → ℕ
+next_number_of answers = answers.next_number

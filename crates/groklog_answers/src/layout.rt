@@ -25,11 +25,15 @@ pub enum OutputFormat {
 pub struct Layout<'a> {
     pub lines: Lines,
     pub format: OutputFormat,
-    /// The key under which the line itself is written, if it is.
+    /// The key under which the line itself is written, or `None` if it isn't written.
     pub keep: Option<&'a str>,
-    /// The key under which the tag of the matching pattern is written, if it is.
+    /// The key under which the tag of the matching pattern is written, or `None` if it isn't
+    /// written.
     pub tag: Option<&'a str>,
-    /// Whether a value whose key has the extract `int` or `float` is written as a JSON number, if
-    /// it is one.
+    /// The key under which the number of the line is written, or `None` if it isn't written.
+    /// `LogAnswers` counts the lines from 1.
+    pub number: Option<&'a str>,
+    /// Whether a value is written as a JSON number if the extract of its key is `int` and the value
+    /// is an integer, or if the extract is `float` and the value is any number.
     pub typed: bool,
 }

@@ -1,11 +1,11 @@
 //! Answers each line with the match of the first pattern that matches it.
-ghost use Rattle.std.specs.Prelude.{◌≡◌, ◌++◌, OnOk, OnErr, IfOk, map, true, false};
+ghost use Rattle.std.specs.Prelude.{◌≡◌, ◌+◌, ◌++◌, OnOk, OnErr, IfOk, map, true, false};
 ghost use Rattle.std.specs.Option.{is_some};
 ghost use Rattle.std.specs.Str.Lossy.{utf8_lossy};
 ghost use Rattle.groklog_answers.specs.Layouts.{layout_value};
 ghost use Rattle.groklog_answers.specs.Patterns.{match_of, first_match};
 ghost use Rattle.groklog_answers.specs.LogAnswers.{match_answer, unmatched_answer, answer_by};
-ghost use Rattle.groklog_answers.specs.Views.{pattern_text, match_text_of, searched, patterns_of, layout_of};
+ghost use Rattle.groklog_answers.specs.Views.{pattern_text, match_text_of, searched, patterns_of, layout_of, next_number_of};
 
 use crate::layout::{Layout, Lines, OutputFormat};
 use crate::object::{write_match, write_unmatched};
@@ -21,6 +21,13 @@ use std::mem;
 pub struct NamedPattern<'p> {
     pub tag: &'p str,
     pub pattern: &'p Pattern,
+}
+
+/// A line with its number.
+#[derive(Clone, Copy)]
+pub struct NumberedLine<'l> {
+    pub number: u64,
+    pub text: &'l str,
 }
 
 /// A pattern with the matcher that searches lines for it.
@@ -40,7 +47,9 @@ impl Drop for Search<'_> {
     }
 }
 
-/// Answers each line with the match of the first of its patterns that matches it.
+/// Answers each line with the match of the first of its patterns that matches it, and counts the lines.
+///
+/// It counts on from one input to the next, so that no two lines have the same number.
 #[derive(Drop)]
 pub struct LogAnswers<'p> {
     alloc: Global,
@@ -48,18 +57,36 @@ pub struct LogAnswers<'p> {
     searches: Vec<Search<'p>>,
     /// The buffer for the answer to one line. It is cleared before each line.
     answer: Vec<u8>,
+    /// The number of the next line. The first line has the number 1.
+    next_number: u64,
+}
+
+/// Returns `number + 1`.
+///
+/// # Errors
+///
+/// If `number` is `u64::MAX`.
+fn number_after(number: u64) -> Result<u64, AllocError>
+    ensures { IfOk result (λ after. after ≡ number + 1) }
+{
+    match number.checked_add(1) {
+        Some(after) => Ok(after),
+        None => Err(AllocError),
+    }
 }
 
 impl Layout<'_> {
-    /// Appends the answer to a line that no pattern matches.
+    /// Appends the answer to a line that no pattern matches. If only matched lines are answered,
+    /// appends nothing.
     fn append_unmatched(
         self,
         alloc: Global,
         answer: &mut Vec<u8>,
-        line: &str,
+        line: NumberedLine<'_>,
     ) -> Result<(), AllocError>
         ensures { OnOk result (answer.new.items ≡ answer.old.items
-            ++ unmatched_answer self.entry.lines (layout_value self.entry) line.now) }
+            ++ unmatched_answer self.entry.lines (layout_value self.entry)
+            line.entry.number line.entry.text.now) }
     {
         match (self.lines, self.format) {
             (Lines::Matched, _) => Ok(()),
@@ -72,17 +99,19 @@ impl Layout<'_> {
         }
     }
 
-    /// Appends the answer to a match of this pattern.
+    /// Appends the answer to a line in which the pattern `named` has the match `matches`. If only
+    /// unmatched lines are answered, appends nothing.
     fn append_match(
         self,
         alloc: Global,
         answer: &mut Vec<u8>,
         named: NamedPattern<'_>,
-        line: &str,
+        line: NumberedLine<'_>,
         matches: MatchesRef<'_>,
     ) -> Result<(), AllocError>
         ensures { OnOk result (answer.new.items ≡ answer.old.items ++ match_answer self.entry.lines
-            (layout_value self.entry) (match_text_of named.entry matches.entry) line.now) }
+            (layout_value self.entry) (match_text_of named.entry matches.entry)
+            line.entry.number line.entry.text.now) }
     {
         match (self.lines, self.format) {
             (Lines::Unmatched, _) => Ok(()),
@@ -105,16 +134,18 @@ impl<'p> Search<'p> {
         alloc: Global,
         layout: Layout<'_>,
         answer: &mut Vec<u8>,
-        line: &str,
+        line: NumberedLine<'_>,
     ) -> Result<bool, AllocError>
-        ensures is_match { IfOk result (λ is_match. is_match ≡ is_some (match_of (searched self.old) line.now)) }
+        ensures is_match { IfOk result (λ is_match. is_match
+            ≡ is_some (match_of (searched self.old) line.entry.text.now)) }
         ensures matched { IfOk result (λ is_match. is_match ≡ true → answer.new.items
-            ≡ answer.old.items ++ answer_by (layout_value layout.entry) (match_of (searched self.old) line.now) line.now) }
+            ≡ answer.old.items ++ answer_by (layout_value layout.entry)
+            (match_of (searched self.old) line.entry.text.now) line.entry.number line.entry.text.now) }
         ensures unmatched { IfOk result (λ is_match. is_match ≡ false → answer.new.items ≡ answer.old.items) }
         ensures same { searched self.new ≡ searched self.old }
     {
         let named = self.named;
-        match self.matcher.find(line)? {
+        match self.matcher.find(line.text)? {
             None => Ok(false),
             Some(matches) => {
                 layout.append_match(alloc, answer, named, line, matches)?;
@@ -132,12 +163,13 @@ fn append_first_match(
     alloc: Global,
     layout: Layout<'_>,
     answer: &mut Vec<u8>,
-    line: &str,
+    line: NumberedLine<'_>,
 ) -> Result<bool, AllocError>
     ensures is_match { IfOk result (λ is_match. is_match
-        ≡ is_some (first_match (map searched searches.old) line.now)) }
+        ≡ is_some (first_match (map searched searches.old) line.entry.text.now)) }
     ensures matched { IfOk result (λ is_match. is_match ≡ true → answer.new.items ≡ answer.old.items
-        ++ answer_by (layout_value layout.entry) (first_match (map searched searches.old) line.now) line.now) }
+        ++ answer_by (layout_value layout.entry) (first_match (map searched searches.old) line.entry.text.now)
+        line.entry.number line.entry.text.now) }
     ensures unmatched { IfOk result (λ is_match. is_match ≡ false → answer.new.items ≡ answer.old.items) }
     ensures same { map searched searches.new ≡ map searched searches.old }
 {
@@ -150,7 +182,8 @@ fn append_first_match(
 }
 
 impl<'p> LogAnswers<'p> {
-    /// Makes a `LogAnswers` that tries these patterns on each line, in their order.
+    /// Makes a `LogAnswers` that tries these patterns on each line, in their order. The first line has
+    /// the number 1.
     ///
     /// # Errors
     ///
@@ -162,6 +195,7 @@ impl<'p> LogAnswers<'p> {
     ) -> Result<LogAnswers<'p>, AllocError>
         ensures patterns { IfOk result (λ answers. patterns_of answers ≡ map pattern_text patterns.now) }
         ensures layout { IfOk result (λ answers. layout_of answers ≡ layout_value layout.entry) }
+        ensures number { IfOk result (λ answers. next_number_of answers ≡ 1) }
     {
         let mut searches = Vec::new(alloc);
         'patterns: for named in patterns {
@@ -176,36 +210,48 @@ impl<'p> LogAnswers<'p> {
             layout,
             searches,
             answer: Vec::new(alloc),
+            next_number: 1,
         })
     }
 }
 
 impl LogAnswers<'_> {
-    /// Appends the answer to a line that isn't UTF-8.
+    /// Appends the answer to a line that isn't UTF-8. It is answered like a line that no pattern
+    /// matches.
     #[inline(never)]
     fn answer_broken(&mut self, text: &mut Vec<u8>, line: &[u8]) -> Result<(), AllocError>
         ensures ok { OnOk result (text.new.items ≡ text.old.items ++ unmatched_answer
-            (layout_of self.old).lines (layout_of self.old) (utf8_lossy line.now)) }
+            (layout_of self.old).lines (layout_of self.old) (next_number_of self.old)
+            (utf8_lossy line.now)) }
         ensures memory { OnErr result (text.new.items ≡ text.old.items) }
         ensures layout { layout_of self.new ≡ layout_of self.old }
         ensures patterns { patterns_of self.new ≡ patterns_of self.old }
+        ensures counted { OnOk result (next_number_of self.new ≡ next_number_of self.old + 1) }
+        ensures not_counted { OnErr result (next_number_of self.new ≡ next_number_of self.old) }
     {
+        let next_number = number_after(self.next_number)?;
         let lossy = String::from_utf8_lossy(self.alloc, line)?;
+        let line = NumberedLine {
+            number: self.next_number,
+            text: &lossy,
+        };
         let mut answer = Vec::new(self.alloc);
-        self.layout
-            .append_unmatched(self.alloc, &mut answer, &lossy)?;
-        text.extend_from_slice(&answer)
+        self.layout.append_unmatched(self.alloc, &mut answer, line)?;
+        text.extend_from_slice(&answer)?;
+        self.next_number = next_number;
+        Ok(())
     }
 }
 
 impl LineAnswers for LogAnswers<'_> {
-    ghost use Rattle.groklog_answers.specs.LogAnswers.{log_answer};
-    ghost use Rattle.groklog_answers.specs.Views.{patterns_of, layout_of};
+    ghost use Rattle.groklog_answers.specs.LogAnswers.{log_answers_from};
+    ghost use Rattle.groklog_answers.specs.Views.{patterns_of, layout_of, next_number_of};
 
-    ghost answer = { λ answers. log_answer (layout_of answers) (patterns_of answers) };
+    ghost answer = { λ answers. log_answers_from (layout_of answers) (patterns_of answers)
+        (next_number_of answers) };
 
     #[inline(never)]
-    #[tactic(auto, using(crate::proofs::Utf8Lines::text_of_line, crate::proofs::Utf8Lines::no_text_of_line))]
+    #[tactic(auto, using(crate::proofs::Utf8Lines::text_of_line, crate::proofs::Utf8Lines::no_text_of_line, crate::proofs::LineNumbers::counts_on))]
     fn answer_line(&mut self, text: &mut Vec<u8>, line: &[u8]) -> Result<(), AllocError> {
         match str::from_utf8(line) {
             Ok(line) => self.answer_str(text, line),
@@ -214,13 +260,27 @@ impl LineAnswers for LogAnswers<'_> {
     }
 
     #[inline(always)]
-    #[tactic(auto, using(crate::proofs::Utf8Lines::text_of_line))]
+    #[tactic(auto, using(crate::proofs::Utf8Lines::text_of_line, crate::proofs::LineNumbers::counts_on))]
     fn answer_str(&mut self, text: &mut Vec<u8>, line: &str) -> Result<(), AllocError> {
+        let next_number = number_after(self.next_number)?;
         self.answer.clear();
         let (alloc, layout) = (self.alloc, self.layout);
-        if !append_first_match(&mut self.searches, alloc, layout, &mut self.answer, line)? {
+        let line = NumberedLine {
+            number: self.next_number,
+            text: line,
+        };
+        let is_match = append_first_match(
+            &mut self.searches,
+            alloc,
+            layout,
+            &mut self.answer,
+            line,
+        )?;
+        if !is_match {
             layout.append_unmatched(alloc, &mut self.answer, line)?;
         }
-        text.extend_from_slice(&self.answer)
+        text.extend_from_slice(&self.answer)?;
+        self.next_number = next_number;
+        Ok(())
     }
 }

@@ -1,19 +1,23 @@
 //! Writes the JSON object of a line.
 ghost use Rattle.std.specs.Prelude.{◌≡◌, ◌++◌, OnOk, IfOk, option_map, flat_map, map};
 ghost use Rattle.grok.specs.Answers.{walk};
+ghost use Rattle.json.specs.Json.{Json};
+ghost use Rattle.json.specs.Tree.{json_tokens};
+ghost use Rattle.grok.specs.Numeral.{numeral};
 ghost use Rattle.grok.specs.BorrowedMatches.{borrowed_keys, borrowed_captures};
 ghost use Rattle.groklog_answers.specs.Layouts.{layout_value};
-ghost use Rattle.groklog_answers.specs.Objects.{member_tokens, typed_pair, optional_member, match_members, unmatched_members, object_text};
+ghost use Rattle.groklog_answers.specs.Objects.{member_tokens, typed_pair, optional_member, number_member, match_members, unmatched_members, object_text};
 ghost use Rattle.groklog_answers.specs.Views.{match_text_of};
 
 use crate::layout::Layout;
-use crate::log_answers::NamedPattern;
+use crate::log_answers::{NamedPattern, NumberedLine};
 use crate::values::write_value;
 use grok::{MatchesRef, Pattern};
 use json::Writer;
 use std::alloc::AllocError;
 
-/// Writes the member of an optional key, or nothing if there is no key.
+/// Writes a member with the key `name`, whose value is the string `text`. If `name` is `None`,
+/// writes nothing.
 fn write_optional(writer: &mut Writer, name: Option<&str>, text: &str) -> Result<(), AllocError>
     ensures member { OnOk result (writer.new.tokens ≡ writer.old.tokens
         ++ flat_map member_tokens (optional_member (option_map (λ name. name.now) name.entry) text.now)) }
@@ -24,6 +28,30 @@ fn write_optional(writer: &mut Writer, name: Option<&str>, text: &str) -> Result
     };
     writer.key(name)?;
     writer.string(text)
+}
+
+/// Writes a number in decimal.
+#[tactic(auto, using(crate::proofs::Numerals::numeral_is_decimal))]
+fn write_decimal(writer: &mut Writer, number: u64) -> Result<(), AllocError>
+    ensures value { OnOk result (writer.new.tokens ≡ writer.old.tokens
+        ++ json_tokens (Json.number (numeral number))) }
+    ensures before { writer.new.before ≡ writer.old.before }
+{
+    writer.u64(number)
+}
+
+/// Writes a member with the key `name`, whose value is the number of a line. If `name` is `None`,
+/// writes nothing.
+fn write_number(writer: &mut Writer, name: Option<&str>, number: u64) -> Result<(), AllocError>
+    ensures member { OnOk result (writer.new.tokens ≡ writer.old.tokens
+        ++ flat_map member_tokens (number_member (option_map (λ name. name.now) name.entry) number)) }
+    ensures before { writer.new.before ≡ writer.old.before }
+{
+    let Some(name) = name else {
+        return Ok(());
+    };
+    writer.key(name)?;
+    write_decimal(writer, number)
 }
 
 /// Writes a pair of a match. If `typed` is set, the extract of the key decides whether the value is
@@ -67,35 +95,42 @@ fn write_pairs(
 }
 
 /// Appends the compact JSON object of a match in this line, and returns the whole text.
-#[tactic(auto, using(crate::proofs::Objects::object_in_parts))]
+#[tactic(auto, using(crate::proofs::Objects::object_in_four_parts))]
 pub fn write_match(
     text: Vec<u8>,
     layout: Layout<'_>,
     named: NamedPattern<'_>,
-    line: &str,
+    line: NumberedLine<'_>,
     matches: MatchesRef<'_>,
 ) -> Result<Vec<u8>, AllocError>
     ensures { IfOk result (λ written. written.items ≡ text.items ++ object_text (match_members
-        (layout_value layout.entry) (match_text_of named.entry matches.entry) line.now)) }
+        (layout_value layout.entry) (match_text_of named.entry matches.entry)
+        line.entry.number line.entry.text.now)) }
 {
     let mut writer = Writer::new(text);
     writer.begin_object()?;
+    write_number(&mut writer, layout.number, line.number)?;
     write_optional(&mut writer, layout.tag, named.tag)?;
     write_pairs(&mut writer, layout.typed, named.pattern, matches)?;
-    write_optional(&mut writer, layout.keep, line)?;
+    write_optional(&mut writer, layout.keep, line.text)?;
     writer.end_object()?;
     Ok(writer.into_inner())
 }
 
 /// Appends the JSON object of a line that no pattern matches, and returns the whole text.
-#[tactic(auto, using(crate::proofs::Objects::object_is))]
-pub fn write_unmatched(text: Vec<u8>, layout: Layout<'_>, line: &str) -> Result<Vec<u8>, AllocError>
+#[tactic(auto, using(crate::proofs::Objects::object_in_two_parts))]
+pub fn write_unmatched(
+    text: Vec<u8>,
+    layout: Layout<'_>,
+    line: NumberedLine<'_>,
+) -> Result<Vec<u8>, AllocError>
     ensures { IfOk result (λ written. written.items ≡ text.items ++ object_text (unmatched_members
-        (layout_value layout.entry) line.now)) }
+        (layout_value layout.entry) line.entry.number line.entry.text.now)) }
 {
     let mut writer = Writer::new(text);
     writer.begin_object()?;
-    write_optional(&mut writer, layout.keep, line)?;
+    write_number(&mut writer, layout.number, line.number)?;
+    write_optional(&mut writer, layout.keep, line.text)?;
     writer.end_object()?;
     Ok(writer.into_inner())
 }

@@ -2,13 +2,15 @@
 ghost use Rattle.std.specs.Prelude.{◌≡◌, ◌++◌, OnOk, option_map, flat_map};
 ghost use Rattle.grok.specs.Answers.{walk};
 ghost use Rattle.grok.specs.BorrowedMatches.{borrowed_keys, borrowed_captures};
+ghost use Rattle.grok.specs.Numeral.{numeral};
 ghost use Rattle.groklog_answers.specs.Layouts.{layout_value};
 ghost use Rattle.groklog_answers.specs.PairTexts.{pair_line, optional_line, match_lines, unmatched_lines};
 ghost use Rattle.groklog_answers.specs.Views.{match_text_of};
 
 use crate::layout::Layout;
-use crate::log_answers::NamedPattern;
+use crate::log_answers::{NamedPattern, NumberedLine};
 use grok::MatchesRef;
+use itoa::Buffer;
 use std::alloc::AllocError;
 
 /// Appends `KEY=VALUE` and a line feed.
@@ -22,7 +24,7 @@ fn append_pair(text: &mut Vec<u8>, key: &str, value: &str) -> Result<(), AllocEr
     Ok(())
 }
 
-/// Appends the `KEY=VALUE` line of an optional key, or nothing if there is no key.
+/// Appends a `KEY=VALUE` line with the key `name`. If `name` is `None`, appends nothing.
 fn append_optional(text: &mut Vec<u8>, name: Option<&str>, value: &str) -> Result<(), AllocError>
     ensures { OnOk result (text.new.items ≡ text.old.items
         ++ optional_line (option_map (λ name. name.now) name.entry) value.now) }
@@ -31,6 +33,20 @@ fn append_optional(text: &mut Vec<u8>, name: Option<&str>, value: &str) -> Resul
         Some(name) => append_pair(text, name, value),
         None => Ok(()),
     }
+}
+
+/// Appends a `KEY=VALUE` line with the key `name` and the number of a line. If `name` is `None`,
+/// appends nothing.
+#[tactic(auto, using(crate::proofs::Numerals::numeral_is_decimal))]
+fn append_number(text: &mut Vec<u8>, name: Option<&str>, number: u64) -> Result<(), AllocError>
+    ensures { OnOk result (text.new.items ≡ text.old.items
+        ++ optional_line (option_map (λ name. name.now) name.entry) (numeral number)) }
+{
+    let Some(name) = name else {
+        return Ok(());
+    };
+    let mut buffer = Buffer::new();
+    append_pair(text, name, buffer.format(number))
 }
 
 /// Appends a `KEY=VALUE` line for each pair of a match.
@@ -49,15 +65,17 @@ pub fn append_match(
     text: &mut Vec<u8>,
     layout: Layout<'_>,
     named: NamedPattern<'_>,
-    line: &str,
+    line: NumberedLine<'_>,
     matches: MatchesRef<'_>,
 ) -> Result<(), AllocError>
     ensures { OnOk result (text.new.items ≡ text.old.items ++ match_lines
-        (layout_value layout.entry) (match_text_of named.entry matches.entry) line.now) }
+        (layout_value layout.entry) (match_text_of named.entry matches.entry)
+        line.entry.number line.entry.text.now) }
 {
+    append_number(text, layout.number, line.number)?;
     append_optional(text, layout.tag, named.tag)?;
     append_pairs(text, matches)?;
-    append_optional(text, layout.keep, line)?;
+    append_optional(text, layout.keep, line.text)?;
     text.push(b'\n')?;
     Ok(())
 }
@@ -66,12 +84,13 @@ pub fn append_match(
 pub fn append_unmatched(
     text: &mut Vec<u8>,
     layout: Layout<'_>,
-    line: &str,
+    line: NumberedLine<'_>,
 ) -> Result<(), AllocError>
     ensures { OnOk result (text.new.items ≡ text.old.items
-        ++ unmatched_lines (layout_value layout.entry) line.now) }
+        ++ unmatched_lines (layout_value layout.entry) line.entry.number line.entry.text.now) }
 {
-    append_optional(text, layout.keep, line)?;
+    append_number(text, layout.number, line.number)?;
+    append_optional(text, layout.keep, line.text)?;
     text.push(b'\n')?;
     Ok(())
 }

@@ -20,6 +20,7 @@ const JSON: Layout<'static> = Layout {
     format: OutputFormat::Json,
     keep: None,
     tag: None,
+    number: None,
     typed: false,
 };
 
@@ -132,6 +133,56 @@ const ROWS: &[Row] = &[
         answers: "\n",
     },
     Row {
+        name: "the number of the line before the tag",
+        patterns: NUMBER_OR_WORD,
+        layout: Layout {
+            number: Some("no"),
+            tag: Some("by"),
+            keep: Some("line"),
+            typed: true,
+            ..JSON
+        },
+        log: b"!\n7 cats\n\xff\ncats",
+        answers: "{\"no\":1,\"line\":\"!\"}\n\
+            {\"no\":2,\"by\":\"^%{N:n=[0-9]+} %{W:of=\\\\w+}\",\"n\":\"7\",\"of\":\"cats\",\"line\":\"7 cats\"}\n\
+            {\"no\":3,\"line\":\"\u{fffd}\"}\n\
+            {\"no\":4,\"by\":\"%{W:word=\\\\w+}|%{D:dash=-+}\",\"word\":\"cats\",\"line\":\"cats\"}\n",
+    },
+    Row {
+        name: "numbers count the lines that have no answer too",
+        patterns: NUMBER_OR_WORD,
+        layout: Layout {
+            lines: Lines::Matched,
+            number: Some("no"),
+            ..JSON
+        },
+        log: b"!\n\n\xff\n!\n!\n!\n!\n!\n!\ncats\n!\n--\n",
+        answers: "{\"no\":10,\"word\":\"cats\"}\n{\"no\":12,\"dash\":\"--\"}\n",
+    },
+    Row {
+        name: "numbers of unmatched lines in pairs",
+        patterns: NUMBER_OR_WORD,
+        layout: Layout {
+            lines: Lines::Unmatched,
+            number: Some("no"),
+            keep: Some("line"),
+            ..PAIRS
+        },
+        log: b"cats\n!\ncats\n\xff\n",
+        answers: "no=2\nline=!\n\nno=4\nline=\u{fffd}\n\n",
+    },
+    Row {
+        name: "the number of the line before the tag in pairs",
+        patterns: NUMBER_OR_WORD,
+        layout: Layout {
+            number: Some("no"),
+            tag: Some("by"),
+            ..PAIRS
+        },
+        log: b"!\ncats\n",
+        answers: "no=1\n\nno=2\nby=%{W:word=\\w+}|%{D:dash=-+}\nword=cats\n\n",
+    },
+    Row {
         name: "no patterns",
         patterns: &[],
         layout: Layout {
@@ -153,7 +204,7 @@ fn compile(alloc: Global, texts: &[&str]) -> Result<Vec<Pattern>, Fail> {
     Ok(patterns)
 }
 
-/// Pairs patterns with their texts.
+/// Pairs each pattern with its text, which is its tag.
 fn name<'p>(
     alloc: Global,
     texts: &'p [&'static str],
@@ -166,7 +217,7 @@ fn name<'p>(
     Ok(named)
 }
 
-/// Returns the answers to the lines of a row.
+/// Checks that the answers to the lines of a row's log are those that the row has.
 fn check_row(rt: &(impl Abort + AllocGlobal), row: &Row) -> Result<(), Fail> {
     let alloc = rt.alloc();
     let patterns = compile(alloc, row.patterns)?;

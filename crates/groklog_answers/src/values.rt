@@ -24,7 +24,7 @@ fn has_fraction_or_exponent(text: &str) -> bool
         .any(|b| *b == b'.' || *b == b'e' || *b == b'E')
 }
 
-/// Returns whether a text is a JSON number without a fraction and an exponent.
+/// Returns whether a text is a JSON number that has neither a fraction nor an exponent.
 fn is_json_integer(text: &str) -> bool
     ensures { result ≡ is_json_integer text.now }
 {

@@ -31,7 +31,7 @@ use Rattle.regex.proofs.SearchLemmas.{leftmost_none, leftmost_here}
 use Rattle.regex.proofs.ForCallers.{span_alike, found_alike}
 use Rattle.regex.proofs.Utf8Lemmas.{test_of_IsCharBoundary}
 use Rattle.grok.specs.RegexFinds.{IsReadByDefault, texts_at, span_of_group, captures_in}
-use Rattle.grok.specs.OwnSearches.{IsTreeOf, BeginsEach, IsInEach, AreMarksOf, IsNextOf, IsPlaceOf, span_of_pair, span_of_cells}
+use Rattle.grok.specs.OwnSearches.{IsTreeOf, BeginsEach, IsInEach, AreMarksOf, IsNextOf, IsPositionOf, span_of_pair, span_of_cells}
 use Rattle.grok.specs.declared.engine.marks.Marks.{Marks}
 use Rattle.grok.specs.declared.engine.marks.Needles.{Needles}
 use Rattle.grok.proofs.Trees.CompileResults.{no_bytes}
@@ -98,7 +98,7 @@ pair_is (Some x) (Some y) =
     cond-false (x + 1 == 0) None _ (ne_eqb (x + 1) 0 (omega arith))
     ∙ cond-false (y + 1 == 0) None _ (ne_eqb (y + 1) 0 (omega arith)) ∙ ap₂ (λ (p q : ℕ). Some (p, q)) low high
 
--- the cells of a match say what its groups span; m is a match that a caller can't tell from it
+-- the cells of the match n have the spans of the groups of m, if both have the same slots
 span_is : (n m : Match) (width group : ℕ) → slot_of n ≡ slot_of m → 2 * group ≤ width →
     span_of_cells (span m) (group_cells n width) group ≡ span_of_group m group
 span_is n m width zero same fits = refl
@@ -119,7 +119,7 @@ texts_are : (hay : List ℕ) (n m : Match) (width : ℕ) → slot_of n ≡ slot_
     texts_at hay (span_of_cells (span m) (group_cells n width)) (width / 2 + 1) ≡ texts_at hay (span_of_group m) (width / 2 + 1)
 texts_are hay n m width same =
     map_below _ _ (width / 2 + 1) 0 (λ k lt.
-    ap (option_map (λ place. slice_range hay place.0 place.1)) (span_is n m width k same (omega arith)))
+    ap (option_map (λ range. slice_range hay range.0 range.1)) (span_is n m width k same (omega arith)))
 
 -- ---- from the tree to the regex
 
@@ -177,11 +177,11 @@ pub of_inner : (re : Re) (marks : Marks) (n : Needles) → ∥ AreMarksOf re mar
 of_inner re marks n h is = ∥∥₁_elim h ∥∥₁_prop (λ m. ∣ subst (λ o. IfSome o (IsInEach re)) is m.inner ∣₁)
 
 module _ (p : Program) (hay : List ℕ) (n : Needles) (bytes : All (λ b. b < 256) hay) where
-  -- no match starts where no literal stands with which one begins
-  pub place_of_first : ∥ BeginsEach (pattern_of p) n ∥₁ → (start : ℕ) (found : Option ℕ) → IsNextOf n hay start found → IsPlaceOf p hay start found
-  place_of_first begins start None nowhere = find_none (pattern_of p) hay start (λ i t low high e.
+  -- no match starts at a position without one of the literals that matches begin with
+  pub position_of_first : ∥ BeginsEach (pattern_of p) n ∥₁ → (start : ℕ) (found : Option ℕ) → IsNextOf n hay start found → IsPositionOf p hay start found
+  position_of_first begins start None nowhere = find_none (pattern_of p) hay start (λ i t low high e.
       not_at_prefix (pattern_of p) hay n.literals bytes (Some n.frame) begins start (length hay + 1) nowhere i t low (omega arith) e)
-  place_of_first begins start (Some at) next = (
+  position_of_first begins start (Some at) next = (
     next.low,
     omega (arith, next.high),
     find_skip (pattern_of p) hay start at next.low (λ i t low high e.

@@ -12,30 +12,30 @@ at_each P first later (suc n) = later n
 
 module _ (keys : List (List ℕ)) (key : List ℕ) where
   abbrev Means : List (Option (List ℕ)) → ℕ → Type 0
-  Means names place = NameMeans keys names key place
+  Means names index = NameMeans keys names key index
 
   -- Either no name means the key, and the group is the one found before. Or the group is that of the last name
   -- that means the key.
   abbrev Outcome : Option ℕ → ℕ → List (Option (List ℕ)) → Option ℕ → Type 0
   Outcome found from names last =
-      ((last ≡ found) × ((place : ℕ) → ¬ Means names place))
-      ⊎ ((place : ℕ) × (last ≡ Some (from + place)) × Means names place × ((later : ℕ) → place < later → ¬ Means names later))
+      ((last ≡ found) × ((index : ℕ) → ¬ Means names index))
+      ⊎ ((index : ℕ) × (last ≡ Some (from + index)) × Means names index × ((later : ℕ) → index < later → ¬ Means names later))
 
   later_on : (found : Option ℕ) (from : ℕ) (name : Option (List ℕ)) (names : List (Option (List ℕ))) (last : Option ℕ)
-      → ((place : ℕ) × (last ≡ Some (suc from + place)) × Means names place × ((later : ℕ) → place < later → ¬ Means names later))
+      → ((index : ℕ) × (last ≡ Some (suc from + index)) × Means names index × ((later : ℕ) → index < later → ¬ Means names later))
       → Outcome found from (name ∷ names) last
-  later_on found from name names last (place, is, means, none) =
-      let moved : suc from + place ≡ from + suc place = omega arith in
+  later_on found from name names last (index, is, means, none) =
+      let moved : suc from + index ≡ from + suc index = omega arith in
       inr (
-        suc place,
+        suc index,
         is ∙ ap Some moved,
         means,
-        at_each (λ later. suc place < later → ¬ Means (name ∷ names) later) (λ low. absurd (omega arith)) (λ n low. none n (omega arith)),
+        at_each (λ later. suc index < later → ¬ Means (name ∷ names) later) (λ low. absurd (omega arith)) (λ n low. none n (omega arith)),
       )
 
   passed : (found : Option ℕ) (from : ℕ) (name : Option (List ℕ)) (names : List (Option (List ℕ))) (last : Option ℕ)
       → ¬ Means (name ∷ names) 0 → Outcome found (suc from) names last → Outcome found from (name ∷ names) last
-  passed found from name names last first (inl (is, none)) = inl (is, at_each (λ place. ¬ Means (name ∷ names) place) first none)
+  passed found from name names last first (inl (is, none)) = inl (is, at_each (λ index. ¬ Means (name ∷ names) index) first none)
   passed found from name names last first (inr it) = later_on found from name names last it
 
   taken : (found : Option ℕ) (from : ℕ) (name : List ℕ) (names : List (Option (List ℕ))) (last : Option ℕ)
@@ -51,7 +51,7 @@ module _ (keys : List (List ℕ)) (key : List ℕ) where
   taken found from name names last means (inr it) = later_on found from (Some name) names last it
 
   outcome : (found : Option ℕ) (from : ℕ) (names : List (Option (List ℕ))) → Outcome found from names (last_or found (groups_from keys key from names))
-  outcome found from [] = inl (refl, λ place (name, at, means). cc)
+  outcome found from [] = inl (refl, λ index (name, at, means). cc)
   outcome found from (None ∷ names) = passed found from None names _ (λ (name, at, means). cc) (outcome found (suc from) names)
   outcome found from (Some name ∷ names) =
       let rest = groups_from keys key (suc from) names in
@@ -74,6 +74,6 @@ groups_are_the_greatest keys names key = from_outcome (group_of keys names key) 
     from_outcome : (last : Option ℕ) → Outcome keys key None 0 names last
         → MatchOption last ((group : ℕ) → ¬ NameMeans keys names key group) (λ group. NameMeans keys names key group × ((later : ℕ) → group < later → ¬ NameMeans keys names key later))
     from_outcome last (inl (is, none)) = subst (λ o. MatchOption o ((group : ℕ) → ¬ NameMeans keys names key group) (λ group. NameMeans keys names key group × ((later : ℕ) → group < later → ¬ NameMeans keys names key later))) (sym is) none
-    from_outcome last (inr (place, is, means, later)) =
-        let plain : 0 + place ≡ place = omega arith in
+    from_outcome last (inr (index, is, means, later)) =
+        let plain : 0 + index ≡ index = omega arith in
         subst (λ o. MatchOption o ((group : ℕ) → ¬ NameMeans keys names key group) (λ group. NameMeans keys names key group × ((later : ℕ) → group < later → ¬ NameMeans keys names key later))) (sym (is ∙ ap Some plain)) (means, later)

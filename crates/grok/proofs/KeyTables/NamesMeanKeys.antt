@@ -1,4 +1,4 @@
--- Which key the name of a group means.
+-- The group name `_n_k` means the key with number k if there is one, and any other group name means itself.
 use Rattle.std.proofs.Common.{MatchOption, ◌≡◌, ℕ, zero, suc, ◌+◌, ◌-◌, ◌<◌, ◌^◌, Bool, true, false, cond, List, [], ◌∷◌, ◌++◌, map, drop, length, get_or, Option, Some, None, refl, sym, ◌∙◌, ap, arith, add-zero, add-one}
 use Rattle.std.specs.Option.{option_map}
 use Rattle.std.specs.Str.{bytes_eq}

@@ -13,12 +13,12 @@ use Rattle.grok.proofs.Keys.FirstFaultAndLastExtract.{how_often_onto}
 
 -- ---- how often a base key is used
 
-how_often_own : (label : Label) (before : List Label) (key : List ℕ) → base_key label ≡ key → how_often (label ∷ before) key ≡ suc (how_often before key)
+pub how_often_own : (label : Label) (before : List Label) (key : List ℕ) → base_key label ≡ key → how_often (label ∷ before) key ≡ suc (how_often before key)
 how_often_own label before key is =
     let one : cond {A = ℕ} (bytes_eq (base_key label) key) 1 0 ≡ 1 = ap (λ (b : Bool). cond {A = ℕ} b 1 0) (text_same (base_key label) key is) in
     omega (arith, how_often_more label before key)
 
-how_often_other : (label : Label) (before : List Label) (key : List ℕ) → bytes_eq (base_key label) key ≡ false → how_often (label ∷ before) key ≡ how_often before key
+pub how_often_other : (label : Label) (before : List Label) (key : List ℕ) → bytes_eq (base_key label) key ≡ false → how_often (label ∷ before) key ≡ how_often before key
 how_often_other label before key other =
     let none : cond {A = ℕ} (bytes_eq (base_key label) key) 1 0 ≡ 0 = ap (λ (b : Bool). cond {A = ℕ} b 1 0) other in
     omega (arith, how_often_more label before key)
@@ -37,7 +37,7 @@ how_often-after alias_only before events key = omega (arith, how_often_onto befo
 -- ---- the keys that are taken
 
 -- a key that is taken is a base key that is used, with a number below its uses
-taken_is : (before : List Label) (key : List ℕ) → is_among key (taken_of before) ≡ true → (base : List ℕ) × (number : ℕ) × (number < how_often before base) × (key ≡ numbered base number)
+pub taken_is : (before : List Label) (key : List ℕ) → is_among key (taken_of before) ≡ true → (base : List ℕ) × (number : ℕ) × (number < how_often before base) × (key ≡ numbered base number)
 taken_is [] key there = cc
 taken_is (label ∷ before) key there = elim (cases_Bool (bytes_eq (key_after before label) key)) [
   | inl same ↦

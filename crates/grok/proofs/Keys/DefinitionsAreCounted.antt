@@ -1,21 +1,28 @@
--- The tally of a definition is right: it is counted item by item.
-use Rattle.std.proofs.Common.{◌≡◌, ℕ, zero, suc, ◌+◌, ◌<◌, ◌≤◌, Bool, true, false, cond, List, [], ◌∷◌, ◌++◌, Some, None, Result, Ok, Err, IfOk, refl, sym, ◌∙◌, ap, subst, arith, inl, inr, append_assoc, append-nil, length, length-append}
+-- Counting a definition item by item gives the right tally: how many levels it needs, and how often it uses each base
+-- key that can clash.
+use Rattle.std.proofs.Common.{◌≡◌, ℕ, zero, suc, ◌+◌, ◌<◌, ◌≤◌, Bool, true, false, cond, List, [], ◌∷◌, ◌++◌, Option, Some, None, Result, Ok, Err, IfOk, not, refl, sym, ◌∙◌, ap, subst, arith, inl, inr, append_assoc, append-nil, length, length-append, drop, MatchOption, ◌&&◌}
 use Rattle.std.specs.Str.{bytes_eq}
 use Rattle.std.specs.FinMap as finite
 use Rattle.grok.specs.Tree.{Label, Meaning, Inline, Stored, meaning_text, Item, TextItem, FaultItem, PlaceholderItem, Event, Text, Open, Close, FaultEvent, events, first_structural}
 use Rattle.grok.specs.Keys.{is_capturing, capturing, how_often, base_key}
+use Rattle.grok.specs.NumberedBases.{can_clash, only_clashing}
 use Rattle.grok.specs.KeyUses.{CountsUses}
-use Rattle.grok.specs.Tallied.{resolve, opened_events, OpensNothing, IsSoundItem, IsTallyOf, HasTallied, IsCountedPartOf, with_item, counted_part_of, AreTallied}
+use Rattle.grok.specs.Items.{item_view}
+use Rattle.grok.specs.Tallied.{resolve, opened_events, OpensNothing, IsSoundItem, IsTallyOf, HasTallied, IsCountedPartOf, with_item, counted_part_of, AreTallied, is_counted, counted}
+use Rattle.grok.specs.declared.defs.items.Item as code
 use Rattle.grok.specs.declared.expand.key_uses.KeyUses.{KeyUses}
 use Rattle.grok.specs.declared.expand.tallies.CompileMode.{CompileMode}
 use Rattle.grok.specs.declared.expand.tallies.KeyTally.{KeyTally}
 use Rattle.grok.specs.declared.expand.tallies.CountedPart.{CountedPart}
 use Rattle.grok.specs.declared.expand.tallies.DefinitionTallies.{DefinitionTallies}
-use Rattle.std.proofs.lemmas.Bool.{cases_Bool}
+use Rattle.std.specs.Option.{is_some}
+use Rattle.std.proofs.lemmas.Bool.{cases_Bool, true≢false}
+use Rattle.std.proofs.Math.Seq.{drop-append_seam}
 use Rattle.grok.proofs.Texts.EqualBytesAreSameText.{same_text}
 use Rattle.grok.proofs.Keys.KeysAreDistinct.{how_often_more}
 use Rattle.grok.proofs.Keys.ClashesByUses.{how_often-append}
 use Rattle.grok.proofs.Keys.FirstFaultAndLastExtract.{capturing-append}
+use Rattle.grok.proofs.Keys.KeysThatCanClashAreEnough.{only-append}
 use Rattle.grok.proofs.Sizes.SizeIsThatOfTree.{or_else, first_structural-append}
 use Rattle.grok.proofs.Sizes.TextsWithoutPlaceholders.{AreBytes, AreSound}
 
@@ -27,18 +34,18 @@ clean_bytes inner (TextItem text ∷ items) bytes = clean_bytes inner items byte
 clean_bytes inner (FaultItem fault ∷ items) bytes = absurd bytes
 clean_bytes inner (PlaceholderItem label meaning ∷ items) bytes = absurd bytes
 
-none_in_bytes : (alias_only : Bool) (inner : List ℕ → List Event) (items : List Item) → AreBytes items → capturing alias_only (events inner items ++ Close ∷ []) ≡ []
-none_in_bytes alias_only inner [] bytes = refl
-none_in_bytes alias_only inner (TextItem text ∷ items) bytes = none_in_bytes alias_only inner items bytes
-none_in_bytes alias_only inner (FaultItem fault ∷ items) bytes = absurd bytes
-none_in_bytes alias_only inner (PlaceholderItem label meaning ∷ items) bytes = absurd bytes
+none_in_bytes : (mode : CompileMode) (inner : List ℕ → List Event) (items : List Item) → AreBytes items → counted mode (events inner items ++ Close ∷ []) ≡ []
+none_in_bytes mode inner [] bytes = refl
+none_in_bytes mode inner (TextItem text ∷ items) bytes = none_in_bytes mode inner items bytes
+none_in_bytes mode inner (FaultItem fault ∷ items) bytes = absurd bytes
+none_in_bytes mode inner (PlaceholderItem label meaning ∷ items) bytes = absurd bytes
 
 pub sound_first : (mode : CompileMode) (item : Item) (items : List Item) → AreSound (resolve mode) (finite.get mode.grok.now) (item ∷ items) → IsSoundItem mode item
 sound_first mode (TextItem text) items h = tt
 sound_first mode (FaultItem fault) items h = tt
 sound_first mode (PlaceholderItem label (Inline text)) items h = record {
   clean = λ levels. clean_bytes (opened_events mode levels) (resolve mode text) h.0.bytes;
-  none = λ levels. none_in_bytes mode.with_alias_only (opened_events mode levels) (resolve mode text) h.0.bytes;
+  none = λ levels. none_in_bytes mode (opened_events mode levels) (resolve mode text) h.0.bytes;
 }
 sound_first mode (PlaceholderItem label (Stored text)) items h = h.0
 
@@ -47,22 +54,37 @@ sound_first mode (PlaceholderItem label (Stored text)) items h = h.0
 pub counts_same : (counts : KeyUses) (wants others : List ℕ → ℕ) → ((key : List ℕ) → wants key ≡ others key) → CountsUses counts wants → CountsUses counts others
 counts_same counts wants others same = subst (CountsUses counts) (λ i key. same key i)
 
--- how often the open of this label wants the key
+-- how often the open of this label uses the key, if its uses are counted
 abbrev pub own : CompileMode → Label → List ℕ → ℕ
-own mode label key = cond (is_capturing mode.with_alias_only label) (cond (bytes_eq (base_key label) key) 1 0) 0
+own mode label key = cond (is_counted mode label) (cond (bytes_eq (base_key label) key) 1 0) 0
 
 module _ (mode : CompileMode) where
-  often_open : (label : Label) (meaning : Meaning) (xs ys : List Event) (key : List ℕ)
-      → how_often (capturing mode.with_alias_only (Open label meaning ∷ xs ++ ys)) key
-      ≡ own mode label key + (how_often (capturing mode.with_alias_only xs) key + how_often (capturing mode.with_alias_only ys) key)
+  pub often_both : (xs ys : List Event) (key : List ℕ) → how_often (counted mode (xs ++ ys)) key ≡ how_often (counted mode xs) key + how_often (counted mode ys) key
+  often_both xs ys key =
+      let only = only_clashing mode.numbered.now in
+      ap (λ es. how_often (capturing mode.with_alias_only es) key) (only-append mode.numbered.now xs ys)
+      ∙ ap (λ labels. how_often labels key) (capturing-append mode.with_alias_only (only xs) (only ys)) ∙ how_often-append (counted mode xs) (counted mode ys) key
+
+  pub often_open : (label : Label) (meaning : Meaning) (xs ys : List Event) (key : List ℕ)
+      → how_often (counted mode (Open label meaning ∷ xs ++ ys)) key
+      ≡ own mode label key + (how_often (counted mode xs) key + how_often (counted mode ys) key)
   often_open label meaning xs ys key =
-      let alone = capturing mode.with_alias_only in
-      let both : how_often (alone (xs ++ ys)) key ≡ how_often (alone xs) key + how_often (alone ys) key =
-      ap (λ labels. how_often labels key) (capturing-append mode.with_alias_only xs ys) ∙ how_often-append (alone xs) (alone ys) key in
-      elim (is_capturing mode.with_alias_only label) as (λ b. how_often (cond b (label ∷ alone (xs ++ ys)) (alone (xs ++ ys))) key
-      ≡ cond b (cond (bytes_eq (base_key label) key) 1 0) 0 + (how_often (alone xs) key + how_often (alone ys) key)) [
-        | true ↦ how_often_more label (alone (xs ++ ys)) key ∙ ap (λ n. cond {A = ℕ} (bytes_eq (base_key label) key) 1 0 + n) both
-        | false ↦ omega (arith, both)
+      let rest = only_clashing mode.numbered.now (xs ++ ys) in
+      let alone = capturing mode.with_alias_only rest in
+      let sum = how_often (counted mode xs) key + how_often (counted mode ys) key in
+      let both : how_often alone key ≡ sum = often_both xs ys key in
+      let one = cond {A = ℕ} (bytes_eq (base_key label) key) 1 0 in
+      let more = how_often_more label alone key in
+      elim (can_clash mode.numbered.now (base_key label)) as (λ b. how_often (capturing mode.with_alias_only (cond b (Open label meaning ∷ rest) rest)) key
+      ≡ cond (is_capturing mode.with_alias_only label && b) one 0 + sum) [
+        | true ↦ elim (is_capturing mode.with_alias_only label) as (λ b. how_often (cond b (label ∷ alone) alone) key ≡ cond (b && true) one 0 + sum) [
+          | true ↦ more ∙ ap (λ n. one + n) both
+          | false ↦ omega (arith, both)
+        ]
+        | false ↦ elim (is_capturing mode.with_alias_only label) as (λ b. how_often alone key ≡ cond (b && false) one 0 + sum) [
+          | true ↦ omega (arith, both)
+          | false ↦ omega (arith, both)
+        ]
       ]
 
   -- ---- one item more
@@ -83,16 +105,11 @@ module _ (mode : CompileMode) where
       ap (λ es. Open label meaning ∷ inner (meaning_text meaning) ++ es) (events_both inner xs ys)
       ∙ ap (λ es. Open label meaning ∷ es) (sym (append_assoc (inner (meaning_text meaning)) (events inner xs) (events inner ys)))
 
-  often_both : (xs ys : List Event) (key : List ℕ) → how_often (capturing mode.with_alias_only (xs ++ ys)) key
-      ≡ how_often (capturing mode.with_alias_only xs) key + how_often (capturing mode.with_alias_only ys) key
-  often_both xs ys key =
-      ap (λ labels. how_often labels key) (capturing-append mode.with_alias_only xs ys) ∙ how_often-append (capturing mode.with_alias_only xs) (capturing mode.with_alias_only ys) key
-
   module _ (items : List Item) (old new : KeyTally) (h : HasTallied mode items old) (above : old.height ≤ new.height) where
-    -- one more item, which has no fault and wants these keys
+    -- one more item, which has no fault and uses each key `more key` times
     more_tallied : (item : Item) (more : List ℕ → ℕ)
         → ((levels : ℕ) → new.height ≤ levels → first_structural (events (opened_events mode levels) (item ∷ [])) ≡ None)
-        → ((levels : ℕ) → new.height ≤ levels → (key : List ℕ) → how_often (capturing mode.with_alias_only (events (opened_events mode levels) (item ∷ []))) key ≡ more key)
+        → ((levels : ℕ) → new.height ≤ levels → (key : List ℕ) → how_often (counted mode (events (opened_events mode levels) (item ∷ []))) key ≡ more key)
         → CountsUses new.uses (λ key. more key + h.uses key)
         → HasTallied mode (items ++ item ∷ []) new
     more_tallied item more clean often counts = record {
@@ -108,9 +125,9 @@ module _ (mode : CompileMode) where
       often = λ levels high key.
           let enough : old.height ≤ levels = omega arith in
           let inner = opened_events mode levels in
-          let both : how_often (capturing mode.with_alias_only (events inner (items ++ item ∷ []))) key
-          ≡ how_often (capturing mode.with_alias_only (events inner items)) key + how_often (capturing mode.with_alias_only (events inner (item ∷ []))) key =
-          ap (λ es. how_often (capturing mode.with_alias_only es) key) (events_both inner items (item ∷ [])) ∙ often_both (events inner items) (events inner (item ∷ [])) key in
+          let both : how_often (counted mode (events inner (items ++ item ∷ []))) key
+          ≡ how_often (counted mode (events inner items)) key + how_often (counted mode (events inner (item ∷ []))) key =
+          ap (λ es. how_often (counted mode es) key) (events_both inner items (item ∷ [])) ∙ often_both (events inner items) (events inner (item ∷ [])) key in
           omega (arith, both, h.often levels enough key, often levels high key);
     }
 
@@ -134,19 +151,19 @@ module _ (mode : CompileMode) where
       more_tallied items tally tally h (omega arith) (TextItem text) (λ key. 0) (λ levels high. refl) (λ levels high key. refl)
       (counts_same tally.uses h.uses (λ key. 0 + h.uses key) (λ key. omega arith) h.counts)
 
-  -- a placeholder, by what counting it answered
+  -- a placeholder, by what counting it returned
   pub placeholder_tallied : {E : Type 0} (item : Item) (label : Label) (meaning : Meaning) (old new inner : KeyTally) (r : Result Bool E) → item ≡ PlaceholderItem label meaning
       → (IsSoundItem mode (PlaceholderItem label meaning) → IsTallyOf mode (meaning_text meaning) inner)
-      → IfOk r (λ added. (m : CompileMode) (meaning : Meaning) (items : List Item) → m.with_alias_only ≡ mode.with_alias_only → IsTallyOf m (meaning_text meaning) inner → HasTallied m items old
-      → HasTallied m (with_item added items (PlaceholderItem label meaning)) new)
+      → IfOk r (λ added. (meaning : Meaning) (items : List Item) → IsTallyOf mode (meaning_text meaning) inner → HasTallied mode items old
+      → HasTallied mode (with_item added items (PlaceholderItem label meaning)) new)
       → IfOk r (λ known. IsSoundItem mode item → (items : List Item) → HasTallied mode items old → HasTallied mode (with_item known items item) new)
   placeholder_tallied item label meaning old new inner (Err e) is within h = tt
   placeholder_tallied item label meaning old new inner (Ok added) is within h = λ sound items t.
-      subst (λ i. HasTallied mode (with_item added items i) new) (sym is) (h mode meaning items refl (within (subst (IsSoundItem mode) is sound)) t)
+      subst (λ i. HasTallied mode (with_item added items i) new) (sym is) (h meaning items (within (subst (IsSoundItem mode) is sound)) t)
 
   -- ---- whole texts
 
-  -- so many items of a text were counted, and these are left
+  -- the first `counted` items of a text were counted, and `left` has the others
   pub record IsCounting (text : List ℕ) (left : List Item) (counted : ℕ) (tally : KeyTally) : Type 0 where
     pub items : List Item
     pub cut : resolve mode text ≡ items ++ left
@@ -156,13 +173,28 @@ module _ (mode : CompileMode) where
   pub counting_starts : (text : List ℕ) (left : List Item) (tally : KeyTally) → left ≡ resolve mode text → CountsUses tally.uses (λ key. 0) → IsCounting text left 0 tally
   counting_starts text left tally is counts = record { items = []; cut = sym is; many = refl; tallied = nothing_tallied tally counts }
 
-  pub counted_in_part : (text : List ℕ) (left : List Item) (front : CountedPart) → front.is_whole ≡ false → IsCounting text left front.items front.tally → IsCountedPartOf mode text front
-  counted_in_part text left front part h = record {
+  -- the search goes on with the item at which counting stops, and after it with the items that weren't read
+  pub counted_in_part : (text : List ℕ) (left rest : List Item) (item : code.Item) (counted : ℕ) (front : CountedPart) → left ≡ item_view item ∷ rest → front.read ≡ counted + 1 → front.uncounted ≡ Some item
+      → IsCounting text left counted front.tally → IsCountedPartOf mode text front
+  counted_in_part text left rest item counted front is one part h =
+      let whole : resolve mode text ≡ h.items ++ item_view item ∷ rest = h.cut ∙ ap (λ left. h.items ++ left) is in
+      let read : length (h.items ++ item_view item ∷ []) ≡ front.read = omega (arith, length-append h.items (item_view item ∷ []), h.many, one) in
+      let later : drop front.read (resolve mode text) ≡ rest =
+      ap (λ n. drop n (resolve mode text)) (sym read)
+      ∙ ap (drop (length (h.items ++ item_view item ∷ []))) (whole ∙ sym (append_assoc h.items (item_view item ∷ []) rest))
+      ∙ drop-append_seam (h.items ++ item_view item ∷ []) rest in
+      record {
+        items = h.items;
+        cut = subst (λ o. MatchOption o (resolve mode text ≡ h.items) (λ item. resolve mode text ≡ h.items ++ item_view item ∷ drop front.read (resolve mode text))) (sym part)
+            (whole ∙ ap (λ rest. h.items ++ item_view item ∷ rest) (sym later));
+        tallied = h.tallied;
+      }
+
+  pub counted_wholly : (text : List ℕ) (left : List Item) (counted : ℕ) (front : CountedPart) → left ≡ [] → front.uncounted ≡ None → IsCounting text left counted front.tally → IsCountedPartOf mode text front
+  counted_wholly text left counted front over part h = record {
     items = h.items;
-    left = left;
-    cut = h.cut;
-    many = h.many;
-    whole = λ is. let bad : false ≡ true = sym part ∙ is in cc;
+    cut = subst (λ o. MatchOption o (resolve mode text ≡ h.items) (λ item. resolve mode text ≡ h.items ++ item_view item ∷ drop front.read (resolve mode text))) (sym part)
+        (h.cut ∙ ap (λ left. h.items ++ left) over ∙ append-nil h.items);
     tallied = h.tallied;
   }
 
@@ -175,7 +207,7 @@ module _ (mode : CompileMode) where
     tallied = tallies h.items h.tallied;
   }
 
-  pub whole_tallied : (text : List ℕ) (front : CountedPart) → IsCountedPartOf mode text front → front.is_whole ≡ true → IsTallyOf mode text front.tally
+  pub whole_tallied : (text : List ℕ) (front : CountedPart) → IsCountedPartOf mode text front → front.uncounted ≡ None → IsTallyOf mode text front.tally
   whole_tallied text front f whole = record {
     uses = f.tallied.uses;
     counts = f.tallied.counts;
@@ -184,7 +216,7 @@ module _ (mode : CompileMode) where
   }
     where
       all : resolve mode text ≡ f.items
-      all = f.cut ∙ ap (λ left. f.items ++ left) (f.whole whole) ∙ append-nil f.items
+      all = subst (λ o. MatchOption o (resolve mode text ≡ f.items) (λ item. resolve mode text ≡ f.items ++ item_view item ∷ drop front.read (resolve mode text))) whole f.cut
 
       clean : (levels : ℕ) → front.tally.height < levels → first_structural (opened_events mode levels text) ≡ None
       clean zero high = absurd (omega arith)
@@ -192,12 +224,12 @@ module _ (mode : CompileMode) where
           first_structural-append (events (opened_events mode levels) (resolve mode text)) (Close ∷ [])
           ∙ ap (λ o. or_else o None) (ap (λ items. first_structural (events (opened_events mode levels) items)) all ∙ f.tallied.clean levels (omega arith))
 
-      often : (levels : ℕ) → front.tally.height < levels → (key : List ℕ) → how_often (capturing mode.with_alias_only (opened_events mode levels text)) key ≡ f.tallied.uses key
+      often : (levels : ℕ) → front.tally.height < levels → (key : List ℕ) → how_often (counted mode (opened_events mode levels text)) key ≡ f.tallied.uses key
       often zero high key = absurd (omega arith)
       often (suc levels) high key =
           let es = events (opened_events mode levels) (resolve mode text) in
-          let same : how_often (capturing mode.with_alias_only es) key ≡ f.tallied.uses key =
-          ap (λ items. how_often (capturing mode.with_alias_only (events (opened_events mode levels) items)) key) all ∙ f.tallied.often levels (omega arith) key in
+          let same : how_often (counted mode es) key ≡ f.tallied.uses key =
+          ap (λ items. how_often (counted mode (events (opened_events mode levels) items)) key) all ∙ f.tallied.often levels (omega arith) key in
           omega (arith, often_both es (Close ∷ []) key, same)
 
   -- a definition that is written in a text
@@ -213,9 +245,14 @@ module _ (mode : CompileMode) where
       clean zero high = absurd (omega arith)
       clean (suc levels) high = nothing.clean levels
 
-      often : (levels : ℕ) → tally.height < levels → (key : List ℕ) → how_often (capturing mode.with_alias_only (opened_events mode levels text)) key ≡ 0
+      often : (levels : ℕ) → tally.height < levels → (key : List ℕ) → how_often (counted mode (opened_events mode levels text)) key ≡ 0
       often zero high key = absurd (omega arith)
       often (suc levels) high key = ap (λ labels. how_often labels key) (nothing.none levels)
+
+-- nothing is left of a definition that is counted to its end
+pub none_left : {T : Type 0} (o : Option T) (b : Bool) → is_some o ≡ not b → b ≡ true → o ≡ None
+none_left None b answer is = refl
+none_left (Some x) b answer is = absurd (true≢false (answer ∙ ap not is))
 
 -- one name more
 pub name_tallied : (mode : CompileMode) (old new : DefinitionTallies) (name text : List ℕ) (front : CountedPart) → AreTallied mode old → finite.get mode.grok.now name ≡ Some text → IsCountedPartOf mode text front

@@ -1,4 +1,5 @@
--- The first fault of a list of events, and the last extract of a list of placeholders, by cutting the list.
+-- The first fault of a tree is one that no other fault comes before, and the extract of a key is that of the last
+-- placeholder with this key and an extract.
 use Rattle.std.proofs.Common.{◌≡◌, ℕ, ◌+◌, Bool, true, false, cond, List, [], ◌∷◌, ◌++◌, Option, Some, None, refl, sym, ◌∙◌, ap, subst, ◌⊎◌, inl, inr, ◌&&◌, append-nil, append_assoc, arith}
 use Rattle.std.specs.Prelude.{not}
 use Rattle.std.specs.Str.{bytes_eq}

@@ -1,5 +1,5 @@
 -- The search for the first fault finds it, also if it skips definitions that are counted.
-use Rattle.std.proofs.Common.{◌≡◌, ℕ, zero, suc, ◌+◌, ◌-◌, ◌<◌, ◌≤◌, Bool, true, false, cond, List, [], ◌∷◌, ◌++◌, length, drop, Some, None, refl, sym, ◌∙◌, ap, subst, inl, inr, arith, append_assoc, append-nil, length-append}
+use Rattle.std.proofs.Common.{◌≡◌, ℕ, zero, suc, ◌+◌, ◌-◌, ◌<◌, ◌≤◌, ◌^◌, Bool, true, false, cond, List, [], ◌∷◌, ◌++◌, length, drop, Option, Some, None, MatchOption, refl, sym, ◌∙◌, ap, subst, inl, inr, arith, append_assoc, append-nil, length-append}
 use Rattle.std.specs.Prelude.{Decides}
 use Rattle.std.specs.FinMap as finite
 use Rattle.std.specs.Str.{bytes_eq}
@@ -7,16 +7,18 @@ use Rattle.std.specs.String.{string_bytes}
 use Rattle.std.specs.Global.{Global}
 use Rattle.std.specs.declared.string.String.{String}
 use Rattle.std.proofs.lemmas.Bool.{true≢false, cases_Bool}
-use Rattle.std.proofs.Math.Seq.{drop-append_seam}
-use Rattle.grok.specs.Tree.{Label, meaning_text, Item, TextItem, FaultItem, PlaceholderItem, Event, Open, Close, events, inside, deepest}
+use Rattle.grok.specs.Tree.{Label, meaning_text, Item, TextItem, FaultItem, PlaceholderItem, Event, Open, Close, events, inside, deepest, tree, reached}
 use Rattle.grok.specs.Keys as keys
 use Rattle.grok.specs.Keys.{base_key, numbered, how_often, key_after, is_among, first_fault}
 use Rattle.grok.specs.CapturedSoFar.{taken_of, faults, after}
 use Rattle.grok.specs.Events.{events_left}
 use Rattle.grok.specs.KeyUses.{CountsUses, IsFree}
+use Rattle.grok.specs.NumberedBases.{opens_numbered_from, is_base_in, only_clashing}
 use Rattle.grok.specs.Walks.{Clashes, tree_fault_view}
+use Rattle.grok.specs.Items.{item_view}
 use Rattle.grok.specs.Tallied.{resolve, opened_events, IsSoundItem, HasTallied, IsCountedPartOf}
-use Rattle.grok.specs.FirstFaultSteps.{IsCountOf, CountedUse, HaveCounted, events_inside, EntersText, EntersPlaceholder, StepsAtItem}
+use Rattle.grok.specs.FirstFaultSteps.{IsCountOf, CountedUse, HaveCounted, events_inside, EntersText, EntersPlaceholder, StepsAtItem, counted_fault, counted_after, HasFittingNumber}
+use Rattle.grok.specs.declared.defs.items.Item as code
 use Rattle.grok.specs.declared.expand.key_uses.KeyUses.{KeyUses}
 use Rattle.grok.specs.declared.expand.tallies.CompileMode.{CompileMode}
 use Rattle.grok.specs.declared.expand.tallies.KeyTally.{KeyTally}
@@ -25,7 +27,8 @@ use Rattle.grok.specs.declared.errors.fault.TreeFault.{TreeFault}
 use Rattle.grok.specs.declared.expand.first_fault.ItemStep.{ItemStep}
 use Rattle.grok.proofs.Keys.KeysAreDistinct.{how_often_more}
 use Rattle.grok.proofs.Keys.FirstFaultAndLastExtract.{or_then, faults-append, after-append}
-use Rattle.grok.proofs.Keys.ClashesByUses.{how_often-after, stays_free, clash_is_not_free, free_events}
+use Rattle.grok.proofs.Keys.ClashesByUses.{how_often-after, taken_is, stays_free, clash_is_not_free, free_events}
+use Rattle.grok.proofs.Keys.KeysThatCanClashAreEnough.{only-append, only_structural, clashing_are_enough}
 use Rattle.grok.proofs.Trees.EventsOnStack.{left_step, left_open, left_close}
 use Rattle.grok.proofs.Sizes.TextsWithoutPlaceholders.{AreSound, sound_rest}
 use Rattle.grok.proofs.Sizes.ItemsAreSound.{sound_texts}
@@ -66,6 +69,30 @@ module _ (before : List Label) (label : Label) (want : List ℕ) (is : want ≡ 
     named = named ∙ ap (numbered want) often ∙ ap (λ w. numbered w (how_often before w)) is;
   }
 
+-- ---- the number of a clash
+
+module _ (total : KeyUses) (before : List Label) (label : Label) (key : String Global) (keeps : IsCountOf total before) (clash : Clashes before label key) where
+  number_of : (own number : ℕ) (base : List ℕ) → own ≡ how_often before (base_key label) → number < how_often before base → numbered (base_key label) own ≡ numbered base number → HasFittingNumber (string_bytes key)
+  number_of zero zero base often low same = absurd (omega (arith, often, low, ap (how_often before) same))
+  number_of zero (suc count) base often low same = record {
+    base = base;
+    count = count;
+    fits = let most : how_often before base < 2 ^ 64 = keeps.counts.fits base in omega arith;
+    is = clash.named ∙ ap (numbered (base_key label)) (sym often) ∙ same;
+  }
+  number_of (suc count) number base often low same = record {
+    base = base_key label;
+    count = count;
+    fits = let most : how_often before (base_key label) < 2 ^ 64 = keeps.counts.fits (base_key label) in omega arith;
+    is = clash.named ∙ ap (numbered (base_key label)) (sym often);
+  }
+
+  -- it fits a `usize`, since the uses that were counted do
+  pub number_fits : HasFittingNumber (string_bytes key)
+  number_fits =
+      let (base, number, low, is) = taken_is before (key_after before label) clash.taken in
+      number_of (how_often before (base_key label)) number base refl low is
+
 -- ---- what an open holds
 
 module _ (mode : CompileMode) (items : List Item) (levels : ℕ) (before : List Label) (tally : KeyTally) (t : HasTallied mode items tally) (high : tally.height < levels) where
@@ -79,28 +106,38 @@ module _ (mode : CompileMode) (items : List Item) (levels : ℕ) (before : List 
   abbrev pub with_text : List ℕ → ℕ
   with_text key = t.uses key + how_often before key
 
-  text_is : (key : List ℕ) → with_text key ≡ how_often (after mode.with_alias_only before held) key
-  text_is key = omega (arith, how_often-after mode.with_alias_only before held key, t.often (levels - 1) enough key)
+  text_is : (key : List ℕ) → with_text key ≡ how_often (counted_after mode before held) key
+  text_is key = omega (arith, how_often-after mode.with_alias_only before (only_clashing mode.numbered.now held) key, t.often (levels - 1) enough key)
 
-  pub text_passed : (total : KeyUses) (free : Bool) → free ≡ true → Decides free (IsFree with_text) → CountsUses total with_text → HaveCounted mode.with_alias_only before held total
+  pub text_passed : (total : KeyUses) (free : Bool) → free ≡ true → Decides free (IsFree with_text) → CountsUses total with_text → HaveCounted mode before held total
   text_passed total free is_so decides counts =
-      let later : IsFree (how_often (after mode.with_alias_only before held)) = subst (λ (P : Type 0). P) (ap IsFree (λ i key. text_is key i)) (decides.0 is_so) in
+      let later : IsFree (how_often (counted_after mode before held)) = subst (λ (P : Type 0). P) (ap IsFree (λ i key. text_is key i)) (decides.0 is_so) in
       record {
-        none = free_events mode.with_alias_only before held (t.clean (levels - 1) enough) later;
-        keeps = record { counts = counts_same total with_text (how_often (after mode.with_alias_only before held)) text_is counts; free = later };
+        none = free_events mode.with_alias_only before (only_clashing mode.numbered.now held) (only_structural mode.numbered.now held ∙ t.clean (levels - 1) enough) later;
+        keeps = record { counts = counts_same total with_text (how_often (counted_after mode before held)) text_is counts; free = later };
       }
 
 -- ---- one list of events after the other
 
-module _ (alias_only : Bool) (before : List Label) (xs : List Event) (mid : KeyUses) (p : HaveCounted alias_only before xs mid) (ys : List Event) where
-  pub passed-append : (total : KeyUses) → HaveCounted alias_only (after alias_only before xs) ys total → HaveCounted alias_only before (xs ++ ys) total
+module _ (mode : CompileMode) (before : List Label) (xs ys : List Event) where
+  abbrev only : List Event → List Event
+  only es = only_clashing mode.numbered.now es
+
+  counted_fault-append : counted_fault mode before (xs ++ ys) ≡ or_then (counted_fault mode before xs) (counted_fault mode (counted_after mode before xs) ys)
+  counted_fault-append = ap (faults mode.with_alias_only before) (only-append mode.numbered.now xs ys) ∙ faults-append mode.with_alias_only before (only xs) (only ys)
+
+  counted_after-append : counted_after mode before (xs ++ ys) ≡ counted_after mode (counted_after mode before xs) ys
+  counted_after-append = ap (after mode.with_alias_only before) (only-append mode.numbered.now xs ys) ∙ after-append mode.with_alias_only before (only xs) (only ys)
+
+module _ (mode : CompileMode) (before : List Label) (xs : List Event) (mid : KeyUses) (p : HaveCounted mode before xs mid) (ys : List Event) where
+  pub passed-append : (total : KeyUses) → HaveCounted mode (counted_after mode before xs) ys total → HaveCounted mode before (xs ++ ys) total
   passed-append total q = record {
-    none = faults-append alias_only before xs ys ∙ ap (λ o. or_then o (faults alias_only (after alias_only before xs) ys)) p.none ∙ q.none;
-    keeps = subst (IsCountOf total) (sym (after-append alias_only before xs ys)) q.keeps;
+    none = counted_fault-append mode before xs ys ∙ ap (λ o. or_then o (counted_fault mode (counted_after mode before xs) ys)) p.none ∙ q.none;
+    keeps = subst (IsCountOf total) (sym (counted_after-append mode before xs ys)) q.keeps;
   }
 
-  pub stopped-append : (tree_fault : keys.TreeFault) → faults alias_only (after alias_only before xs) ys ≡ Some tree_fault → faults alias_only before (xs ++ ys) ≡ Some tree_fault
-  stopped-append tree_fault stops = faults-append alias_only before xs ys ∙ ap (λ o. or_then o (faults alias_only (after alias_only before xs) ys)) p.none ∙ stops
+  pub stopped-append : (tree_fault : keys.TreeFault) → counted_fault mode (counted_after mode before xs) ys ≡ Some tree_fault → counted_fault mode before (xs ++ ys) ≡ Some tree_fault
+  stopped-append tree_fault stops = counted_fault-append mode before xs ys ∙ ap (λ o. or_then o (counted_fault mode (counted_after mode before xs) ys)) p.none ∙ stops
 
 -- ---- after the counted part
 
@@ -109,19 +146,22 @@ module _ (mode : CompileMode) (text : List ℕ) (front : CountedPart) (f : IsCou
   pub opens_all : (items : List Item) (total : KeyUses) → items ≡ resolve mode text → IsCountOf total before → EntersText mode levels text items before total
   opens_all items total is keeps = record { room = room; front = []; cut = sym is; passed = record { none = refl; keeps = keeps } }
 
-  module _ (total : KeyUses) (passed : HaveCounted mode.with_alias_only before (events_inside mode levels f.items) total) where
-    pub enters_after_counted : (items : List Item) → items ≡ drop front.items (resolve mode text) → EntersText mode levels text items before total
-    enters_after_counted items is =
-        let left : items ≡ f.left = is ∙ ap (λ n. drop n (resolve mode text)) (sym f.many) ∙ ap (drop (length f.items)) f.cut ∙ drop-append_seam f.items f.left in
-        record { room = room; front = f.items; cut = f.cut ∙ ap (λ left. f.items ++ left) (sym left); passed = passed }
+  -- where the text is cut, by the item at which counting stopped
+  abbrev split : Option code.Item → Type 0
+  split o = MatchOption o (resolve mode text ≡ f.items) (λ item. resolve mode text ≡ f.items ++ item_view item ∷ drop front.read (resolve mode text))
 
-    pub passes_whole : front.is_whole ≡ true → HaveCounted mode.with_alias_only before (opened_events mode levels text) total
+  module _ (total : KeyUses) (passed : HaveCounted mode before (events_inside mode levels f.items) total) where
+    pub enters_after_counted : (item : code.Item) (items : List Item) → front.uncounted ≡ Some item → items ≡ item_view item ∷ drop front.read (resolve mode text) → EntersText mode levels text items before total
+    enters_after_counted item items part is =
+        record { room = room; front = f.items; cut = subst split part f.cut ∙ ap (λ left. f.items ++ left) (sym is); passed = passed }
+
+    pub passes_whole : front.uncounted ≡ None → HaveCounted mode before (opened_events mode levels text) total
     passes_whole whole =
-        let all : f.items ≡ resolve mode text = sym (f.cut ∙ ap (λ left. f.items ++ left) (f.whole whole) ∙ append-nil f.items) in
+        let all : f.items ≡ resolve mode text = sym (subst split whole f.cut) in
         let same : events_inside mode levels f.items ++ Close ∷ [] ≡ opened_events mode levels text =
         ap (λ items. events_inside mode levels items ++ Close ∷ []) all ∙ inside_is levels room in
-        subst (λ es. HaveCounted mode.with_alias_only before es total) same
-        (passed-append mode.with_alias_only before (events_inside mode levels f.items) total passed (Close ∷ []) total (record { none = refl; keeps = passed.keeps }))
+        subst (λ es. HaveCounted mode before es total) same
+        (passed-append mode before (events_inside mode levels f.items) total passed (Close ∷ []) total (record { none = refl; keeps = passed.keeps }))
       where
         inside_is : (levels : ℕ) → 0 < levels → events_inside mode levels (resolve mode text) ++ Close ∷ [] ≡ opened_events mode levels text
         inside_is zero none = absurd (omega arith)
@@ -133,7 +173,7 @@ module _ (mode : CompileMode) (text : List ℕ) (front : CountedPart) (f : IsCou
 pub record HasCountedUpTo (mode : CompileMode) (all left : List Event) (total : KeyUses) : Type 0 where
   pub read : List Event
   pub cut : all ≡ read ++ left
-  pub passed : HaveCounted mode.with_alias_only [] read total
+  pub passed : HaveCounted mode [] read total
 
 -- the events that are left of open texts
 abbrev pub left_of : CompileMode → List (List Item) → List Item → List Event
@@ -158,7 +198,7 @@ first_item inner (FaultItem fault) rest = refl
 first_item inner (PlaceholderItem label meaning) rest =
     ap (λ es. Open label meaning ∷ es) (ap (λ es. es ++ events inner rest) (sym (append-nil (inner (meaning_text meaning)))))
 
-left_item : (items : List ℕ → List Item) (levels : ℕ) (around : List (List Item)) (item : Item) (rest : List Item)
+pub left_item : (items : List ℕ → List Item) (levels : ℕ) (around : List (List Item)) (item : Item) (rest : List Item)
     → events_left items levels around None (item ∷ rest) ≡ events (inside items (levels - length around)) (item ∷ []) ++ events_left items levels around None rest
 left_item items levels [] item rest =
     let same : levels ≡ levels - 0 = omega arith in
@@ -195,24 +235,24 @@ module _ (mode : CompileMode) (all : List Event) (total : KeyUses) where
 
   module _ (left : List Event) (h : HasCountedUpTo mode all left total) where
     abbrev pub so_far : List Label
-    so_far = after mode.with_alias_only [] h.read
+    so_far = counted_after mode [] h.read
 
     module _ (es rest : List Event) (cut : left ≡ es ++ rest) where
-      pub more_passed : (later : KeyUses) → HaveCounted mode.with_alias_only so_far es later → HasCountedUpTo mode all rest later
+      pub more_passed : (later : KeyUses) → HaveCounted mode so_far es later → HasCountedUpTo mode all rest later
       more_passed later passed = record {
         read = h.read ++ es;
         cut = h.cut ∙ ap (λ ls. h.read ++ ls) cut ∙ sym (append_assoc h.read es rest);
-        passed = passed-append mode.with_alias_only [] h.read total h.passed es later passed;
+        passed = passed-append mode [] h.read total h.passed es later passed;
       }
 
-      pub fault_found : (tree_fault : keys.TreeFault) → faults mode.with_alias_only so_far es ≡ Some tree_fault → first_fault mode.with_alias_only all ≡ Some tree_fault
+      pub fault_found : (tree_fault : keys.TreeFault) → counted_fault mode so_far es ≡ Some tree_fault → counted_fault mode [] all ≡ Some tree_fault
       fault_found tree_fault stops =
-          ap (faults mode.with_alias_only []) (h.cut ∙ ap (λ ls. h.read ++ ls) cut)
-          ∙ stopped-append mode.with_alias_only [] h.read total h.passed (es ++ rest) tree_fault
-          (faults-append mode.with_alias_only so_far es rest ∙ ap (λ o. or_then o (faults mode.with_alias_only (after mode.with_alias_only so_far es) rest)) stops)
+          ap (counted_fault mode []) (h.cut ∙ ap (λ ls. h.read ++ ls) cut)
+          ∙ stopped-append mode [] h.read total h.passed (es ++ rest) tree_fault
+          (counted_fault-append mode so_far es rest ∙ ap (λ o. or_then o (counted_fault mode (counted_after mode so_far es) rest)) stops)
 
-    pub all_passed : left ≡ [] → first_fault mode.with_alias_only all ≡ None
-    all_passed over = ap (faults mode.with_alias_only []) (h.cut ∙ ap (λ ls. h.read ++ ls) over ∙ append-nil h.read) ∙ h.passed.none
+    pub all_passed : left ≡ [] → counted_fault mode [] all ≡ None
+    all_passed over = ap (counted_fault mode []) (h.cut ∙ ap (λ ls. h.read ++ ls) over ∙ append-nil h.read) ∙ h.passed.none
 
 -- what the walk keeps, where these texts are open around the items that are left of the innermost one
 pub record IsWalking (mode : CompileMode) (all : List Event) (around : List (List Item)) (items : List Item) (total : KeyUses) : Type 0 where
@@ -221,7 +261,7 @@ pub record IsWalking (mode : CompileMode) (all : List Event) (around : List (Lis
   pub all_sound : AreAllSound mode around
   pub passed : HasCountedUpTo mode all (left_of mode around items) total
 
-some_event : (inner : List ℕ → List Event) (item : Item) → 0 < length (events inner (item ∷ []))
+pub some_event : (inner : List ℕ → List Event) (item : Item) → 0 < length (events inner (item ∷ []))
 some_event inner (TextItem text) = omega arith
 some_event inner (FaultItem fault) = omega arith
 some_event inner (PlaceholderItem label meaning) = omega arith
@@ -242,7 +282,7 @@ module _ (mode : CompileMode) (all : List Event) where
     pub walked_keeps : IsCountOf total walked
     walked_keeps = w.passed.passed.keeps
 
-    pub walk_ends : items ≡ [] → around ≡ [] → first_fault mode.with_alias_only all ≡ None
+    pub walk_ends : items ≡ [] → around ≡ [] → counted_fault mode [] all ≡ None
     walk_ends over none = all_passed mode all total (left_of mode around items) w.passed (ap (λ items. left_of mode around items) over ∙ ap (λ around. left_of mode around []) none)
 
     module _ (outer : List Item) (outside : List (List Item)) (over : items ≡ []) (is : around ≡ outside ++ outer ∷ []) where
@@ -281,7 +321,7 @@ module _ (mode : CompileMode) (all : List Event) where
       goes : left_of mode around items ≡ its_events ++ left_of mode around rest
       goes = ap (λ items. left_of mode around items) cut ∙ left_item (resolve mode) deepest around item rest
 
-      pub walk_passes : (later : KeyUses) → HaveCounted mode.with_alias_only walked its_events later → IsWalking mode all around rest later
+      pub walk_passes : (later : KeyUses) → HaveCounted mode walked its_events later → IsWalking mode all around rest later
       walk_passes later passed = record {
         room = w.room;
         sound = rest_sound;
@@ -292,7 +332,7 @@ module _ (mode : CompileMode) (all : List Event) where
       pub pass_smaller : length (left_of mode around rest) < length (left_of mode around items)
       pass_smaller = omega (arith, ap length goes, length-append its_events (left_of mode around rest), some_event (opened_events mode (deepest - length around)) item)
 
-      pub walk_finds : (tree_fault : TreeFault) → faults mode.with_alias_only walked its_events ≡ Some (tree_fault_view tree_fault) → first_fault mode.with_alias_only all ≡ Some (tree_fault_view tree_fault)
+      pub walk_finds : (tree_fault : TreeFault) → counted_fault mode walked its_events ≡ Some (tree_fault_view tree_fault) → counted_fault mode [] all ≡ Some (tree_fault_view tree_fault)
       walk_finds tree_fault stops = fault_found mode all total (left_of mode around items) w.passed its_events (left_of mode around rest) goes (tree_fault_view tree_fault) stops
 
       module _ (inner : List Item) (later : KeyUses) (e : EntersPlaceholder mode (deepest - length around) item inner walked later) (deeper : List (List Item)) (is : deeper ≡ around ++ rest ∷ []) where
@@ -323,3 +363,10 @@ module _ (mode : CompileMode) (all : List Event) where
 
         pub enter_smaller : length (left_of mode deeper inner) < length (left_of mode around items)
         enter_smaller = omega (arith, ap length enters, length-append its_front (left_of mode deeper inner))
+
+-- what the walk finds is the first fault of the whole tree, if all bases of numbered aliases are known
+pub is_first_fault : (mode : CompileMode) (pattern : List ℕ)
+    → ((base : List ℕ) → is_base_in mode.numbered.now base ≡ opens_numbered_from base (reached (tree (finite.get mode.grok.now) pattern)))
+    → counted_fault mode [] (left_of mode [] (resolve mode pattern)) ≡ first_fault mode.with_alias_only (tree (finite.get mode.grok.now) pattern)
+unfolding tree
+is_first_fault mode pattern known = clashing_are_enough mode.numbered.now mode.with_alias_only (finite.get mode.grok.now) pattern known

@@ -104,7 +104,7 @@ not_taken (label ∷ before) key n plain p few = elim (cases_Bool (bytes_eq (key
       rw other (not_taken before key n plain.1 p (omega arith))
 ]
 
-name_ends : (name : List ℕ) → AllPass is_name_byte name → ends_in_number name ≡ false
+pub name_ends : (name : List ℕ) → AllPass is_name_byte name → ends_in_number name ≡ false
 name_ends [] h = refl
 name_ends (c ∷ cs) h = elim (cases_eq c 91) [
   | inl e ↦
@@ -118,7 +118,7 @@ wants_plainly [] name named plain = name_ends name named
 wants_plainly (c ∷ cs) name named plain = plain
 
 -- each placeholder has a name of these characters
-abbrev AreNamed : List Event → Type 0
+abbrev pub AreNamed : List Event → Type 0
 AreNamed [] = Unit {0}
 AreNamed (Text text ∷ events) = AreNamed events
 AreNamed (Close ∷ events) = AreNamed events
@@ -185,7 +185,7 @@ named_inside stored (suc levels) text =
     named-append (events (inside (items_of stored) levels) (items_of stored text)) (Close ∷ [])
     (named_events (inside (items_of stored) levels) (named_inside stored levels) (items_of stored text) (named_text stored text)) tt
 
-named_tree : (stored : Definitions) (pattern : List ℕ) → AreNamed (tree stored pattern)
+pub named_tree : (stored : Definitions) (pattern : List ℕ) → AreNamed (tree stored pattern)
 unfolding tree
 named_tree stored pattern = named_events (inside (items_of stored) deepest) (named_inside stored deepest) (items_of stored pattern) (named_text stored pattern)
 

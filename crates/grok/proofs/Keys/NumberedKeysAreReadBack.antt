@@ -65,3 +65,19 @@ module _ (key base : List ℕ) (count : ℕ) (is : key ≡ numbered base (suc co
 pub is_numbered : (key inside front digits : List ℕ) (number : ℕ) → key ≡ inside ++ 93 ∷ [] → inside ≡ front ++ 91 ∷ digits → digits ≡ numeral number → 0 < number → key ≡ numbered front number
 is_numbered key inside front digits zero ends cut said some = absurd (omega arith)
 is_numbered key inside front digits (suc count) ends cut said some = ends ∙ ap (λ xs. xs ++ 93 ∷ []) (cut ∙ ap (λ ds. front ++ 91 ∷ ds) said) ∙ sym (closed front count)
+
+-- ---- its base key
+
+plain_all : (xs : List ℕ) → HasNoBracket xs → opens_bracket xs ≡ false
+unfolding opens_bracket
+plain_all [] none = refl
+plain_all (x ∷ xs) none = rw (ne_eqb x 91 (none 0 (omega arith))) (plain_all xs (λ i low. none (suc i) (omega arith)))
+
+module _ (key base : List ℕ) (count : ℕ) (is : key ≡ numbered base (suc count)) where
+  pub has_bracket : HasNoBracket key → ⊥
+  has_bracket none = true≢false (sym (in_middle base (numeral (suc count) ++ 93 ∷ [])) ∙ ap opens_bracket (sym (is ∙ regroup base count)) ∙ plain_all key none)
+
+  -- what comes before the last bracket
+  pub base_is : (front back : List ℕ) → IsSplit key front back → front ≡ base
+  base_is front back split =
+      (last_bracket front base back (numeral (suc count) ++ 93 ∷ []) (plain_all back split.last) (numeral_plain count) (sym split.cut ∙ is ∙ regroup base count)).0

@@ -1,4 +1,5 @@
--- How each table of the key assigner changes with one more key.
+-- If one more key is assigned, the count of its base key (the key before its number is added) rises by one, and the
+-- extract of the placeholder becomes that of the key if there is one.
 use Rattle.std.proofs.Common.{◌≡◌, ℕ, zero, suc, ◌+◌, ◌<◌, ◌^◌, Bool, true, false, cond, List, [], ◌∷◌, ◌++◌, length, Option, Some, refl, sym, ◌∙◌, ap, inl, inr, arith, append_assoc, ◌&&◌}
 use Rattle.std.specs.Prelude.{codes, decimal, ◌==◌, not, unwrap_or}
 use Rattle.std.specs.Option.{option_map}

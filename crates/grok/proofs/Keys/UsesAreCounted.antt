@@ -1,4 +1,5 @@
--- The counts of uses stay right if one use is added, or all uses of other counts.
+-- The counts of how often each base key (the key before its number is added) is used stay right if one use is added,
+-- or all uses that other counts hold.
 use Rattle.std.proofs.Common.{◌≡◌, ◌↔◌, Decides, ℕ, zero, suc, ◌+◌, ◌-◌, ◌<◌, ◌≤◌, ◌^◌, min, nat_le, Bool, true, false, cond, List, [], ◌∷◌, Option, Some, None, Bor, unwrap_or, refl, sym, ◌∙◌, ap, subst, inl, inr, arith, Less}
 use Rattle.std.specs.Str.{bytes_eq}
 use Rattle.std.specs.List.{AllByRecursion}

@@ -67,8 +67,8 @@ pieces_at_step at (b ∷ bs) n =
     let m = length bs - length f.rest in
     let more : length (b ∷ bs) - length f.rest ≡ suc m = let l = h.shorter in omega arith in
     let last : f.rest ≡ drop m bs = h.is_end ∙ ap (λ n. drop n (b ∷ bs)) more in
-    let place : (at + 1) + m ≡ at + (length (b ∷ bs) - length f.rest) = omega arith in
-    ap (λ ps. f.piece ∷ ps) (pieces_after_skip m (at + 1) bs ∙ (ap (λ n. pieces_after 0 n (drop m bs)) place ∙ ap (λ xs. pieces_after 0 (at + (length (b ∷ bs) - length f.rest)) xs) (sym last)))
+    let position : (at + 1) + m ≡ at + (length (b ∷ bs) - length f.rest) = omega arith in
+    ap (λ ps. f.piece ∷ ps) (pieces_after_skip m (at + 1) bs ∙ (ap (λ n. pieces_after 0 n (drop m bs)) position ∙ ap (λ xs. pieces_after 0 (at + (length (b ∷ bs) - length f.rest)) xs) (sym last)))
 
 pub pieces_at_end : (at : ℕ) (text : List ℕ) → length text ≡ 0 → pieces_at at text ≡ []
 unfolding pieces_after

@@ -16,8 +16,8 @@ use Rattle.grok.proofs.Pieces.PiecesAreUnique.{pieces_are, pieces_are_only, open
 range_and_rest : (T : List ℕ) (s e : ℕ) → s ≤ e → slice_range T s e ++ drop e T ≡ drop s T
 range_and_rest T s e l =
     let m = e - s in
-    let place : s + m ≡ e = omega arith in
-    ap (λ k. take m (drop s T) ++ drop k T) (sym place) ∙ (ap (λ xs. take m (drop s T) ++ xs) (sym (drop-drop m s T)) ∙ take-append-drop m (drop s T))
+    let same_end : s + m ≡ e = omega arith in
+    ap (λ k. take m (drop s T) ++ drop k T) (sym same_end) ∙ (ap (λ xs. take m (drop s T) ++ xs) (sym (drop-drop m s T)) ∙ take-append-drop m (drop s T))
 
 -- the texts of the pieces join to the text
 pub joined_clean : (T : List ℕ) (s : ℕ) (items : List Piece) → ArePieces T s items → AreWellFormed items → joined items ≡ drop s T

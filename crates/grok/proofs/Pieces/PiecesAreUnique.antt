@@ -28,7 +28,7 @@ open_from T s h = rw (head_is T s ∙ h.0.1) (rw (second_is T s ∙ h.1.1) refl)
 -- ---- the three ways a list of pieces goes on
 
 step_by : (s : ℕ) (text : List ℕ) (p : Piece) (rest : List ℕ) (e : ℕ) → 0 < length text → p ≡ (first_piece s text).piece → rest ≡ (first_piece s text).rest → s + (length text - length rest) ≡ e → pieces_at s text ≡ p ∷ pieces_at e rest
-step_by s text p rest e n hp hr place = pieces_at_next s text p rest (λ z. omega arith) hp hr ∙ ap (λ k. p ∷ pieces_at k rest) place
+step_by s text p rest e n hp hr same_end = pieces_at_next s text p rest (λ z. omega arith) hp hr ∙ ap (λ k. p ∷ pieces_at k rest) same_end
 
 first_regular : (s : ℕ) (text : List ℕ) → is_open text ≡ false → first_piece s text ≡ record { piece = Regular s (s + regular_len text) (take (regular_len text) text); rest = drop (regular_len text) text }
 unfolding first_piece
@@ -65,9 +65,9 @@ step_placeholder T s e p l o w r =
     let first = first_placeholder s (drop s T) i o r' in
     let m = length (drop s T) - length (drop e T) in
     let count : e - s ≡ m = omega arith in
-    let place : s + m ≡ e = omega arith in
-    let same : Placeholder s e (take (e - s) (drop s T)) p ≡ Placeholder s (s + m) (take m (drop s T)) p = ap (λ k. Placeholder s k (take (e - s) (drop s T)) p) (sym place) ∙ ap (λ k. Placeholder s (s + m) (take k (drop s T)) p) count in
-    (omega arith, step_by s (drop s T) (Placeholder s e (slice_range T s e) p) (drop e T) e (omega arith) (same ∙ sym (ap (λ f. f.piece) first)) (sym (ap (λ f. f.rest) first)) place)
+    let same_end : s + m ≡ e = omega arith in
+    let same : Placeholder s e (take (e - s) (drop s T)) p ≡ Placeholder s (s + m) (take m (drop s T)) p = ap (λ k. Placeholder s k (take (e - s) (drop s T)) p) (sym same_end) ∙ ap (λ k. Placeholder s (s + m) (take k (drop s T)) p) count in
+    (omega arith, step_by s (drop s T) (Placeholder s e (slice_range T s e) p) (drop e T) e (omega arith) (same ∙ sym (ap (λ f. f.piece) first)) (sym (ap (λ f. f.rest) first)) same_end)
 
 step_fault : (T : List ℕ) (s : ℕ) (f : GrokPatternError) → s < length T → is_open (drop s T) ≡ true → placeholder_at (drop (s + 2) T) ≡ Err f → pieces_at s (drop s T) ≡ Malformed f ∷ []
 step_fault T s f l o r =

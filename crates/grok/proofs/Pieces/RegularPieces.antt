@@ -94,8 +94,8 @@ regular_two T s h e o (inr l) =
     let len : length (drop s T) ≡ length T - s = length-drop s T in
     let r = run_end T (s + 2) (omega arith) in
     let n = other_from_not_open (drop s T) e o in
-    let place : s + (2 + position_or_len is_percent (drop (s + 2) T)) ≡ (s + 2) + position_or_len is_percent (drop (s + 2) T) = omega arith in
-    rw (len_percent (drop s T) e l) (rw (drop_two_more T s) (rw place (Percent (h, sym (head_is T s) ∙ e) (omega arith) (λ f. n (second_is T s ∙ f)) (omega arith) r)))
+    let position : s + (2 + position_or_len is_percent (drop (s + 2) T)) ≡ (s + 2) + position_or_len is_percent (drop (s + 2) T) = omega arith in
+    rw (len_percent (drop s T) e l) (rw (drop_two_more T s) (rw position (Percent (h, sym (head_is T s) ∙ e) (omega arith) (λ f. n (second_is T s ∙ f)) (omega arith) r)))
 
 regular_one : (T : List ℕ) (s : ℕ) → s < length T → is_open (drop s T) ≡ false → (b : Bool) → is_percent (get_or (drop s T) 0 0) ≡ b → IsRegularPiece T s (s + regular_len (drop s T))
 regular_one T s h o true e = regular_two T s h (eqb-true _ 37 e) o (⊎_elim (λ l. inr l) (λ l. inl l) (cases_lt 1 (length (drop s T))))

@@ -1,4 +1,5 @@
--- Where a word of a placeholder ends, by the character that follows it.
+-- A word of a placeholder ends without a fault exactly if `}`, `=` or `:` follows it, and an inline definition that
+-- isn't empty does if `}` follows it.
 use Rattle.std.proofs.Common.{◌≡◌, ℕ, ◌<◌, Bool, true, false, List, [], ◌∷◌, ◌++◌, length, Some, Ok, Err, get_or, refl, sym, ap, ◌∙◌, arith, length-append}
 use lib.Utf8.{encode}
 use Rattle.std.specs.List.{slice_get}

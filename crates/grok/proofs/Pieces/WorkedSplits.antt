@@ -1,4 +1,4 @@
--- Some texts with the pieces that they are split into, by computation.
+-- The grammar splits five example texts into the expected pieces.
 use Rattle.std.proofs.Common.{◌≡◌, [], ◌∷◌, refl}
 use Rattle.std.specs.Prelude.{codes}
 use Rattle.std.specs.Str.{chars}

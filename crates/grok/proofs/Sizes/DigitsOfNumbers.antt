@@ -1,4 +1,5 @@
--- How many decimal digits the numbers below a count have together.
+-- The numbers below n have together as many decimal digits as n, and by how much n is greater than 10, than 100, and
+-- so on, add up to.
 use Rattle.std.proofs.Common.{◌≡◌, ℕ, zero, suc, ◌+◌, ◌-◌, ◌*◌, ◌/◌, ◌%◌, ◌^◌, ◌<◌, ◌≤◌, cond, [], ◌∷◌, length, refl, sym, ◌∙◌, ap, subst, inl, inr, arith, length-append, lit≤}
 use Rattle.std.proofs.lemmas.Bool.{cases_lt, le-leb, lt-leb}
 use Rattle.std.specs.Prelude.{nat_le}

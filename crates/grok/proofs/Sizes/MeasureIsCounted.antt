@@ -1,4 +1,5 @@
--- What the public calls of measuring count, and which aliases they read.
+-- When measuring stops, it has counted at most the pieces and ends that the pattern reaches, and exactly these if
+-- there is no structural fault, and it knows from which bases the reached aliases are numbered.
 use Rattle.std.proofs.Common.{◌≡◌, ℕ, ◌≤◌, Bool, false, List, [], length, Result, None, Bor, refl, sym, ◌∙◌, ap, arith}
 use Rattle.std.specs.Ordering.{nat_cmp}
 use Rattle.std.specs.Cmp.Lexicographic.{slice_cmp}
@@ -13,7 +14,8 @@ use Rattle.grok.specs.declared.measure.cache.MeasureCache.{MeasureCache}
 use Rattle.grok.specs.declared.measure.cache.Progress.{Progress}
 use Rattle.grok.specs.Maps.{Texts}
 use Rattle.grok.specs.Tree.{Item, items_of, Event, deepest, tree, first_structural, reached}
-use Rattle.grok.specs.Keys.{has_numbered_alias}
+use Rattle.grok.specs.NumberedBases.{opens_numbered_from, is_base_in}
+use Rattle.grok.specs.declared.expand.numbered_bases.NumberedBases.{NumberedBases}
 use Rattle.grok.specs.MeasuredOnce.{Reading, items_within, nothing_measured, measure_within}
 use Rattle.grok.specs.Measured.{reached_pieces, reached_texts, counted}
 use Rattle.grok.specs.MeasureCache.{reading_of, progress_view, ShowsState, StopsReading}
@@ -22,12 +24,13 @@ use Rattle.grok.proofs.Texts.EntriesAreTable.{table_of}
 use Rattle.grok.proofs.Sizes.MeasureLoop.{HasSameCounters, stopped_counters}
 use Rattle.grok.proofs.Sizes.ReadIsReached.{ReadsTree, reads_tree, table_weight}
 
-pub shows_nothing : (by_name : BTreeMap (Bor (List ℕ)) Progress) → by_name.entries ≡ [] → ShowsState (record { by_name = by_name; looks = record { pieces = 0; ends = 0 }; has_numbered_alias = false }) nothing_measured
-shows_nothing by_name empty = record {
+pub shows_nothing : (by_name : BTreeMap (Bor (List ℕ)) Progress) (numbered : NumberedBases) → by_name.entries ≡ [] → ((base : List ℕ) → is_base_in numbered base ≡ false)
+    → ShowsState (record { by_name = by_name; looks = record { pieces = 0; ends = 0 }; numbered = numbered }) nothing_measured
+shows_nothing by_name numbered empty none = record {
   by_name = λ name. ap (λ entries. option_map progress_view (lookup (is_at (λ (key : Bor (List ℕ)). slice_cmp nat_cmp name key.now)) entries)) empty;
   pieces = refl;
   ends = refl;
-  numbered_alias = refl;
+  numbered = none;
 }
 
 module _ (texts : Texts) (alias_only : Bool) (pattern : List ℕ) where
@@ -74,5 +77,5 @@ module _ (texts : Texts) (alias_only : Bool) (pattern : List ℕ) where
     pub ends_read : cache.looks.ends ≡ counted (reading_of texts alias_only pattern).ends
     ends_read = given.shows.ends ∙ ap counted (sym tallies.ends)
 
-    pub numbered_alias_is : cache.has_numbered_alias ≡ has_numbered_alias (reached whole)
-    numbered_alias_is = given.shows.numbered_alias ∙ sym tallies.numbered_alias ∙ theorem.numbered_alias
+    pub numbered_is : (base : List ℕ) → is_base_in cache.numbered base ≡ opens_numbered_from base (reached whole)
+    numbered_is base = given.shows.numbered base ∙ ap (λ (numbered : List ℕ → Bool). numbered base) (sym tallies.numbered) ∙ theorem.numbered base

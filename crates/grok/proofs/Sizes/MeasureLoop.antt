@@ -38,11 +38,11 @@ progress_shows cache by_name name progress updates st known is s = record {
   by_name = λ other. ap (option_map progress_view) (updates other) ∙ pushed (bytes_eq name other) progress known (progress_of cache.by_name other) (st.by_name other) is (s.by_name other);
   pieces = s.pieces;
   ends = s.ends;
-  numbered_alias = s.numbered_alias;
+  numbered = s.numbered;
 }
 
 pub with_reach_shows : (cache : MeasureCache) (st : State) (reach : ℕ) → ShowsState cache st → ShowsState cache (with_reach st reach)
-with_reach_shows cache st reach s = record { by_name = s.by_name; pieces = s.pieces; ends = s.ends; numbered_alias = s.numbered_alias }
+with_reach_shows cache st reach s = record { by_name = s.by_name; pieces = s.pieces; ends = s.ends; numbered = s.numbered }
 
 -- ---- looks
 
@@ -53,10 +53,10 @@ abbrev pub end_counted : MeasureCache → MeasureCache
 end_counted cache = record cache { looks = record { pieces = cache.looks.pieces; ends = counted (cache.looks.ends + 1) } }
 
 shows_piece : (cache : MeasureCache) (st : State) → ShowsState cache st → ShowsState (piece_counted cache) (piece_read st)
-shows_piece cache st s = record { by_name = s.by_name; pieces = omega (arith, s.pieces); ends = s.ends; numbered_alias = s.numbered_alias }
+shows_piece cache st s = record { by_name = s.by_name; pieces = omega (arith, s.pieces); ends = s.ends; numbered = s.numbered }
 
 shows_end : (cache : MeasureCache) (st : State) → ShowsState cache st → ShowsState (end_counted cache) (ended st)
-shows_end cache st s = record { by_name = s.by_name; pieces = s.pieces; ends = omega (arith, s.ends); numbered_alias = s.numbered_alias }
+shows_end cache st s = record { by_name = s.by_name; pieces = s.pieces; ends = omega (arith, s.ends); numbered = s.numbered }
 
 -- ---- results
 
@@ -70,28 +70,28 @@ shown_err (Err g) f e = let same : f ≡ g = cc in ap Err (sym same)
 
 -- ---- faults
 
--- the counters, and whether an alias was read that ends in a number in brackets
+-- the counters, and whether an alias was read that is numbered from a base
 pub record HasSameCounters (st st' : State) : Type 0 where
   pub looks : st.looks ≡ st'.looks
   pub ends : st.ends ≡ st'.ends
-  pub numbered_alias : st.numbered_alias ≡ st'.numbered_alias
+  pub numbered : st.numbered ≡ st'.numbered
 
 -- the frames that a fault ends are not counted
 unwound_counters : (levels : ℕ) (frames : List Frame) (fault : Fault) (st : State) → HasSameCounters (unwound levels frames fault st) st
-unwound_counters levels [] fault st = record { looks = refl; ends = refl; numbered_alias = refl }
+unwound_counters levels [] fault st = record { looks = refl; ends = refl; numbered = refl }
 unwound_counters levels (frame ∷ frames) fault st =
     let h = unwound_counters (levels - 1) frames fault st in
-    record { looks = h.looks; ends = h.ends; numbered_alias = h.numbered_alias }
+    record { looks = h.looks; ends = h.ends; numbered = h.numbered }
 
 pub stopped_counters : (levels : ℕ) (r : Result PartialSize Failure) (frames : List Frame) (cache : MeasureCache) (answer : Reading) → (stops : StopsReading levels r frames cache answer) → HasSameCounters answer.1 stops.now
 stopped_counters levels (Ok sum) frames cache answer stops =
-    record { looks = ap (λ (st : State). st.looks) stops.leaves; ends = ap (λ (st : State). st.ends) stops.leaves; numbered_alias = ap (λ (st : State). st.numbered_alias) stops.leaves }
+    record { looks = ap (λ (st : State). st.looks) stops.leaves; ends = ap (λ (st : State). st.ends) stops.leaves; numbered = ap (λ (st : State). st.numbered) stops.leaves }
 stopped_counters levels (Err failure) frames cache answer stops =
     let h = unwound_counters levels frames (fault_view failure.fault) stops.now in
     record {
       looks = ap (λ (st : State). st.looks) stops.leaves ∙ h.looks;
       ends = ap (λ (st : State). st.ends) stops.leaves ∙ h.ends;
-      numbered_alias = ap (λ (st : State). st.numbered_alias) stops.leaves ∙ h.numbered_alias;
+      numbered = ap (λ (st : State). st.numbered) stops.leaves ∙ h.numbered;
     }
 
 -- the innermost frame is unwound first

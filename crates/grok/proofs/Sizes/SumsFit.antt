@@ -1,4 +1,4 @@
--- Sums that fit a `usize`, and sums that don't.
+-- A sum is `None` exactly if it doesn't fit a `usize`, and a text whose length is `None` is measured as too long.
 use Rattle.std.proofs.Common.{◌≡◌, ℕ, ◌^◌, ◌<◌, ◌≤◌, Bool, true, false, cond, Some, None, refl, sym, ◌∙◌, ap, arith}
 use Rattle.std.proofs.lemmas.Bool.{ltb-true, ltb-false, lt-ltb, le-ltb}
 use Rattle.std.specs.Prelude.{nat_lt}

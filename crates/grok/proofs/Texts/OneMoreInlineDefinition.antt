@@ -1,4 +1,4 @@
--- How the inline definitions of a text change with one more placeholder.
+-- A placeholder with an inline definition sets the definition of its own name, and leaves those of other names.
 use Rattle.std.proofs.Common.{◌≡◌, ℕ, Bool, true, false, cond, List, [], ◌∷◌, length, Option, Some, refl, sym, ap, arith, ◌&&◌}
 use Rattle.std.specs.Prelude.{◌==◌, not}
 use Rattle.std.specs.Option.{option_map}

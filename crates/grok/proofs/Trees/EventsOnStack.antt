@@ -1,4 +1,5 @@
--- One step of the remaining events, while the open texts are on a stack.
+-- If the texts that are open are kept on a stack, each step takes the first of the remaining events and leaves the
+-- others.
 use Rattle.std.proofs.Common.{◌≡◌, ℕ, zero, suc, ◌-◌, ◌<◌, ◌≤◌, List, [], ◌∷◌, ◌++◌, length, Option, Some, None, refl, ◌∙◌, ap, sym, arith, append_assoc}
 use Rattle.std.specs.FinMap as finite
 use Rattle.std.specs.Option.{option_map}

@@ -1,4 +1,5 @@
--- What a placeholder is resolved to, and which definitions the first fault of a tree depends on.
+-- Proves the laws of trees: which definition a placeholder stands for, that unused definitions don't matter, and that
+-- both modes have the same structural fault and texts that differ only in the heads of groups.
 use Rattle.std.proofs.Common.{◌≡◌, ℕ, zero, suc, ◌+◌, Bool, true, false, cond, ◌&&◌, List, [], ◌∷◌, ◌++◌, length, Option, Some, None, refl, sym, ◌∙◌, ap, subst, ◌⊎◌, inl, inr, arith, ◌^◌, length-append}
 use Rattle.std.specs.Prelude.{not, nat_lt, slice_get}
 use Rattle.std.specs.Str.{bytes_eq}
@@ -67,11 +68,11 @@ pub earlier_definition_holds : EarlierDefinitionHolds
 earlier_definition_holds stored text before between after s e s' e' pattern pattern' earlier parts is own same none absent =
     let front : List Piece = before ++ Placeholder s e pattern earlier ∷ between in
     let written : Definitions = written_after no_definitions before in
-    let place : length front ≡ suc (length before + length between) = omega (arith, length-append before (Placeholder s e pattern earlier ∷ between)) in
+    let position : length front ≡ suc (length before + length between) = omega (arith, length-append before (Placeholder s e pattern earlier ∷ between)) in
     let known : written_after no_definitions front parts.name ≡ Some earlier.definition =
     ap (λ w. w parts.name) (written_append no_definitions before (Placeholder s e pattern earlier ∷ between))
     ∙ written_still (with_written written earlier) between parts.name none ∙ ap (with_written written earlier) (sym same) ∙ with_own written earlier own in
-    ap (λ n. slice_get (items_of stored text) n) (sym place)
+    ap (λ n. slice_get (items_of stored text) n) (sym position)
     ∙ ap (λ ps. slice_get (items_after stored no_definitions ps) (length front)) is ∙ item_after_pieces stored no_definitions front after s' e' pattern' parts
     ∙ ap (λ o. Some (resolved (label_of parts) o (stored parts.name))) (without_own (written_after no_definitions front) parts parts.name (λ same. absent) ∙ known)
 

@@ -1,6 +1,6 @@
 -- The first fault of a pattern stands where `locate` finds it: in the first item with a fault, and so on inside
 -- that item's definition.
-use Rattle.std.proofs.Common.{◌≡◌, ℕ, zero, suc, ◌-◌, ◌<◌, Bool, true, List, [], ◌∷◌, ◌++◌, length, Option, Result, Some, None, Ok, Err, refl, sym, ◌∙◌, ap, subst, arith, append-nil, append_assoc, length-append}
+use Rattle.std.proofs.Common.{◌≡◌, ℕ, zero, suc, ◌-◌, ◌<◌, Bool, true, List, [], ◌∷◌, ◌++◌, Option, Result, Some, None, Ok, Err, refl, sym, ◌∙◌, ap, subst, arith, append-nil, append_assoc}
 use Rattle.std.specs.Option.{option_map}
 use Rattle.std.specs.FinMap as finite
 use Rattle.grok.specs.declared.measure.partial_size.PartialSize.{PartialSize}
@@ -19,11 +19,11 @@ use Rattle.grok.specs.declared.locate.Wrong.TheVariants as wrong
 use Rattle.grok.specs.declared.locate.FirstWrong.{FirstWrong}
 use Rattle.grok.specs.Items.{fault_view}
 use Rattle.grok.specs.Views.{piece_view}
-use Rattle.grok.specs.FaultPlaces.{fault_within, end_of, end_of_all, StandsAt, IsOwnFault, Broken, Deep, IsFaultAt, Here, Inside}
+use Rattle.grok.specs.FaultPlaces.{fault_within, end_of, StandsAt, IsOwnFault, Broken, Deep, IsFaultAt, Here, Inside}
 use Rattle.grok.specs.FirstWrong.{fault_in, IsResolvedItem, IsFaultInside, IsWrong, IsFirstWrong}
 use Rattle.grok.proofs.Sizes.SizeIsThatOfTree.{first_structural-append, or_else, fits_inside}
-use Rattle.grok.proofs.Sizes.TextsWithoutPlaceholders.{flat_measured, AreSound, sound_rest}
-use Rattle.grok.proofs.Sizes.ItemsAreSound.{length-items_of, sound_texts}
+use Rattle.grok.proofs.Sizes.TextsWithoutPlaceholders.{flat_measured, AreSound}
+use Rattle.grok.proofs.Trees.ItemsStandAtPieces.{IsReading, reading_starts, nothing_before, reading_goes, one_more_before}
 
 -- the first fault inside an opened text is that of its size
 pub fault_inside : (alias_only : Bool) (resolve : List ℕ → List Item) (levels : ℕ) (text : List ℕ) (s : Result Size Fault) → size_or_fault alias_only resolve levels text ≡ s
@@ -67,7 +67,7 @@ pub inline_clean : (stored : Definitions) (levels : ℕ) (label : Label) (text :
 inline_clean stored zero label text some sound = absurd (omega arith)
 inline_clean stored (suc n) label text some sound = one_clean stored (suc n) label (Inline text) (sound n)
 
-events-append : (inner : List ℕ → List Event) (xs ys : List Item) → events inner (xs ++ ys) ≡ events inner xs ++ events inner ys
+pub events-append : (inner : List ℕ → List Event) (xs ys : List Item) → events inner (xs ++ ys) ≡ events inner xs ++ events inner ys
 events-append inner [] ys = refl
 events-append inner (TextItem text ∷ xs) ys = ap (λ es. Text text ∷ es) (events-append inner xs ys)
 events-append inner (FaultItem fault ∷ xs) ys = ap (λ es. FaultEvent fault ∷ es) (events-append inner xs ys)
@@ -94,79 +94,27 @@ sound_item stored (PlaceholderItem label (Inline text)) items h = λ levels. sym
 -- These pieces and items of the text remain, those before them have no fault, and the next piece begins at this
 -- byte.
 pub record IsPlacing (stored : Definitions) (levels : ℕ) (text : List ℕ) (left : List Piece) (items : List Item) (begin : ℕ) : Type 0 where
-  pub pieces_before : List Piece
-  pub before : List Item
-  pub pieces_are : pieces text ≡ pieces_before ++ left
-  pub items_are : items_of stored text ≡ before ++ items
-  pub same : length before ≡ length pieces_before
-  pub parallel : length items ≡ length left
-  pub begins : begin ≡ end_of_all text 0 pieces_before
-  pub clean : fault_within stored levels before ≡ None
-  pub sound : AreSound (items_of stored) stored items
+  pub reading : IsReading stored text left items begin
+  pub clean : fault_within stored levels reading.before ≡ None
 
 pub placing_starts : (stored : Definitions) (levels : ℕ) (text : List ℕ) (left : List Piece) (items : List Item) → left ≡ pieces text → items ≡ items_of stored text → IsPlacing stored levels text left items 0
 placing_starts stored levels text left items left_is items_is = record {
-  pieces_before = [];
-  before = [];
-  pieces_are = sym left_is;
-  items_are = sym items_is;
-  same = refl;
-  parallel = ap length items_is ∙ length-items_of stored text ∙ ap length (sym left_is);
-  begins = refl;
-  clean = refl;
-  sound = subst (AreSound (items_of stored) stored) (sym items_is) ((sound_texts stored).sound text);
+  reading = reading_starts stored text left items left_is items_is;
+  clean = ap (fault_within stored levels) (nothing_before stored text left items left_is items_is);
 }
-
--- the end of the last piece is the end of all
-end_of_all-last : (text : List ℕ) (from : ℕ) (before : List Piece) (piece : Piece) → end_of_all text from (before ++ piece ∷ []) ≡ end_of text piece
-end_of_all-last text from [] piece = refl
-end_of_all-last text from (first ∷ before) piece = end_of_all-last text (end_of text first) before piece
-
--- one of the remaining pieces
-record NextPiece (left later : List Piece) (found : Option GrokComponent) : Type 0 where
-  piece : Piece
-  is : option_map piece_view found ≡ Some piece
-  cut : left ≡ piece ∷ later
-
-next_piece : (found : Option GrokComponent) (left later : List Piece) → YieldsFirstBy piece_view (λ ps. ps) left found later → (left ≡ [] → ⊥) → NextPiece left later found
-next_piece None left later yields some = absurd (some yields.0)
-next_piece (Some component) left later yields some = record { piece = piece_view component; is = refl; cut = yields }
 
 module _ (stored : Definitions) (levels : ℕ) (text : List ℕ) (left : List Piece) (items : List Item) (begin : ℕ) (p : IsPlacing stored levels text left items begin)
     (item : Item) (rest : List Item) (cut : items ≡ item ∷ rest) where
   pub next_resolved : IsResolvedItem stored item
-  next_resolved = sound_item stored item rest (subst (AreSound (items_of stored) stored) cut p.sound)
+  next_resolved = sound_item stored item rest (subst (AreSound (items_of stored) stored) cut p.reading.sound)
 
-  module _ (found : Option GrokComponent) (later : List Piece) (yields : YieldsFirstBy piece_view (λ ps. ps) left found later)
-      (end : ℕ) (ends : (known : Piece) → option_map piece_view found ≡ Some known → end ≡ end_of text known) where
-    next : NextPiece left later found
-    next = next_piece found left later yields (λ none. let bad : suc (length rest) ≡ 0 = ap length (sym cut) ∙ p.parallel ∙ ap length none in absurd (omega arith))
-
-    pub placing_goes : fault_within stored levels (item ∷ []) ≡ None → IsPlacing stored levels text later rest end
-    placing_goes one = record {
-      pieces_before = p.pieces_before ++ next.piece ∷ [];
-      before = p.before ++ item ∷ [];
-      pieces_are = p.pieces_are ∙ ap (λ ps. p.pieces_before ++ ps) next.cut ∙ sym (append_assoc p.pieces_before (next.piece ∷ []) later);
-      items_are = p.items_are ∙ ap (λ xs. p.before ++ xs) cut ∙ sym (append_assoc p.before (item ∷ []) rest);
-      same = omega (arith, length-append p.before (item ∷ []), length-append p.pieces_before (next.piece ∷ []), p.same);
-      parallel = let both : suc (length rest) ≡ suc (length later) = ap length (sym cut) ∙ p.parallel ∙ ap length next.cut in omega arith;
-      begins = ends next.piece next.is ∙ sym (end_of_all-last text 0 p.pieces_before next.piece);
-      clean = clean_more stored levels p.before item p.clean one;
-      sound = sound_rest (items_of stored) stored item rest (subst (AreSound (items_of stored) stored) cut p.sound);
-    }
-
-    pub placing_stands : StandsAt stored text p.before begin end item
-    placing_stands = record {
-      pieces_before = p.pieces_before;
-      piece = next.piece;
-      pieces_after = later;
-      after = rest;
-      pieces = p.pieces_are ∙ ap (λ ps. p.pieces_before ++ ps) next.cut;
-      items = p.items_are ∙ ap (λ xs. p.before ++ xs) cut;
-      same = p.same;
-      begins = p.begins;
-      ends = ends next.piece next.is;
-    }
+  pub placing_goes : (found : Option GrokComponent) (later : List Piece) → YieldsFirstBy piece_view (λ ps. ps) left found later
+      → (end : ℕ) → ((known : Piece) → option_map piece_view found ≡ Some known → end ≡ end_of text known)
+      → fault_within stored levels (item ∷ []) ≡ None → IsPlacing stored levels text later rest end
+  placing_goes found later yields end ends one = record {
+    reading = reading_goes stored text left items begin p.reading item rest cut found later yields end ends;
+    clean = ap (fault_within stored levels) (one_more_before stored text left items begin p.reading item rest cut found later yields end ends) ∙ clean_more stored levels p.reading.before item p.clean one;
+  }
 
 -- ---- the fault at a place
 

@@ -1,4 +1,4 @@
--- Some patterns with their expanded texts and keys, by computation.
+-- The definitions give one example pattern its expected text and keys, and another one its expected clash.
 use Rattle.std.proofs.Common.{◌≡◌, ℕ, cond, false, List, [], ◌∷◌, Some, None, refl}
 use Rattle.std.specs.Prelude.{codes}
 use Rattle.std.specs.Str.{bytes_eq}

@@ -4,9 +4,9 @@ ghost use Rattle.std.specs.Prelude.{◌≡◌, drop, [], ◌∷◌, Option, Some
 ghost use Rattle.std.specs.Str.{bytes_eq};
 ghost use Rattle.std.specs.FinMap as finite;
 ghost use Rattle.grok.specs.Pieces.{pieces};
-ghost use Rattle.grok.specs.Tree.{no_definitions, items_of, items_after, is_absent, resolved};
+ghost use Rattle.grok.specs.Tree.{no_definitions, items_of, items_after, is_absent, resolved, meaning_text};
 ghost use Rattle.grok.specs.Keys.{is_capturing};
-ghost use Rattle.grok.specs.Items.{item_view, label_view, written_in};
+ghost use Rattle.grok.specs.Items.{item_view, label_view, meaning_view, written_in};
 ghost use Rattle.std.specs.Borrow.{Bor};
 
 use crate::defs::Grok;
@@ -40,10 +40,22 @@ impl Label<'_> {
 /// What a placeholder stands for.
 #[derive(Clone, Copy)]
 pub(crate) enum Meaning<'a> {
-    /// An inline definition of the same text.
+    /// An inline definition that is written in the same text.
     Inline(&'a str),
     /// The stored definition of its name.
     Stored(&'a Definition),
+}
+
+impl<'a> Meaning<'a> {
+    /// Returns the text of the definition.
+    pub fn text(self) -> &'a str
+        ensures { result.now ≡ meaning_text (meaning_view self.entry) }
+    {
+        match self {
+            Meaning::Inline(text) => text,
+            Meaning::Stored(stored) => stored.text(),
+        }
+    }
 }
 
 /// A piece whose placeholder is resolved to its definition.
@@ -74,8 +86,9 @@ impl<'a> Model for Items<'a> {
     ghost view = { λ s. items_after (finite.get s.grok.now) (written_in s.written) s.source };
 }
 
-/// Returns the item of a placeholder. It stands for the inline definition of its name if there is
-/// one, and otherwise for the stored one. If there is neither, the item is a fault.
+/// Returns the item of a placeholder. It stands for `written`, the inline definition of its name,
+/// if there is one, and otherwise for the stored definition of its name. If there is neither, the
+/// item is a fault.
 fn open_label<'a>(grok: &'a Grok, label: Label<'a>, written: Option<&'a str>) -> Item<'a>
     ensures { item_view result ≡ resolved (label_view label.entry)
         (option_map (λ (t : Bor (List ℕ)). t.now) written.entry)
@@ -90,7 +103,7 @@ fn open_label<'a>(grok: &'a Grok, label: Label<'a>, written: Option<&'a str>) ->
     }
 }
 
-/// Keeps the inline definition of a name, unless it is empty.
+/// Stores `definition` in `written` as the inline definition of `name`, unless it is empty.
 fn write_definition<'a>(
     written: &mut BTreeMap<&'a str, &'a str>,
     name: &'a str,
@@ -183,7 +196,8 @@ impl<'a> Items<'a> {
     }
 }
 
-/// Enters a text: its items come next, and after them those of the text around it.
+/// Enters a text whose items are `inner`: they come next, and after them the rest of `items`, which
+/// is put on the stack `around`.
 pub(crate) fn descend<'a>(
     around: &mut Vec<Items<'a>>,
     items: &mut Items<'a>,

@@ -3,7 +3,7 @@ ghost use Rattle.std.specs.Prelude.{◌≡◌, ◌≤◌, Some, length, IfOk, If
 ghost use Rattle.regex_extract.specs.Needles.{needles_of};
 ghost use Rattle.regex_extract.specs.Frames.{StartsFramed, IsInner};
 ghost use Rattle.regex_meta.specs.Programs.{pattern_of};
-ghost use Rattle.grok.specs.OwnSearches.{BeginsEach, IsInEach, AreMarksOf, IsNextOf, IsPlaceOf};
+ghost use Rattle.grok.specs.OwnSearches.{BeginsEach, IsInEach, AreMarksOf, IsNextOf, IsPositionOf};
 
 use regex_extract::{Frame, Framed, Frames, Inner};
 use regex_literal::{Bounded, Prefilter};
@@ -54,21 +54,21 @@ impl Marks {
         })
     }
 
-    /// Returns a place before which no match starts from `start` on, or `None` if no match starts
-    /// there at all.
-    pub(crate) fn next_place(&self, program: &Program, hay: &[u8], start: usize) -> Option<usize>
+    /// Returns a position such that no match starts between `start` and it, or `None` if no match
+    /// starts at `start` or later.
+    pub(crate) fn next_position(&self, program: &Program, hay: &[u8], start: usize) -> Option<usize>
         requires marked { ∥ AreMarksOf (pattern_of program.now) self.now ∥₁ }
         requires inside { start ≤ length hay.now }
-        ensures { IsPlaceOf program.now hay.now start result }
+        ensures { IsPositionOf program.now hay.now start result }
     {
-        let Some(place) = self.next_start(program, hay, start) else {
+        let Some(position) = self.next_start(program, hay, start) else {
             return None;
         };
         let Some(inner) = &self.inner else {
-            return Some(place);
+            return Some(position);
         };
-        match inner.next(hay, place) {
-            Some(_) => Some(place),
+        match inner.next(hay, position) {
+            Some(_) => Some(position),
             None => None,
         }
     }
@@ -77,7 +77,7 @@ impl Marks {
     fn next_start(&self, program: &Program, hay: &[u8], start: usize) -> Option<usize>
         requires marked { ∥ AreMarksOf (pattern_of program.now) self.now ∥₁ }
         requires inside { start ≤ length hay.now }
-        ensures { IsPlaceOf program.now hay.now start result }
+        ensures { IsPositionOf program.now hay.now start result }
     {
         match &self.first {
             Some(first) => first.next(hay, start),
@@ -99,8 +99,8 @@ impl Needles {
         }
     }
 
-    /// Returns the first place from `start` on where a literal stands with such bytes around it, or an
-    /// earlier place if the search for it stops there.
+    /// Returns the first position from `start` on with a literal and bytes around it that the frame
+    /// allows, or an earlier position if the search gives up there.
     pub(crate) fn next(&self, hay: &[u8], start: usize) -> Option<usize>
         requires { start ≤ length hay.now }
         ensures { IsNextOf self.now hay.now start result }

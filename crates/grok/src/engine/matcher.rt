@@ -1,6 +1,6 @@
 //! Searches that keep what they need from line to line.
-ghost use Rattle.std.specs.Prelude.{◌≡◌, ℕ, List, Option, Some, None, length, vec_len, option_map, if◌then◌else◌, IfOk, IfSome, IsTrue};
-ghost use Rattle.grok.specs.Captures.{capture_texts, AreSlicesOf};
+ghost use Rattle.std.specs.Prelude.{◌≡◌, ℕ, List, Option, Some, None, length, vec_len, if◌then◌else◌, IfOk, IsTrue};
+ghost use Rattle.grok.specs.Captures.{found_texts, IsMatchIn};
 ghost use Rattle.grok.specs.Locations.{AreLocationsIn, located_texts};
 
 use crate::engine::Engine;
@@ -9,7 +9,8 @@ use std::alloc::{AllocError, Global};
 /// A search that keeps its caches from line to line. What it finds in a line doesn't depend on the
 /// lines before.
 pub trait EngineMatcher: Sized + Drop {
-    /// For each line the text of each group that took part, or none if nothing matches.
+    /// For each line `None` if nothing matches, or else the text of each group from group 0 on,
+    /// with `None` for a group that took no part in the match.
     ghost finds: { Self → List ℕ → Option (List (Option (List ℕ))) };
 
     /// The number of groups, with group 0.
@@ -21,19 +22,15 @@ pub trait EngineMatcher: Sized + Drop {
         alloc: Global,
         line: &'t str,
     ) -> Result<Option<Vec<Option<&'t str>>>, AllocError>
-        ensures answer { IfOk result
-            (λ found. option_map (λ captures. capture_texts captures.items) found
-            ≡ finds self.old line.now) }
-        ensures all_groups { IfOk result (λ found. IfSome found (λ captures. vec_len captures
-            ≡ group_count self.old)) }
-        ensures slices { IfOk result (λ found. IfSome found (λ captures. AreSlicesOf line.now
-            (capture_texts captures.items))) }
+        ensures captures { IfOk result (λ found. IsMatchIn line.now (finds self.old)
+            (group_count self.old) (found_texts found)) }
         ensures same { finds self.new ≡ finds self.old }
         ensures count { group_count self.new ≡ group_count self.old };
 
-    /// Searches the first match in the line, and returns whether there is one. If so, the list has
-    /// the start and the end of each group that took part, in bytes, from group 0 on. If not, and
-    /// after an error, its contents are unspecified.
+    /// Searches for the first match in the line, and returns whether there is one. If so,
+    /// `locations` has the start and the end of each group in bytes, from group 0 on, with `None`
+    /// for a group that took no part in the match. If not, and after an error, the contents of
+    /// `locations` are unspecified.
     fn captures_read(
         &mut self,
         locations: &mut Vec<Option<(usize, usize)>>,

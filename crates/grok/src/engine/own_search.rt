@@ -1,14 +1,14 @@
 //! A search that owns its automata and their tables, and keeps both from line to line.
 ghost use Rattle.std.specs.Prelude.{◌≡◌, ◌+◌, ◌-◌, ◌/◌, ◌≤◌, true, Some, length, vec_len, string_bytes, option_map, slice_range, IfOk, IfSome, OnOk, IsTrue, IsFalse, IsCharBoundary};
 ghost use Rattle.regex.specs.Patterns.{find_str, span};
-ghost use Rattle.regex.specs.Strings.{regex_pattern, regex_source, regex_names};
+ghost use Rattle.regex.specs.Strings.{regex_source, regex_names};
 ghost use Rattle.regex_dfa.specs.Search.{IsForwardFor, IsReverseFor};
 ghost use Rattle.regex_meta.specs.Programs.{pattern_of, leftmost};
 ghost use Rattle.regex_meta.specs.Located.{EndsAt};
 ghost use Rattle.regex_tagged.specs.Valid.{IsFor};
 ghost use Rattle.regex_vm.specs.Found.{group_cells};
-ghost use Rattle.grok.specs.Captures.{text_of, capture_texts, IsSliceOf, AreSlicesOf};
-ghost use Rattle.grok.specs.RegexFinds.{IsReadByDefault, captures_in, text_at, texts_at};
+ghost use Rattle.grok.specs.Captures.{text_of, capture_texts, found_texts, IsSliceOf, AreSlicesOf, IsMatchIn};
+ghost use Rattle.grok.specs.RegexFinds.{IsReadByDefault, captures_by, text_at, texts_at};
 ghost use Rattle.grok.specs.OwnSearches.{IsTreeOf, AreMarksOf, span_of_cells};
 
 use crate::engine::marks::{Marks, Needles};
@@ -73,8 +73,8 @@ impl OwnSearch {
         })
     }
 
-    /// Returns the text of each group of the first match that the regex finds in the line, or `None`
-    /// if nothing matches.
+    /// Returns the text of each group of the first match that the regex finds in the line, or
+    /// `None` if nothing matches.
     ///
     /// # Errors
     ///
@@ -86,13 +86,8 @@ impl OwnSearch {
         line: &'t str,
     ) -> Result<Option<Vec<Option<&'t str>>>, Declined>
         requires { ∥ IsReadByDefault regex.now ∥₁ }
-        ensures answer { IfOk result
-            (λ found. option_map (λ captures. capture_texts captures.items) found
-            ≡ captures_in (regex_pattern regex.now) (length (regex_names regex.now)) line.now) }
-        ensures all_groups { IfOk result (λ found. IfSome found (λ captures. vec_len captures
-            ≡ length (regex_names regex.now))) }
-        ensures slices { IfOk result (λ found. IfSome found (λ captures. AreSlicesOf line.now
-            (capture_texts captures.items))) }
+        ensures { IfOk result (λ found. IsMatchIn line.now (captures_by regex.now)
+            (length (regex_names regex.now)) (found_texts found)) }
     {
         if !self.is_of(regex) {
             return Err(Declined);
@@ -181,8 +176,8 @@ fn leftmost_by_automata(
     groups_within(program, tagged, hay, whole, cells)
 }
 
-/// Writes the cells of the groups of the first match, whose span is known, and returns that span. If
-/// the pattern has no groups, nothing more is searched.
+/// Writes the cells of the groups of the first match, whose span is known, and returns that span.
+/// If the pattern has no groups, nothing more is searched.
 fn groups_within(
     program: &Program,
     tagged: &mut Tagged,
@@ -205,7 +200,8 @@ fn groups_within(
     Ok(found)
 }
 
-/// Finds the first match by backtracking, which needs no tables, unless the line is too long for that.
+/// Finds the first match by backtracking, which needs no tables, unless the line is too long for
+/// that.
 fn by_steps(
     program: &Program,
     backtracker: &mut Backtracker,
@@ -237,8 +233,8 @@ fn program_of(alloc: Global, text: &str) -> Result<Program, Declined>
     Ok(program)
 }
 
-/// Finds the span of the first match, unless an automaton gives up. A match at the first place where
-/// one can start is tried before all others, since its start need not be searched for.
+/// Finds the span of the first match, unless an automaton gives up. A match at the first position
+/// where one can start is tried before all others, because its start is known.
 fn first_span(
     program: &Program,
     marks: &Marks,
@@ -257,41 +253,41 @@ fn first_span(
     if program.at_end && !marks.at_start {
         return span_at_end(program, reverse, hay);
     }
-    let Some(place) = marks.next_place(program, hay, 0) else {
+    let Some(position) = marks.next_position(program, hay, 0) else {
         return Ok(None);
     };
-    match forward.find_end(&program.dfa, hay, place, hay.len(), true, false) {
-        End::At(end) => Ok(Some((place, end))),
-        End::NoMatch => Ok(span_after(program, marks, forward, reverse, hay, place)?),
+    match forward.find_end(&program.dfa, hay, position, hay.len(), true, false) {
+        End::At(end) => Ok(Some((position, end))),
+        End::NoMatch => Ok(span_after(program, marks, forward, reverse, hay, position)?),
         End::Idle(_) | End::GaveUp => Err(Declined),
     }
 }
 
-/// Finds the span of the first match that starts after this place, unless an automaton gives up.
+/// Finds the span of the first match that starts after this position, unless an automaton gives up.
 fn span_after(
     program: &Program,
     marks: &Marks,
     forward: &mut Forward,
     reverse: &mut Reverse,
     hay: &[u8],
-    place: usize,
+    position: usize,
 ) -> Result<Option<(usize, usize)>, Declined>
     requires marked { ∥ AreMarksOf (pattern_of program.now) marks.now ∥₁ }
-    requires inside { place ≤ length hay.now }
+    requires inside { position ≤ length hay.now }
     requires ahead { IsForwardFor forward.old program.now.dfa }
     requires back { IsReverseFor reverse.old program.now.dfa }
     ensures span { IfOk result (λ found. found
-        ≡ option_map span (leftmost program.now hay.now (place + 1))) }
+        ≡ option_map span (leftmost program.now hay.now (position + 1))) }
     ensures ahead { IsForwardFor forward.new program.now.dfa }
     ensures back { IsReverseFor reverse.new program.now.dfa }
 {
     if marks.at_start {
         return Ok(None);
     }
-    if place == hay.len() {
+    if position == hay.len() {
         return Ok(None);
     }
-    let Some(from) = marks.next_place(program, hay, place + 1) else {
+    let Some(from) = marks.next_position(program, hay, position + 1) else {
         return Ok(None);
     };
     match &marks.inner {
@@ -300,9 +296,9 @@ fn span_after(
     }
 }
 
-/// Finds the span of the first match that starts at `from` or later, unless an automaton gives up. A
-/// match that starts before the first of the literals is tried first: if there is none, and no second
-/// literal either, then the rest of the line isn't read.
+/// Finds the span of the first match that starts at `from` or later, unless an automaton gives up.
+/// A match that starts before the first of the literals is tried first: if there is none, and no
+/// second literal either, then the rest of the line isn't read.
 fn span_by_needles(
     program: &Program,
     marks: &Marks,
@@ -325,7 +321,7 @@ fn span_by_needles(
     match forward.find_end_within(&program.dfa, hay, from, last, hay.len(), false) {
         End::At(end) => Ok(Some(span_to(program, reverse, hay, from, end)?)),
         End::NoMatch if last == hay.len() => Ok(None),
-        End::NoMatch => match marks.next_place(program, hay, last + 1) {
+        End::NoMatch => match marks.next_position(program, hay, last + 1) {
             Some(next) => Ok(span_from(program, forward, reverse, hay, next)?),
             None => Ok(None),
         },
@@ -428,7 +424,7 @@ fn texts_of<'t>(
     Ok(captures)
 }
 
-/// Returns the text of one group, if it took part.
+/// Returns the text of one group, or `None` if it took no part in the match.
 fn group_text<'t>(
     line: &'t str,
     whole: (usize, usize),
@@ -446,7 +442,7 @@ fn group_text<'t>(
     }
 }
 
-/// Returns the byte range of one group, if it took part.
+/// Returns the byte range of one group, or `None` if it took no part in the match.
 fn group_span(whole: (usize, usize), cells: &[usize], number: usize) -> Option<(usize, usize)>
     requires { number ≤ length cells.now / 2 }
     ensures { result ≡ span_of_cells whole cells.now number }

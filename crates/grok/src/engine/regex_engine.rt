@@ -1,11 +1,11 @@
 //! The engine over the crate `regex`.
 ghost use Rattle.std.specs.Prelude.{◌≡◌, ◌↔◌, length, vec_len, option_map, IfOk, IfSome, OnOk};
 ghost use Rattle.std.specs.Option.{ForSome};
-ghost use Rattle.grok.specs.Captures.{text_of, capture_texts, IsSliceOf, AreSlicesOf};
+ghost use Rattle.grok.specs.Captures.{text_of, capture_texts, found_texts, IsSliceOf, AreSlicesOf, IsMatchIn};
 ghost use Rattle.grok.specs.Locations.{IsLocationIn, AreLocationsIn, located_texts};
-ghost use Rattle.grok.specs.RegexFinds.{IsReadByDefault, captures_in, texts_at, text_at};
+ghost use Rattle.grok.specs.RegexFinds.{IsReadByDefault, captures_by, texts_at, text_at};
 ghost use Rattle.regex.specs.declared.error.Error.TheVariants.{OutOfMemory};
-ghost use Rattle.regex.specs.Strings.{captures_haystack, captures_span, captures_names, regex_pattern, regex_names};
+ghost use Rattle.regex.specs.Strings.{captures_haystack, captures_span, captures_names, regex_names};
 
 use crate::engine::shared_search::SharedSearch;
 use crate::engine::{Engine, Refusal};
@@ -20,7 +20,8 @@ pub struct RegexEngine {
     ghost by_default: { ∥ IsReadByDefault regex ∥₁ },
 }
 
-// If `regex` reports a failed allocation, so does this. Every other error is a refusal.
+// If `regex` reports a failed allocation, the refusal is `Memory`. For every other error it is
+// `Refused`.
 impl From<regex::Error> for Refusal {
     ghost use Rattle.grok.specs.declared.engine.Refusal.TheVariants.{Memory};
 
@@ -35,16 +36,15 @@ impl From<regex::Error> for Refusal {
 }
 
 impl Engine for RegexEngine {
-    ghost use Rattle.regex.specs.Strings.{regex_source, regex_names, regex_pattern};
-    ghost use Rattle.grok.specs.RegexFinds.{captures_in, MayRefuse};
+    ghost use Rattle.regex.specs.Strings.{regex_source, regex_names};
+    ghost use Rattle.grok.specs.RegexFinds.{captures_by, MayRefuse};
     ghost use Rattle.grok.specs.Engines.{engine_regex};
 
     ghost source_of = { λ engine. regex_source (engine_regex engine) };
 
     ghost group_names = { λ engine. regex_names (engine_regex engine) };
 
-    ghost answer_to = { λ engine. captures_in (regex_pattern (engine_regex engine))
-        (length (regex_names (engine_regex engine))) };
+    ghost answer_to = { λ engine. captures_by (engine_regex engine) };
 
     ghost may_refuse = { MayRefuse };
 
@@ -76,19 +76,15 @@ impl Engine for RegexEngine {
     }
 }
 
-/// Searches one line with a new matcher.
+/// Searches one line with a new matcher. Returns the text of each group of the first match, or
+/// `None` if nothing matches.
 fn captures_uncached<'t>(
     alloc: Global,
     regex: &Regex,
     line: &'t str,
 ) -> Result<Option<Vec<Option<&'t str>>>, AllocError>
-    ensures answer { IfOk result
-        (λ found. option_map (λ captures. capture_texts captures.items) found
-        ≡ captures_in (regex_pattern regex.now) (length (regex_names regex.now)) line.now) }
-    ensures all_groups { IfOk result (λ found. IfSome found (λ captures. vec_len captures
-        ≡ length (regex_names regex.now))) }
-    ensures slices { IfOk result (λ found. IfSome found (λ captures. AreSlicesOf line.now
-        (capture_texts captures.items))) }
+    ensures { IfOk result (λ found. IsMatchIn line.now (captures_by regex.now)
+        (length (regex_names regex.now)) (found_texts found)) }
 {
     let mut matcher = regex.matcher(alloc)?;
     match matcher.captures(line) {
@@ -116,7 +112,7 @@ pub(crate) fn group_texts<'t>(
     Ok(captures)
 }
 
-/// Returns the text of one group, if it took part.
+/// Returns the text of one group, or `None` if it took no part in the match.
 fn group_text<'t>(found: &Captures<'_, 't>, number: usize) -> Option<&'t str>
     ensures text { option_map text_of result ≡ text_at (captures_haystack found.now)
         (captures_span found.now) number }
@@ -146,7 +142,7 @@ pub(crate) fn write_locations(
     Ok(())
 }
 
-/// Returns the byte range of one group, if it took part.
+/// Returns the byte range of one group, or `None` if it took no part in the match.
 fn group_location(found: &Captures<'_, '_>, number: usize) -> Option<(usize, usize)>
     ensures span { result ≡ captures_span found.now number }
     ensures inside { ForSome result (IsLocationIn (captures_haystack found.now)) }

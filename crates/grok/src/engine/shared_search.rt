@@ -1,8 +1,8 @@
 //! A search that many calls share, one at a time.
-ghost use Rattle.std.specs.Prelude.{◌≡◌, length, vec_len, option_map, IfOk, IfSome};
-ghost use Rattle.regex.specs.Strings.{regex_pattern, regex_names};
-ghost use Rattle.grok.specs.Captures.{capture_texts, AreSlicesOf};
-ghost use Rattle.grok.specs.RegexFinds.{IsReadByDefault, captures_in};
+ghost use Rattle.std.specs.Prelude.{length, IfOk};
+ghost use Rattle.regex.specs.Strings.{regex_names};
+ghost use Rattle.grok.specs.Captures.{found_texts, IsMatchIn};
+ghost use Rattle.grok.specs.RegexFinds.{IsReadByDefault, captures_by};
 
 use crate::engine::own_search::OwnSearch;
 use regex::Regex;
@@ -29,7 +29,7 @@ pub(crate) struct SharedSearch {
 }
 
 impl SharedSearch {
-    /// Makes a shared search that no call was made of yet.
+    /// Makes a shared search that no call has used yet.
     pub(crate) fn new() -> SharedSearch {
         SharedSearch {
             kept: Mutex::new(Kept::No),
@@ -49,13 +49,8 @@ impl SharedSearch {
         line: &'t str,
     ) -> Result<Option<Vec<Option<&'t str>>>, Declined>
         requires { ∥ IsReadByDefault regex.now ∥₁ }
-        ensures answer { IfOk result
-            (λ found. option_map (λ captures. capture_texts captures.items) found
-            ≡ captures_in (regex_pattern regex.now) (length (regex_names regex.now)) line.now) }
-        ensures all_groups { IfOk result (λ found. IfSome found (λ captures. vec_len captures
-            ≡ length (regex_names regex.now))) }
-        ensures slices { IfOk result (λ found. IfSome found (λ captures. AreSlicesOf line.now
-            (capture_texts captures.items))) }
+        ensures { IfOk result (λ found. IsMatchIn line.now (captures_by regex.now)
+            (length (regex_names regex.now)) (found_texts found)) }
     {
         match self.kept.try_lock() {
             Some(mut kept) => kept.captures(alloc, regex, line),
@@ -73,13 +68,8 @@ impl Kept {
         line: &'t str,
     ) -> Result<Option<Vec<Option<&'t str>>>, Declined>
         requires { ∥ IsReadByDefault regex.now ∥₁ }
-        ensures answer { IfOk result
-            (λ found. option_map (λ captures. capture_texts captures.items) found
-            ≡ captures_in (regex_pattern regex.now) (length (regex_names regex.now)) line.now) }
-        ensures all_groups { IfOk result (λ found. IfSome found (λ captures. vec_len captures
-            ≡ length (regex_names regex.now))) }
-        ensures slices { IfOk result (λ found. IfSome found (λ captures. AreSlicesOf line.now
-            (capture_texts captures.items))) }
+        ensures { IfOk result (λ found. IsMatchIn line.now (captures_by regex.now)
+            (length (regex_names regex.now)) (found_texts found)) }
     {
         match self {
             Kept::No => *self = Kept::Next,

@@ -20,7 +20,8 @@ pub enum Error {
     DefinitionNotFound(String),
     /// The engine refused the expanded text. The message contains that text.
     RegexCompilationFailed(String),
-    /// A placeholder is malformed, or two placeholders got the same key. The message says which.
+    /// A placeholder is malformed, or two placeholders would get the same key. The message says
+    /// which.
     GenericCompilationFailure(String),
     /// An allocation failed, or the expanded text is too long for any memory.
     Memory,

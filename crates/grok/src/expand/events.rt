@@ -29,8 +29,8 @@ pub(crate) enum Event<'a> {
 #[derive(Drop)]
 pub(crate) struct Events<'a> {
     grok: &'a Grok,
-    /// The remaining items of the texts around the innermost one. Those of the pattern are the
-    /// first.
+    /// The remaining items of the texts around the innermost one. The items of the pattern are the
+    /// first entry, if another text is open.
     around: Vec<Items<'a>>,
     /// The remaining items of the innermost text.
     items: Items<'a>,

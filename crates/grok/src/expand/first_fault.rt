@@ -1,21 +1,25 @@
-//! Finds the first fault of a pattern's tree. It skips what was counted of a definition, if that part
-//! has no fault and no two keys clash after its uses are added.
-ghost use Rattle.std.specs.Prelude.{◌≡◌, ◌<◌, ℕ, List, IfOk, option_map};
+//! Finds the first fault of a pattern's tree. It skips what was counted of a definition, if that
+//! part has no fault and no two keys clash after its uses are added, and goes on with the item at
+//! which counting stopped. So the 1,023 levels of a circle don't read its definitions again.
+ghost use Rattle.std.specs.Prelude.{◌≡◌, ◌<◌, ℕ, List, IfOk, IfSome, option_map};
 ghost use Rattle.std.specs.FinMap as finite;
 ghost use Rattle.grok.specs.Tree as tree;
-ghost use Rattle.grok.specs.Tree.{tree as tree_of};
+ghost use Rattle.grok.specs.Tree.{tree as tree_of, reached};
+ghost use Rattle.grok.specs.NumberedBases.{opens_numbered_from, is_base_in};
 ghost use Rattle.grok.specs.Keys.{first_fault};
 ghost use Rattle.grok.specs.Items.{label_view, meaning_view, item_view};
 ghost use Rattle.grok.specs.Walks.{tree_fault_view};
 ghost use Rattle.grok.specs.Tallied.{AreTallied, HasTallied, IsCountedPartOf, IsSoundItem, resolve};
-ghost use Rattle.grok.specs.FirstFaultSteps.{IsCountOf, CountsUse, SkipsCounted, StepsAtText, StepsAtItem};
+ghost use Rattle.grok.specs.FirstFaultSteps.{IsCountOf, CountsUse, SkipsCounted, StepsAtText, StepsAtItem, IsCountableFault, ReportsCountable};
 
-use crate::defs::items::{Item, Items, Label, Meaning, ascend, descend};
+use crate::defs::deferred_items::DeferredItems;
+use crate::defs::items::{Item, Items, Label, Meaning};
 use crate::errors::fault::{Fault, LEVELS, TreeFault};
 use crate::expand::key_assigner::{base_key, numbered_key};
 use crate::expand::key_uses::KeyUses;
 use crate::expand::tallies::{CompileMode, CountedPart, DefinitionTallies, KeyTally};
 use std::alloc::AllocError;
+use std::mem;
 
 /// What to do at an item on the way to the first fault.
 #[derive(Drop)]
@@ -23,18 +27,19 @@ enum ItemStep<'a> {
     /// Go on: neither the item nor the definition that it uses has a fault.
     Skip,
     /// Read these items of its definition next. The item itself has no fault.
-    Enter(Items<'a>),
+    Enter(DeferredItems<'a>),
     /// Report this first fault, which is the item's or that of its definition.
     Report(TreeFault<'a>),
 }
 
-/// Counts the base key of a capturing placeholder, or returns its key if an earlier one has it.
+/// Returns the key that a placeholder would get if an earlier placeholder has that key. Otherwise
+/// counts the use of its base key and returns `None`.
 ///
 /// # Errors
 ///
 /// If an allocation fails, or if a base key is used more than `usize::MAX` times.
 fn count_use<'a>(
-    mode: CompileMode<'a>,
+    mode: CompileMode<'a, '_>,
     total: &mut KeyUses<'a>,
     label: Label<'a>,
 ) -> Result<Option<String>, AllocError>
@@ -56,9 +61,10 @@ fn count_use<'a>(
     Ok(Some(key))
 }
 
-/// Counts all base keys of a definition at once, if `levels` more levels are enough for it and no two
-/// keys clash then. If a base key would be used more than `usize::MAX` times, nothing is counted: the
-/// first fault may come before the last of these uses.
+/// Adds all uses of base keys in `tally`, the tally of a definition, to `total`, and returns
+/// `true`. Returns `false` and adds nothing if the definition and its placeholder need more than
+/// `levels` levels, if two keys would clash, or if a base key would be used more than `usize::MAX`
+/// times: then the first fault may come before the last of these uses.
 fn skip_counted<'a>(
     total: &mut KeyUses<'a>,
     tally: &KeyTally<'a>,
@@ -78,32 +84,36 @@ fn skip_counted<'a>(
     Ok(true)
 }
 
-/// Skips what was counted of a definition, if `levels` more levels are allowed, and enters the rest of
-/// it. If the counted part can't be skipped, all of the definition is entered.
+/// Skips what was counted of a definition, if `levels` more levels are allowed, and enters the rest
+/// of it. If the counted part can't be skipped, all of the definition is entered.
 fn open_after_counted<'a>(
     total: &mut KeyUses<'a>,
     front: &CountedPart<'a>,
-    mut items: Items<'a>,
+    items: Items<'a>,
     levels: usize,
 ) -> Result<ItemStep<'a>, AllocError>
     requires { 0 < levels }
-    ensures { IfOk result (λ step. (mode : CompileMode) (text : List ℕ) → IsCountedPartOf mode text front.now
+    ensures step { IfOk result (λ step. (mode : CompileMode) (text : List ℕ) → IsCountedPartOf mode text front.now
         → items.entry ≡ resolve mode text → (before : List tree.Label) → IsCountOf total.old before →
         StepsAtText mode levels text before total.new step) }
+    ensures number { IfOk result (λ step. ReportsCountable step) }
 {
     if !skip_counted(total, &front.tally, levels)? {
-        return Ok(ItemStep::Enter(items));
+        return Ok(ItemStep::Enter(DeferredItems::of_items(items)));
     }
-    if front.is_whole {
-        return Ok(ItemStep::Skip);
+    match front.uncounted {
+        None => Ok(ItemStep::Skip),
+        Some(item) => {
+            let rest = DeferredItems::known_first(item, front.read, items);
+            Ok(ItemStep::Enter(rest))
+        }
     }
-    items.pass_over(front.items)?;
-    Ok(ItemStep::Enter(items))
 }
 
-/// Skips or enters the definition of a placeholder, if `levels` more levels are allowed.
+/// Returns whether the search skips the definition of a placeholder, enters it, or reports that it
+/// is nested too deeply. The placeholder and what it uses may be nested up to `levels` levels deep.
 fn open_placeholder<'a>(
-    mode: CompileMode<'a>,
+    mode: CompileMode<'a, '_>,
     tallies: &DefinitionTallies<'a>,
     total: &mut KeyUses<'a>,
     label: Label<'a>,
@@ -111,45 +121,52 @@ fn open_placeholder<'a>(
     levels: usize,
 ) -> Result<ItemStep<'a>, AllocError>
     requires { AreTallied mode tallies.now }
-    ensures { IfOk result (λ step. IsSoundItem mode.entry (tree.PlaceholderItem
+    ensures step { IfOk result (λ step. IsSoundItem mode.entry (tree.PlaceholderItem
         (label_view label.entry) (meaning_view meaning.entry)) → (before : List tree.Label) →
         IsCountOf total.old before → StepsAtText mode.entry levels
         (tree.meaning_text (meaning_view meaning.entry)) before total.new step) }
+    ensures number { IfOk result (λ step. ReportsCountable step) }
 {
     let alloc = mode.grok.alloc();
     if levels == 0 {
         return Ok(ItemStep::Report(TreeFault::Structural(Fault::TooDeep)));
     }
     match meaning {
-        Meaning::Inline(text) => Ok(ItemStep::Enter(Items::of_text(alloc, mode.grok, text))),
+        Meaning::Inline(text) => {
+            let items = Items::of_text(alloc, mode.grok, text);
+            Ok(ItemStep::Enter(DeferredItems::of_items(items)))
+        }
         Meaning::Stored(stored) => {
             let items = Items::of_stored(alloc, mode.grok, stored);
             match tallies.of_name(label.name) {
                 Some(front) => open_after_counted(total, front, items, levels),
-                None => Ok(ItemStep::Enter(items)),
+                None => Ok(ItemStep::Enter(DeferredItems::of_items(items))),
             }
         }
     }
 }
 
-/// Reads an item, if `levels` more levels are allowed.
+/// Reads an item, whose placeholders may be nested up to `levels` levels deep. Returns whether the
+/// search skips the item, enters its definition, or reports its fault.
 fn read_item<'a>(
-    mode: CompileMode<'a>,
+    mode: CompileMode<'a, '_>,
     tallies: &DefinitionTallies<'a>,
     total: &mut KeyUses<'a>,
     item: Item<'a>,
     levels: usize,
 ) -> Result<ItemStep<'a>, AllocError>
     requires { AreTallied mode tallies.now }
-    ensures { IfOk result (λ step. IsSoundItem mode.entry (item_view item.entry) →
+    ensures step { IfOk result (λ step. IsSoundItem mode.entry (item_view item.entry) →
         (before : List tree.Label) → IsCountOf total.old before →
         StepsAtItem mode.entry levels (item_view item.entry) before total.new step) }
+    ensures number { IfOk result (λ step. (before : List tree.Label) → IsCountOf total.old before →
+        ReportsCountable step) }
 {
     match item {
         Item::Text(_) => Ok(ItemStep::Skip),
         Item::Fault(fault) => Ok(ItemStep::Report(TreeFault::Structural(fault))),
         Item::Placeholder(label, meaning) => {
-            if label.is_capturing(mode.with_alias_only) {
+            if mode.is_counted(label) {
                 if let Some(key) = count_use(mode, total, label)? {
                     return Ok(ItemStep::Report(TreeFault::Clash(key)));
                 }
@@ -159,32 +176,35 @@ fn read_item<'a>(
     }
 }
 
-/// Returns the first fault of a pattern's tree, if it has one.
+/// Returns the first fault of a pattern in reading order, a structural fault or a clash, if it has
+/// one.
 pub(crate) fn find_first_fault<'a>(
-    mode: CompileMode<'a>,
+    mode: CompileMode<'a, '_>,
     tallies: &DefinitionTallies<'a>,
     pattern: &'a str,
 ) -> Result<Option<TreeFault<'a>>, AllocError>
-    requires { AreTallied mode tallies.now }
-    ensures { IfOk result (λ found. option_map tree_fault_view found ≡ first_fault
+    requires tallied { AreTallied mode tallies.now }
+    requires known { (base : List ℕ) → is_base_in mode.numbered.now base ≡ opens_numbered_from base
+        (reached (tree_of (finite.get mode.grok.now) pattern.now)) }
+    ensures fault { IfOk result (λ found. option_map tree_fault_view found ≡ first_fault
         mode.entry.with_alias_only (tree_of (finite.get mode.entry.grok.now) pattern.now)) }
+    ensures number { IfOk result (λ found. IfSome found (λ tree_fault. IsCountableFault tree_fault)) }
 {
     let alloc = mode.grok.alloc();
     let mut total = KeyUses::new(alloc);
     let mut around = Vec::new(alloc);
-    let mut items = Items::of_text(alloc, mode.grok, pattern);
+    let mut items = DeferredItems::of_items(Items::of_text(alloc, mode.grok, pattern));
     'items: loop {
         match items.next()? {
             Some(item) => match read_item(mode, tallies, &mut total, item, LEVELS - around.len())? {
                 ItemStep::Skip => {}
-                ItemStep::Enter(inner) => descend(&mut around, &mut items, inner)?,
+                ItemStep::Enter(inner) => around.push(mem::replace(&mut items, inner))?,
                 ItemStep::Report(tree_fault) => return Ok(Some(tree_fault)),
             },
-            None => {
-                if !ascend(&mut around, &mut items) {
-                    return Ok(None);
-                }
-            }
+            None => match around.pop() {
+                Some(outer) => items = outer,
+                None => return Ok(None),
+            },
         }
     }
 }

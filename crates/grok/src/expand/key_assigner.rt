@@ -64,7 +64,7 @@ fn count_once_more(
     Ok(())
 }
 
-/// Keeps an extract under the key, unless it is empty.
+/// Stores `extract` as the extract of `key`, unless it is empty.
 fn keep_extract(
     alloc: Global,
     extracts: &mut BTreeMap<String, String>,

@@ -1,4 +1,5 @@
-//! Counts how often each base key is used. That is enough to know whether two keys clash.
+//! Counts how often each base key (the key before its number is added) is used. These counts are
+//! enough to know whether two keys clash.
 ghost use Rattle.std.specs.Prelude.{◌≡◌, ℕ, ◌+◌, ◌<◌, ◌≤◌, ◌^◌, List, if◌then◌else◌, None, IfSome, OnOk, Decides};
 ghost use Rattle.std.specs.Str.{bytes_eq};
 ghost use Rattle.grok.specs.KeyUses.{MayBeUsed, IsFree, IsPastCounting, count_of, AddsUses, CountsUses};
@@ -7,8 +8,9 @@ use crate::expand::numbered::parts_of_numbered;
 use std::alloc::{AllocError, Global};
 use std::collections::BTreeMap;
 
-/// How often a base key is used, and how often it may be used before one of its numbered keys is the
-/// base key of another placeholder.
+/// How often a base key is used (`times`), and how often it may be used without a clash (`most`).
+/// If `x[3]` is the base key of another placeholder, `x` may be used 3 times: its fourth use would
+/// get the key `x[3]`.
 #[derive(Clone, Copy)]
 struct UseCount {
     times: usize,
@@ -31,18 +33,18 @@ impl<'a> KeyUses<'a> {
         }
     }
 
-    /// Returns the count of a base key.
-    fn count_of(&self, key: &'a str) -> UseCount
+    /// Returns the count of a base key. One that was never counted has no uses and no limit.
+    fn count_of(&self, key: &str) -> UseCount
         ensures { result ≡ count_of self.now.counts key.now }
     {
-        self.counts.get(&key).copied().unwrap_or(UseCount {
+        self.counts.get(key).copied().unwrap_or(UseCount {
             times: 0,
             most: usize::MAX,
         })
     }
 
     /// Returns how often the base key is used.
-    pub fn times_of(&self, key: &'a str) -> usize
+    pub fn times_of(&self, key: &str) -> usize
         ensures { (uses : List ℕ → ℕ) → CountsUses self.now uses → result ≡ uses key.now }
     {
         self.count_of(key).times
@@ -57,7 +59,8 @@ impl<'a> KeyUses<'a> {
         Ok(())
     }
 
-    /// Adds a count of a base key to what was counted of it.
+    /// Adds `more` to the count of a base key: the uses of both together, and the lower limit of
+    /// the two.
     ///
     /// # Errors
     ///
@@ -103,7 +106,7 @@ impl<'a> KeyUses<'a> {
         Ok(())
     }
 
-    /// Adds all uses of other counts.
+    /// Adds all that `more` has counted.
     ///
     /// # Errors
     ///
@@ -118,8 +121,9 @@ impl<'a> KeyUses<'a> {
         Ok(())
     }
 
-    /// Returns whether no alias clashes with this base key after the uses in both counts together, or
-    /// `None` if these are more than `usize::MAX`.
+    /// Returns whether this base key may be used as often as `self` and `more` count together: no
+    /// base key that either of them counts is then one of its numbered keys. Returns `None` if
+    /// these uses are more than `usize::MAX`.
     fn is_free_at(&self, more: &KeyUses<'a>, key: &'a str) -> Option<bool>
         ensures some { IfSome result (λ free. (uses others : List ℕ → ℕ) → CountsUses self.now uses
             → CountsUses more.now others → Decides free (MayBeUsed
@@ -133,8 +137,9 @@ impl<'a> KeyUses<'a> {
         Some(times <= own.most && times <= other.most)
     }
 
-    /// Returns whether no two keys clash after the uses in both counts together, if none clash after
-    /// those counted here, or `None` if a base key is then used more than `usize::MAX` times.
+    /// Returns whether no two keys clash among the uses that `self` and `more` count together. The
+    /// uses in `self` alone must not clash. Returns `None` if a base key would be used more than
+    /// `usize::MAX` times.
     pub fn is_free_with(&self, more: &KeyUses<'a>) -> Option<bool>
         ensures some { IfSome result (λ free. (uses others : List ℕ → ℕ) → CountsUses self.now uses
             → CountsUses more.now others → IsFree uses

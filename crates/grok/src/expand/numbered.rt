@@ -1,11 +1,11 @@
 //! Reads back numbered keys such as `key[2]`.
-ghost use Rattle.std.specs.Prelude.{◌≡◌, ℕ, suc, ◌<◌, ◌^◌, List, ◌∷◌, MatchOption};
+ghost use Rattle.std.specs.Prelude.{◌≡◌, ℕ, suc, ◌<◌, ◌^◌, false, List, ◌∷◌, MatchOption};
 ghost use Rattle.grok.specs.Keys.{numbered, ends_in_number};
 ghost use Rattle.grok.specs.Endings.{ends_after};
 
 use crate::numeral::number_of_numeral;
 
-/// How the bytes end that were read so far.
+/// How the bytes that were read so far end.
 #[derive(Clone, Copy)]
 enum Ending {
     Other,
@@ -31,7 +31,8 @@ impl Ending {
     }
 }
 
-/// Returns whether the bytes end in a number from 1 up in brackets. It reads them all.
+/// Returns whether `alias` ends in a number from 1 up in brackets, such as `x[12]`. Reads all of
+/// its bytes.
 fn bytes_end_in_number(alias: &str) -> bool
     ensures { result ≡ ends_in_number alias.now }
 {
@@ -52,6 +53,18 @@ pub(crate) fn ends_in_number(alias: &str) -> bool
         Some(_) => bytes_end_in_number(alias),
         None => false,
     }
+}
+
+/// Returns the base of an alias that ends in a number from 1 up in brackets: `x` for `x[1]`.
+pub(crate) fn base_of_numbered(alias: &str) -> Option<&str>
+    ensures { MatchOption result (ends_in_number alias.now ≡ false)
+        (λ base. (count : ℕ) × (alias.now ≡ numbered base.now (suc count))) }
+{
+    if !ends_in_number(alias) {
+        return None;
+    }
+    let (base, _digits) = alias.rsplit_once('[')?;
+    Some(base)
 }
 
 /// Returns the base key and the number of a numbered key, if the number fits a `usize`.

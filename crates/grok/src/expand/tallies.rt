@@ -1,13 +1,13 @@
 //! Counts each definition once, up to its first fault: how deep its placeholders are nested, and how
-//! often each base key is used.
+//! often each base key is used that can take part in a clash.
 ghost use Rattle.std.specs.Prelude.{◌≡◌, ℕ, ◌+◌, ◌<◌, ◌≤◌, List, if◌then◌else◌, IsTrue, IfOk, OnOk, IfSome, Some, false};
 ghost use Rattle.std.specs.Str.{bytes_eq};
 ghost use Rattle.std.specs.FinMap as finite;
 ghost use Rattle.grok.specs.Tree as tree;
-ghost use Rattle.grok.specs.Keys.{is_capturing, base_key as base_key_of};
+ghost use Rattle.grok.specs.Keys.{base_key as base_key_of};
 ghost use Rattle.grok.specs.Items.{label_view, item_view};
 ghost use Rattle.grok.specs.KeyUses.{CountsUses};
-ghost use Rattle.grok.specs.Tallied.{IsTallyOf, HasTallied, IsCountedPartOf, AreTallied, IsSoundItem, with_item};
+ghost use Rattle.grok.specs.Tallied.{is_counted, IsTallyOf, HasTallied, IsCountedPartOf, AreTallied, IsSoundItem, with_item};
 
 use crate::defs::Grok;
 use crate::defs::definition::Definition;
@@ -15,31 +15,48 @@ use crate::defs::items::{Item, Items, Label, Meaning};
 use crate::errors::fault::LEVELS;
 use crate::expand::key_assigner::base_key;
 use crate::expand::key_uses::KeyUses;
+use crate::expand::numbered_bases::NumberedBases;
 use std::alloc::{AllocError, Global};
 use std::collections::BTreeMap;
 
-/// The count of some items: how many levels they need, and how often their capturing placeholders use
-/// each base key. With as many levels they have no structural fault.
+/// The tally of some items. If `height` levels are left for the items, they have no structural
+/// fault. `uses` counts how often their capturing placeholders use each base key (the key before
+/// its number is added) that can take part in a clash.
 #[derive(Drop)]
 pub(crate) struct KeyTally<'a> {
     pub height: usize,
     pub uses: KeyUses<'a>,
 }
 
-/// The definitions, and whether only placeholders with an alias capture.
+/// What all steps of a compilation share: the definitions, whether only placeholders with an alias
+/// capture, and, in `numbered`, each base key `x` for which an alias such as `x[1]` is reached.
 #[derive(Clone, Copy)]
-pub(crate) struct CompileMode<'a> {
+pub(crate) struct CompileMode<'a, 'f> {
     pub grok: &'a Grok,
     pub with_alias_only: bool,
+    pub numbered: &'f NumberedBases<'a>,
+}
+
+impl<'a> CompileMode<'a, '_> {
+    /// Returns whether the placeholder with this label captures and has a base key that can take
+    /// part in a clash. Only then is its use of the base key counted.
+    pub fn is_counted(self, label: Label<'a>) -> bool
+        ensures { result ≡ is_counted self.entry (label_view label.entry) }
+    {
+        let base = base_key(label);
+        label.is_capturing(self.with_alias_only) && self.numbered.can_clash(base)
+    }
 }
 
 /// The part of a definition that was counted: its first items, or all of them.
 #[derive(Drop)]
 pub(crate) struct CountedPart<'a> {
     pub tally: KeyTally<'a>,
-    /// How many items were counted.
-    pub items: usize,
-    pub is_whole: bool,
+    /// The first item that wasn't counted, or `None` if all were. The search for the first fault
+    /// goes on with it.
+    pub uncounted: Option<Item<'a>>,
+    /// How many items were read: those that were counted, and the one that wasn't.
+    pub read: usize,
 }
 
 /// The counted parts of definitions, by name.
@@ -60,23 +77,25 @@ impl<'a> KeyTally<'a> {
         }
     }
 
-    /// Counts the use of a base key by a placeholder, if that captures.
-    fn add_open(&mut self, label: Label<'a>, with_alias_only: bool) -> Result<(), AllocError>
+    /// Counts that the placeholder with this label uses its base key, if `is_counted` holds for it.
+    fn add_open(&mut self, mode: CompileMode<'a, '_>, label: Label<'a>) -> Result<(), AllocError>
         ensures height { OnOk result (self.new.height ≡ self.old.height) }
         ensures counts { OnOk result ((uses : List ℕ → ℕ) → CountsUses self.old.uses uses →
-            CountsUses self.new.uses (λ key. (if is_capturing with_alias_only (label_view label.entry)
+            CountsUses self.new.uses (λ key. (if is_counted mode.entry (label_view label.entry)
             then (if bytes_eq (base_key_of (label_view label.entry)) key then 1 else 0) else 0)
             + uses key)) }
     {
-        if label.is_capturing(with_alias_only) {
+        if mode.is_counted(label) {
             self.uses.add(base_key(label))?;
         }
         Ok(())
     }
 
-    /// Counts the definition of a placeholder, unless it needs too many levels, two keys clash with it, or a
-    /// base key is then used more than `usize::MAX` times. Entering such a
-    /// definition ends the search for the first fault, so it need not be counted.
+    /// Adds `inner`, the tally of a placeholder's definition, to this one, and returns `true`.
+    /// Leaves this tally as it is and returns `false` if the definition needs too many levels, if
+    /// two keys would clash, or if a base key would be used more than `usize::MAX` times. When the
+    /// search for the first fault enters such a definition, it ends there, so nothing after it has
+    /// to be counted.
     fn add_opened(&mut self, inner: &KeyTally<'a>) -> Result<bool, AllocError>
         ensures height { IfOk result (λ added. IsTrue added →
             (inner.now.height < self.new.height) × (self.old.height ≤ self.new.height)) }
@@ -93,17 +112,18 @@ impl<'a> KeyTally<'a> {
         Ok(true)
     }
 
-    /// Counts a placeholder with its definition, as `add_opened` does, if its own use can be counted too.
+    /// Counts a placeholder and its definition, which has the tally `inner`. Returns `false` and
+    /// counts neither if `add_opened` refuses the definition, or if the base key of the placeholder
+    /// would be used more than `usize::MAX` times.
     fn add_placeholder(
         &mut self,
+        mode: CompileMode<'a, '_>,
         label: Label<'a>,
-        with_alias_only: bool,
         inner: &KeyTally<'a>,
     ) -> Result<bool, AllocError>
-        ensures { IfOk result (λ added. (mode : CompileMode) (meaning : tree.Meaning)
-            (front : List tree.Item) → mode.with_alias_only ≡ with_alias_only
-            → IsTallyOf mode (tree.meaning_text meaning) inner.now
-            → HasTallied mode front self.old → HasTallied mode
+        ensures { IfOk result (λ added. (meaning : tree.Meaning) (front : List tree.Item)
+            → IsTallyOf mode.entry (tree.meaning_text meaning) inner.now
+            → HasTallied mode.entry front self.old → HasTallied mode.entry
             (with_item added front (tree.PlaceholderItem (label_view label.entry) meaning)) self.new) }
     {
         let key = base_key(label);
@@ -114,7 +134,7 @@ impl<'a> KeyTally<'a> {
         if !self.add_opened(inner)? {
             return Ok(false);
         }
-        self.add_open(label, with_alias_only)?;
+        self.add_open(mode, label)?;
         Ok(true)
     }
 }
@@ -128,10 +148,11 @@ impl<'a> DefinitionTallies<'a> {
         self.by_name.get(&name)
     }
 
-    /// Counts an item with its definition. Returns whether these are known to have no fault.
+    /// Adds an item, and the definition if it is a placeholder, to `tally`. Returns `false` and
+    /// adds nothing if it isn't known that the item has no fault.
     fn count_item(
         &self,
-        mode: CompileMode<'a>,
+        mode: CompileMode<'a, '_>,
         item: Item<'a>,
         tally: &mut KeyTally<'a>,
     ) -> Result<bool, AllocError>
@@ -146,11 +167,11 @@ impl<'a> DefinitionTallies<'a> {
             Item::Placeholder(label, meaning) => match meaning {
                 Meaning::Inline(_) => {
                     let nothing = KeyTally::new(mode.grok.alloc());
-                    tally.add_placeholder(label, mode.with_alias_only, &nothing)
+                    tally.add_placeholder(mode, label, &nothing)
                 }
                 Meaning::Stored(_) => match self.of_name(label.name) {
-                    Some(front) if front.is_whole => {
-                        tally.add_placeholder(label, mode.with_alias_only, &front.tally)
+                    Some(front) if front.uncounted.is_none() => {
+                        tally.add_placeholder(mode, label, &front.tally)
                     }
                     _ => Ok(false),
                 },
@@ -158,51 +179,57 @@ impl<'a> DefinitionTallies<'a> {
         }
     }
 
-    /// Counts the items of a definition up to the first that isn't known to have no fault.
+    /// Counts the items of a definition up to the first item that may have a fault. Returns `None`
+    /// if it reads more than `usize::MAX` items.
     fn count_text(
         &self,
-        mode: CompileMode<'a>,
+        mode: CompileMode<'a, '_>,
         stored: &'a Definition,
-    ) -> Result<CountedPart<'a>, AllocError>
+    ) -> Result<Option<CountedPart<'a>>, AllocError>
         requires { AreTallied mode self.now }
-        ensures { IfOk result (λ front. IsCountedPartOf mode.entry stored.now front) }
+        ensures { IfOk result (λ counted. IfSome counted
+            (λ front. IsCountedPartOf mode.entry stored.now front)) }
     {
         let alloc = mode.grok.alloc();
         let mut items = Items::of_stored(alloc, mode.grok, stored);
         let mut front = CountedPart {
             tally: KeyTally::new(alloc),
-            items: 0,
-            is_whole: false,
+            uncounted: None,
+            read: 0,
         };
         'items: while let Some(item) = items.next()? {
-            let Some(more) = front.items.checked_add(1) else {
-                return Ok(front);
+            let Some(read) = front.read.checked_add(1) else {
+                return Ok(None);
             };
+            front.read = read;
             if !self.count_item(mode, item, &mut front.tally)? {
-                return Ok(front);
+                front.uncounted = Some(item);
+                return Ok(Some(front));
             }
-            front.items = more;
         }
-        front.is_whole = true;
-        Ok(front)
+        Ok(Some(front))
     }
 
-    /// Counts the definition of a name.
-    fn add_name(&mut self, mode: CompileMode<'a>, name: &'a str) -> Result<(), AllocError>
+    /// Counts the definition of a name, if it has one, and keeps what was counted under that name.
+    /// Keeps nothing if the definition has more than `usize::MAX` items.
+    fn add_name(&mut self, mode: CompileMode<'a, '_>, name: &'a str) -> Result<(), AllocError>
         requires { AreTallied mode self.old }
         ensures { OnOk result (AreTallied mode.entry self.new) }
     {
-        if let Some(stored) = mode.grok.definition(name) {
-            let front = self.count_text(mode, stored)?;
+        let Some(stored) = mode.grok.definition(name) else {
+            return Ok(());
+        };
+        if let Some(front) = self.count_text(mode, stored)? {
             self.by_name.insert(name, front)?;
         }
         Ok(())
     }
 
-    /// Counts the definitions of these names. Each name should come after the names that its
-    /// definition uses. Otherwise the definition is counted up to the first that is missing.
+    /// Counts the definitions of `names`. Each name should come after the names that its definition
+    /// uses. Otherwise its definition is counted only up to the first placeholder whose name wasn't
+    /// counted before.
     pub fn of_names(
-        mode: CompileMode<'a>,
+        mode: CompileMode<'a, '_>,
         names: &[(usize, &'a str)],
     ) -> Result<DefinitionTallies<'a>, AllocError>
         ensures { IfOk result (λ tallies. AreTallied mode.entry tallies) }

@@ -32,7 +32,7 @@ pub(crate) struct Output {
     groups: usize,
 }
 
-/// Appends a text, for which there is room.
+/// Appends `text` to `out`, which has room for it.
 fn put(out: &mut String, text: &str)
     requires { string_len out.old + length text.now ≤ string_capacity out.old }
     ensures bytes { string_bytes out.new ≡ string_bytes out.old ++ text.now }
@@ -58,7 +58,7 @@ fn put_numbered(out: &mut String, number: usize)
 }
 
 impl Output {
-    /// Appends the start of a placeholder's group.
+    /// Appends the start of a placeholder's group, which is named if the placeholder captures.
     fn write_head(&mut self, is_capturing: bool)
         requires room { string_len self.old.text + length (head_of is_capturing self.old.groups) ≤
             string_capacity self.old.text }
@@ -110,8 +110,8 @@ fn assign_key(
     }
 }
 
-/// Expands a pattern without a structural fault: writes its text into an empty text that has room for
-/// it, and assigns the keys and extracts of its capturing placeholders.
+/// Expands a pattern without a structural fault: writes its expanded text into `text`, which is
+/// empty and has room for it, and assigns the keys and extracts of its capturing placeholders.
 ///
 /// # Errors
 ///

@@ -10,11 +10,11 @@ use crate::parser::GrokPatternError;
 
 /// Laws of the pieces of a text.
 ///
-/// The ranges of the pieces lie side by side in the text, from its start to its end or to a fault.
-/// A fault is the last piece, so there is one at most. The pieces of a text without a fault,
-/// joined, are the text. A text without braces has regular pieces only, and the definition in a
-/// placeholder is such a text. If the text of a placeholder is split by itself, its one piece is
-/// that placeholder.
+/// The ranges of the pieces follow each other without a gap, from the start of the text to its end
+/// or to a fault. A fault is always the last piece, so there is at most one. If there is none, the
+/// pieces together are the whole text. A text without braces has regular pieces only, and the
+/// definition in a placeholder is such a text. If the text of a placeholder is split by itself, its
+/// one piece is that placeholder.
 #[tactic(auto, using(crate::proofs::Pieces::PieceLaws::laws))]
 pub fn pieces()
     ensures tile { (text : List ℕ) → Tile text 0 (pieces text) }

@@ -25,7 +25,7 @@ impl<'m> MatchesRef<'m> {
     ghost use Rattle.grok.specs.Groups.{texts_in_line};
     ghost use Rattle.grok.specs.BorrowedMatches.{borrowed_keys, borrowed_captures};
 
-    /// Makes a match with these keys and the byte ranges of these groups.
+    /// Makes a match from the keys of its pattern and the byte ranges of its groups in the line.
     pub(crate) fn new(keys: &'m KeyTable, located: Located<'m>) -> MatchesRef<'m>
         ensures keys { borrowed_keys result ≡ keys.now }
         ensures captures { borrowed_captures result ≡ texts_in_line located.entry }

@@ -8,7 +8,8 @@ ghost use Rattle.grok.specs.Answers.{capture_at};
 #[derive(Clone, Copy)]
 pub(crate) struct Located<'a> {
     line: &'a str,
-    /// The start and the end of each group that took part, in bytes, from group 0 on.
+    /// The start and the end of each group in bytes, from group 0 on. It is `None` for a group that
+    /// took no part in the match.
     locations: &'a [Option<(usize, usize)>],
     ghost inside: { AreLocationsIn line.now locations.now },
 }
@@ -22,7 +23,8 @@ pub(crate) enum GroupTexts<'a> {
     Located(Located<'a>),
 }
 
-/// Returns the text of a group in a list, if it took part.
+/// Returns the text of a group from a list of the groups' texts, or `None` if the group took no
+/// part in the match.
 pub(crate) fn capture_of<'a>(captures: &[Option<&'a str>], group: usize) -> Option<&'a str>
     ensures { option_map text_of result ≡ capture_at (capture_texts captures.now) group }
 {
@@ -39,7 +41,7 @@ impl<'a> Located<'a> {
         Located { line, locations }
     }
 
-    /// Returns the byte range of a group, if it took part.
+    /// Returns the byte range of a group, or `None` if it took no part in the match.
     #[tactic(auto, using(crate::proofs::Captures::GroupsLieInLine::location_in))]
     fn location(&self, group: usize) -> Option<(usize, usize)>
         ensures at { result ≡ slice_index_or self.now.locations.now group None }
@@ -48,7 +50,7 @@ impl<'a> Located<'a> {
         self.locations.get(group).copied()?
     }
 
-    /// Returns the text of a group, if it took part.
+    /// Returns the text of a group, or `None` if it took no part in the match.
     #[tactic(auto, using(crate::proofs::Captures::GroupsLieInLine::text_located))]
     pub(crate) fn get(&self, group: usize) -> Option<&'a str>
         ensures { option_map text_of result
@@ -62,7 +64,7 @@ impl<'a> Located<'a> {
 impl<'a> GroupTexts<'a> {
     ghost use Rattle.grok.specs.Groups.{group_texts};
 
-    /// Returns the text of a group, if it took part.
+    /// Returns the text of a group, or `None` if it took no part in the match.
     pub(crate) fn get(&self, group: usize) -> Option<&'a str>
         ensures { option_map text_of result ≡ capture_at (group_texts self.now) group }
     {

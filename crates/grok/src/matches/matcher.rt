@@ -3,7 +3,7 @@ ghost use Rattle.std.specs.Prelude.{◌≡◌, [], length, option_map, IfOk, IfS
 ghost use Rattle.std.specs.Borrow.{sem};
 ghost use Rattle.std.specs.Io.BufRead.{Rests};
 ghost use mir.Syntax.{named};
-ghost use Rattle.grok.specs.Captures.{AreSlicesOf};
+ghost use Rattle.grok.specs.Captures.{IsMatchIn};
 
 use crate::engine::matcher::{EngineMatcher, HasMatcher};
 use crate::matches::borrowed::MatchesRef;
@@ -61,14 +61,11 @@ impl<'p, E: HasMatcher<'p>> MatcherOf<'p, E> {
     ) -> Result<Option<MatchesOf<'a, E>>, AllocError>
     where
         'p: 'a,
-        ensures captures { IfOk result (λ found. option_map (λ matches. matches.captures) found
-            ≡ E.answer_to self.old.engine text.now) }
+        ensures captures { IfOk result (λ found. IsMatchIn text.now (E.answer_to self.old.engine)
+            (length (E.group_names self.old.engine))
+            (option_map (λ matches. matches.captures) found)) }
         ensures pattern { IfOk result
             (λ found. IfSome found (λ matches. matches.pattern ≡ self.old)) }
-        ensures all_groups { IfOk result (λ found. IfSome found (λ matches. length matches.captures
-            ≡ length (E.group_names self.old.engine))) }
-        ensures slices { IfOk result
-            (λ found. IfSome found (λ matches. AreSlicesOf text.now matches.captures)) }
         ensures same { self.new ≡ self.old }
     {
         match self.search.captures(self.alloc, text)? {
@@ -78,7 +75,7 @@ impl<'p, E: HasMatcher<'p>> MatcherOf<'p, E> {
     }
 
     /// Returns the first match in the line, borrowed until the next call. It has the same pairs as
-    /// that of `match_against`. Only the engine may allocate.
+    /// the match that `match_against` returns. Only the engine may allocate.
     ///
     /// # Errors
     ///
@@ -86,15 +83,10 @@ impl<'p, E: HasMatcher<'p>> MatcherOf<'p, E> {
     pub fn find<'m>(&'m mut self, text: &'m str) -> Result<Option<MatchesRef<'m>>, AllocError>
     where
         'p: 'm,
-        ensures captures { IfOk result (λ found. option_map borrowed_captures found
-            ≡ E.answer_to self.old.engine text.now) }
+        ensures captures { IfOk result (λ found. IsMatchIn text.now (E.answer_to self.old.engine)
+            (length (E.group_names self.old.engine)) (option_map borrowed_captures found)) }
         ensures keys { IfOk result
             (λ found. IfSome found (λ matches. borrowed_keys matches ≡ self.old.keys)) }
-        ensures all_groups { IfOk result
-            (λ found. IfSome found (λ matches. length (borrowed_captures matches)
-            ≡ length (E.group_names self.old.engine))) }
-        ensures slices { IfOk result
-            (λ found. IfSome found (λ matches. AreSlicesOf text.now (borrowed_captures matches))) }
 
         // When the borrow ends, the matcher is what it was.
         ensures* same { sem 𝓛 (Rests (the_row (record { mir = named 0; lft = [] }) E.row

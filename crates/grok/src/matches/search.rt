@@ -1,7 +1,7 @@
 //! A pattern with a search that is kept from line to line.
-ghost use Rattle.std.specs.Prelude.{◌≡◌, Some, None, vec_len, option_map, length, if◌then◌else◌, IfOk, IfSome, IsTrue};
+ghost use Rattle.std.specs.Prelude.{◌≡◌, Some, None, vec_len, length, if◌then◌else◌, IfOk, IsTrue};
 ghost use Rattle.grok.specs.Locations.{AreLocationsIn, located_texts};
-ghost use Rattle.grok.specs.Captures.{capture_texts, AreSlicesOf};
+ghost use Rattle.grok.specs.Captures.{found_texts, AreSlicesOf, IsMatchIn};
 
 use crate::engine::Engine;
 use crate::engine::matcher::{EngineMatcher, HasMatcher};
@@ -61,7 +61,8 @@ impl<'p, E: HasMatcher<'p>> KeptSearch<'p, E> {
         self.matcher.captures_read(&mut self.locations, line)
     }
 
-    /// Searches the line, and returns the texts of the groups of the first match in a new list.
+    /// Searches the line, and returns the texts of the groups of the first match in a new list, or
+    /// `None` if nothing matches.
     ///
     /// # Errors
     ///
@@ -71,13 +72,9 @@ impl<'p, E: HasMatcher<'p>> KeptSearch<'p, E> {
         alloc: Global,
         line: &'t str,
     ) -> Result<Option<Vec<Option<&'t str>>>, AllocError>
-        ensures answer { IfOk result
-            (λ found. option_map (λ captures. capture_texts captures.items) found
-            ≡ E.answer_to self.old.pattern.now.engine line.now) }
-        ensures all_groups { IfOk result (λ found. IfSome found (λ captures. vec_len captures
-            ≡ length (E.group_names self.old.pattern.now.engine))) }
-        ensures slices { IfOk result (λ found. IfSome found (λ captures. AreSlicesOf line.now
-            (capture_texts captures.items))) }
+        ensures captures { IfOk result (λ found. IsMatchIn line.now
+            (E.answer_to self.old.pattern.now.engine)
+            (length (E.group_names self.old.pattern.now.engine)) (found_texts found)) }
         ensures pattern { self.new.pattern.now ≡ self.old.pattern.now }
     {
         self.matcher.captures(alloc, line)

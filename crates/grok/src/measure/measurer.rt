@@ -7,10 +7,11 @@ ghost use Rattle.grok.specs.Sizes.{sizes, size_or_fault};
 ghost use Rattle.grok.specs.MeasuredOnce.{State, items_within, nothing_measured};
 ghost use Rattle.grok.specs.Measured.{tree_of, measured_tree, counted};
 ghost use Rattle.grok.specs.MeasureCache.{items_in, shown_result, result_view, measure_view, ShowsState, unwound, AreLow, StopsReading, IsIdle, HasCorrectCache};
-ghost use Rattle.grok.specs.Items.{fault_view, item_view};
+ghost use Rattle.grok.specs.Items.{fault_view, item_view, label_view};
+ghost use Rattle.grok.specs.Keys.{is_capturing};
 
 use crate::defs::definition::Definition;
-use crate::defs::items::{Item, Items};
+use crate::defs::items::{Item, Items, Label};
 use crate::errors::fault::{Fault, LEVELS};
 use crate::measure::cache::{MeasureCache, Progress, progress_of_failure};
 use crate::measure::mode::MeasureMode;
@@ -24,7 +25,8 @@ use std::alloc::AllocError;
 /// A text that waits until a definition that it uses is measured.
 #[derive(Drop)]
 pub(crate) struct Frame<'a> {
-    /// The name of that definition, and whether its placeholder captures.
+    /// The name of the definition that it waits for, and whether the placeholder that uses it
+    /// captures.
     name: &'a str,
     is_capturing: bool,
     /// The items after the placeholder.
@@ -43,7 +45,8 @@ pub(crate) struct Measurer<'a> {
     frames: Vec<Frame<'a>>,
 }
 
-/// Takes the next item of a text and counts it, or counts the end of the text.
+/// Returns the next item of a text. Counts in `looks` one more piece that was read, or, at the end
+/// of the text, one more end.
 fn next_counted<'a>(
     items: &mut Items<'a>,
     looks: &mut Looks,
@@ -78,6 +81,13 @@ impl<'a> Measurer<'a> {
             cache: MeasureCache::new(mode.alloc),
             frames: Vec::new(mode.alloc),
         }
+    }
+
+    /// Returns whether a placeholder captures.
+    pub fn is_capturing(&self, label: Label<'a>) -> bool
+        ensures { result ≡ is_capturing self.now.mode.with_alias_only (label_view label.entry) }
+    {
+        label.is_capturing(self.mode.with_alias_only)
     }
 
     /// Returns the items of a text, resolved by the library of the measurer.
@@ -222,6 +232,38 @@ impl<'a> Measurer<'a> {
         Ok(measure_of_result(answer))
     }
 
+    /// Returns the size or the first structural fault of a stored definition, if `levels` levels are
+    /// left, its own among them. It is measured only if its fault or size isn't remembered.
+    ///
+    /// # Errors
+    ///
+    /// If an allocation fails.
+    pub fn size_of_definition(
+        &mut self,
+        name: &'a str,
+        stored: &'a Definition,
+        levels: usize,
+    ) -> Result<Result<PartialSize, Failure<'a>>, AllocError>
+        requires some { 0 < levels }
+        requires few { levels < 2 ^ 31 }
+        requires idle { IsIdle self.old }
+        ensures size { IfOk result (λ r.
+            HasCorrectCache self.old →
+            finite.get self.old.mode.grok.now name.now ≡ Some stored.now →
+            result_view r ≡ shown_result (size_or_fault self.old.mode.with_alias_only
+            (items_in self.old.mode.grok.now) levels stored.now)) }
+        ensures keeps { IfOk result
+            (λ r. HasCorrectCache self.old →
+            HasCorrectCache self.new) }
+        ensures idle { IfOk result (λ r. IsIdle self.new) }
+        ensures mode { IfOk result (λ r. self.new.mode ≡ self.old.mode) }
+    {
+        if let Some(known) = self.cache.known(name, levels) {
+            return Ok(known);
+        }
+        self.measure_within(stored.text(), levels - 1)
+    }
+
     /// Returns the first structural fault of a stored definition, if `levels` levels are left, its
     /// own among them. It is measured only if its fault or size isn't remembered.
     ///
@@ -248,10 +290,7 @@ impl<'a> Measurer<'a> {
         ensures idle { IfOk result (λ fault. IsIdle self.new) }
         ensures mode { IfOk result (λ fault. self.new.mode ≡ self.old.mode) }
     {
-        if let Some(known) = self.cache.known(name, levels) {
-            return Ok(fault_of(known));
-        }
-        let answer = self.measure_within(stored.text(), levels - 1)?;
+        let answer = self.size_of_definition(name, stored, levels)?;
         Ok(fault_of(answer))
     }
 }

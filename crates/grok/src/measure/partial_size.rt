@@ -1,21 +1,21 @@
 //! Sizes of texts without the numbers of their groups, and faults with their heights.
-ghost use Rattle.std.specs.Prelude.{◌≡◌, ℕ, ◌+◌, ◌<◌, ◌^◌, max, Option, Result, length, Some, option_map};
+ghost use Rattle.std.specs.Prelude.{◌≡◌, ℕ, ◌+◌, ◌<◌, ◌≤◌, ◌^◌, max, nat_lt, Option, Result, length, Some, option_map};
 ghost use Rattle.grok.specs.Tree.{Fault as ItemFault, inside};
-ghost use Rattle.grok.specs.Sizes.{Size, plus, in_brackets, length_of, digits_from, size_of_bytes};
+ghost use Rattle.grok.specs.Sizes.{Size, plus, in_brackets, head_size, length_of, digits_from, size_of_bytes};
 ghost use Rattle.grok.specs.FirstWrong.{fault_in};
 ghost use Rattle.grok.specs.Measured.{size_within, counted};
 ghost use Rattle.grok.specs.MeasureCache.{fit, shown, shown_result, result_view, measured_size, measure_view};
 ghost use Rattle.grok.specs.Items.{fault_view};
 
 use crate::errors::fault::Fault;
-use crate::generated_name::{NAMED_BYTES, UNNAMED_BYTES};
+use crate::generated_name::{CLOSE, NAMED_BYTES, UNNAMED_BYTES};
 use crate::measure::Measure;
 
 /// The size of a text whose groups aren't numbered yet: the bytes without those numbers, the number
 /// of groups, and the greatest nesting in levels. A number that is greater than the greatest
 /// `usize` is `None`.
 #[derive(Clone, Copy)]
-pub(super) struct PartialSize {
+pub(crate) struct PartialSize {
     pub bytes: Option<usize>,
     pub groups: Option<usize>,
     pub height: usize,
@@ -23,7 +23,7 @@ pub(super) struct PartialSize {
 
 /// A fault, and the greatest nesting up to it, in levels.
 #[derive(Clone, Copy)]
-pub(super) struct Failure<'a> {
+pub(crate) struct Failure<'a> {
     pub fault: Fault<'a>,
     pub height: usize,
 }
@@ -39,7 +39,7 @@ pub(super) fn add_fit(a: Option<usize>, b: Option<usize>) -> Option<usize>
 }
 
 /// Returns the size of two texts one after the other.
-pub(super) fn add(a: PartialSize, b: PartialSize) -> PartialSize
+pub(crate) fn add(a: PartialSize, b: PartialSize) -> PartialSize
     ensures adds { (x y : Size) → a ≡ shown x → b ≡ shown y → result ≡ shown (plus x y) }
     ensures height { result.height ≡ max a.height b.height }
 {
@@ -51,7 +51,7 @@ pub(super) fn add(a: PartialSize, b: PartialSize) -> PartialSize
 }
 
 /// Returns the size of regular text.
-pub(super) fn size_of_text(text: &str) -> PartialSize
+pub(crate) fn size_of_text(text: &str) -> PartialSize
     ensures shown { result ≡ shown (size_of_bytes text.now) }
     ensures height { result.height ≡ 0 }
 {
@@ -82,6 +82,22 @@ pub(super) fn bracketed(is_capturing: bool, inner: PartialSize) -> PartialSize
     }
 }
 
+/// Returns the size of what a placeholder writes before its definition.
+pub(crate) fn size_of_head(is_capturing: bool) -> PartialSize
+    ensures { result ≡ shown (head_size is_capturing) }
+{
+    let (bytes, groups) = if is_capturing {
+        (NAMED_BYTES - CLOSE.len(), 1)
+    } else {
+        (UNNAMED_BYTES - CLOSE.len(), 0)
+    };
+    PartialSize {
+        bytes: Some(bytes),
+        groups: Some(groups),
+        height: 0,
+    }
+}
+
 /// Returns the number of decimal digits of 0, 1, .., count - 1 together.
 fn digits_of_numbers_below(count: usize) -> Option<usize>
     ensures { result ≡ fit (digits_from 0 count) }
@@ -108,7 +124,29 @@ fn length_of_partial_size(sum: PartialSize) -> Option<usize>
     }
 }
 
-/// Returns the result for a pattern of this size.
+/// Returns whether a text of the size `sum` has a byte at the position `byte`.
+pub(crate) fn has_byte(sum: PartialSize, byte: usize) -> bool
+    ensures { (z : Size) → sum ≡ shown z → result ≡ nat_lt byte (length_of z) }
+{
+    match length_of_partial_size(sum) {
+        Some(length) => byte < length,
+        None => true,
+    }
+}
+
+/// Returns how many bytes the position `byte` is after the end of a text of the size `sum` that
+/// begins at position 0.
+pub(crate) fn offset_after(sum: PartialSize, byte: usize) -> usize
+    ensures { (z : Size) → sum ≡ shown z → length_of z ≤ byte → byte ≡ length_of z + result }
+{
+    match length_of_partial_size(sum) {
+        Some(length) => byte.saturating_sub(length),
+        None => 0,
+    }
+}
+
+/// Returns the `Measure` of a pattern of the size `sum`. It is `TooLong` if a number doesn't fit a
+/// `usize`.
 #[tactic(auto, using(crate::proofs::Sizes::SumsFit::fits))]
 fn measure_of_size<'a>(sum: PartialSize) -> Measure<'a>
     ensures { (z : Size) → sum ≡ shown z →
@@ -124,7 +162,7 @@ fn measure_of_size<'a>(sum: PartialSize) -> Measure<'a>
     }
 }
 
-/// Returns the result for a pattern of this size, or with this fault.
+/// Returns the `Measure` of a pattern that has the size or the fault in `answer`.
 pub(super) fn measure_of_result<'a>(answer: Result<PartialSize, Failure<'a>>) -> Measure<'a>
     ensures { (r : Result Size ItemFault) → result_view answer.entry ≡ shown_result r →
         measure_view result ≡ measured_size r }
@@ -146,7 +184,8 @@ pub(super) fn too_deep<'a>() -> Failure<'a>
     }
 }
 
-/// Returns a fault with the height that it has after a text of this size.
+/// Returns the fault of `failure`, as it is after a text of the size `sum`: its height is the
+/// greater of the two heights.
 pub(super) fn fault_after<'a>(sum: PartialSize, failure: Failure<'a>) -> Failure<'a>
     ensures fault { result.fault ≡ failure.entry.fault }
     ensures reach { result.height ≡ max sum.height failure.entry.height }
@@ -157,7 +196,7 @@ pub(super) fn fault_after<'a>(sum: PartialSize, failure: Failure<'a>) -> Failure
     }
 }
 
-/// Returns the fault, if there is one.
+/// Returns the fault in `answer`, or `None` if it is a size.
 pub(super) fn fault_of<'a>(answer: Result<PartialSize, Failure<'a>>) -> Option<Fault<'a>>
     ensures { (r : Result Size ItemFault) → result_view answer.entry ≡ shown_result r →
         option_map fault_view result ≡ fault_in r }

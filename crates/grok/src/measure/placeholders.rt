@@ -22,7 +22,8 @@ pub(super) enum PlaceholderSize<'a> {
     Unread(&'a Definition),
 }
 
-/// Returns the size of an inline definition, which has no placeholders.
+/// Returns the size of an inline definition, which has no placeholders, or the fault `TooDeep` if
+/// no level is left.
 fn measure_inline<'a>(text: &'a str, levels: usize) -> Result<PartialSize, Failure<'a>>
     ensures gives { result_view result ≡ shown_result (inlined levels text.now) }
     ensures low { IfOk result (λ sum. sum.height < levels) }
@@ -34,7 +35,7 @@ fn measure_inline<'a>(text: &'a str, levels: usize) -> Result<PartialSize, Failu
     Ok(size_of_text(text))
 }
 
-/// Returns the size of a placeholder, given that of its definition.
+/// Returns the size or fault of a placeholder whose definition has the size or fault `inner`.
 fn size_of_placeholder<'a>(
     mode: MeasureMode<'a>,
     label: Label<'a>,
@@ -116,7 +117,7 @@ pub(super) fn measure_placeholder<'a>(
     ensures reach { IfOk result
         (λ entry. IfMeasured entry (λ r. IfErr r (λ failure. failure.height ≤ levels + 1))) }
 {
-    cache.label(label);
+    cache.label(label)?;
     match meaning {
         Meaning::Inline(text) => {
             let inner = measure_inline(text, levels);

@@ -9,7 +9,7 @@ use std::{fmt, io};
 /// A way to match lines.
 #[derive(Drop)]
 enum Way<'p> {
-    /// The pattern's own call.
+    /// The pattern's own call `match_against`.
     Shared(&'p Pattern),
     /// `match_against` of one matcher for all lines, whose matches own their lists.
     Kept(Matcher<'p>),
@@ -29,7 +29,7 @@ impl<'p> Way<'p> {
         }
     }
 
-    /// Matches a line, and adds the result to the answers.
+    /// Matches a line in this way, and adds its match to `answers`.
     fn answer(&mut self, line: &str, answers: &mut Answers) -> Result<(), AllocError> {
         match self {
             Way::Shared(pattern) => answers.add_matches(&ask_pattern(pattern, line)?),
@@ -89,7 +89,7 @@ fn ask_fresh<'a>(pattern: &'a Pattern, line: &'a str) -> Result<Option<Matches<'
     pattern.matcher()?.match_against(line)
 }
 
-/// How many lines matched, and a sum over the bytes of all keys and values.
+/// How many lines matched, and a checksum of all keys and values, which depends on their order.
 #[derive(Clone, Copy, Default, PartialEq, Eq)]
 struct Answers {
     matches: u64,
@@ -126,7 +126,7 @@ impl Answers {
     }
 }
 
-/// Matches all lines, and returns the sum of the results.
+/// Matches all lines in this way, and returns how many match, with the checksum of what was found.
 fn ask_all(way: &mut Way<'_>, lines: &[&str]) -> Result<Answers> {
     let mut answers = Answers::default();
     for line in lines {
@@ -135,7 +135,7 @@ fn ask_all(way: &mut Way<'_>, lines: &[&str]) -> Result<Answers> {
     Ok(answers)
 }
 
-/// Returns how many lines match.
+/// Returns how many of the lines match in this way.
 #[inline(never)]
 fn count_matches(way: &mut Way<'_>, lines: &[&str]) -> Result<u64> {
     let mut matches = 0u64;
@@ -164,7 +164,7 @@ fn time_way(rt: &HostRuntime, way: &mut Way<'_>, lines: &[&str], expected: Answe
     Ok(())
 }
 
-/// Measures the time of each way. Its tables are filled by a first round over the lines.
+/// Measures the time of each way to match. A first round over the lines fills the tables of its search.
 fn time_ways(rt: &HostRuntime, pattern: &Pattern, lines: &[&str]) -> Result<()> {
     let expected = ask_all(&mut Way::Fresh(pattern), lines)?;
     time_way(rt, &mut Way::Shared(pattern), lines, expected)?;
@@ -184,11 +184,11 @@ fn time_own_and_find(rt: &HostRuntime, pattern: &Pattern, lines: &[&str]) -> Res
     Ok(())
 }
 
-/// Makes `calls` of the pattern's own calls, over and over the lines.
+/// Calls `match_against` of the pattern `calls` times, on one line after the other, and again from the first line.
 fn repeat(pattern: &Pattern, lines: &[&str], calls: usize) -> Result<()> {
     for number in 0..calls {
-        let place = number.checked_rem(lines.len()).unwrap_or(0);
-        if let Some(line) = lines.get(place) {
+        let index = number.checked_rem(lines.len()).unwrap_or(0);
+        if let Some(line) = lines.get(index) {
             pattern.match_against(line)?;
         }
     }

@@ -13,7 +13,7 @@ pub const LINES: &[u8] = b"p\n#\n\xff";
 /// A run of the program with its input, and its expected output.
 #[derive(Clone, Copy)]
 pub struct Run {
-    /// What the row is a test of.
+    /// What this run tests.
     pub name: &'static str,
     pub words: &'static [&'static str],
     pub input: &'static [u8],
@@ -21,7 +21,7 @@ pub struct Run {
     pub output: &'static str,
 }
 
-/// The defaults of a row: an input that isn't read, and no output.
+/// The run with no words. Other runs take what they don't set from here: an input that isn't read, and no output.
 pub const UNREAD: Run = Run {
     name: "no words",
     words: &[],
@@ -39,8 +39,8 @@ pub struct Case {
 }
 
 impl Case {
-    /// Returns how many reads are right, if a run made `reads` of them: as many, but at least one, if the command
-    /// reads, and otherwise none.
+    /// Returns the expected number of reads of a run that made `reads` of them. If the command reads, any number from
+    /// 1 up is right, so this is `reads`, or 1 if that is 0. Otherwise it is 0.
     pub(crate) fn wanted_reads(&self, reads: usize) -> usize {
         if self.reads { reads.max(1) } else { 0 }
     }
@@ -86,8 +86,8 @@ pub const CASES: [Case; 5] = [
     },
 ];
 
-/// Runs a case on these devices, and checks that it succeeds, writes its output, flushes, and reads all of its input or
-/// none of it.
+/// Runs a case on these devices. Checks that it succeeds, writes its output, and flushes, and that it reads all of
+/// its input if the command reads, and otherwise none of it.
 pub(crate) fn check_run<'a>(
     rt: &(impl Abort + AllocGlobal),
     case: &Case,

@@ -20,7 +20,7 @@ const WIDTHS: [(usize, usize); 10] = [
     (1000, 1000),
 ];
 
-/// Runs a case with each pair of widths, where calls of the reader or of the writer may be interrupted.
+/// Checks a case with each pair of widths. If a device interrupts, every second call of it is interrupted.
 fn check_widths(
     rt: &(impl Abort + AllocGlobal),
     case: &Case,
@@ -56,7 +56,8 @@ fn interrupted_calls_change_no_answer(rt: HostRuntime) -> Result<(), Fail> {
     Ok(())
 }
 
-/// Checks how often the devices of this outcome were called.
+/// Checks that the writer of this outcome was called `writes` times, and the reader `reads` times if the case reads,
+/// and otherwise never.
 fn check_calls(
     rt: &(impl Abort + AllocGlobal),
     outcome: Outcome<'_>,

@@ -1,11 +1,12 @@
-//! Readers and writers that behave as a test tells them to. Their calls are numbered from 0.
+//! Devices, which are readers and writers, that behave as a test asks them to. The calls of each are numbered from 0.
 use std::alloc::Global;
 use std::cell::RefCell;
 use std::io;
 use std::io::{ErrorKind, Read, Write};
 
-/// How the calls of a device fail. Those numbered `bad` and up, but below `good_again`, fail with an error of this
-/// kind. If `interrupts` is set, every second call is interrupted, beginning with the first.
+/// How the calls of a device fail. The calls from number `bad` up to, but not including, `good_again` fail with an
+/// error of the kind `kind`. If `bad` is `None`, no call fails in this way. If `interrupts` is set, every second call
+/// is interrupted, beginning with the first.
 #[derive(Clone, Copy)]
 pub struct Failing {
     pub bad: Option<usize>,
@@ -25,7 +26,7 @@ impl Failing {
         }
     }
 
-    /// Describes a device whose calls fail from this one on.
+    /// Describes a device whose calls fail from call number `bad` on.
     pub(crate) fn since(bad: usize) -> Failing {
         Failing {
             bad: Some(bad),
@@ -33,7 +34,7 @@ impl Failing {
         }
     }
 
-    /// Describes a device on which only this call fails, because it would block.
+    /// Describes a device on which only call number `bad` fails, because it would block.
     pub(crate) fn blocking_at(bad: usize) -> Failing {
         Failing {
             good_again: bad.saturating_add(1),
@@ -42,7 +43,7 @@ impl Failing {
         }
     }
 
-    /// Returns an error if this call fails.
+    /// Returns an error if call number `call` fails, and otherwise `Ok`.
     fn get_through(self, call: usize) -> io::Result<()> {
         if call < self.good_again && self.bad.is_some_and(|bad| bad <= call) {
             return Err(io::Error::from(self.kind));

@@ -13,8 +13,8 @@ struct FailedRead {
     name: &'static str,
     words: &'static [&'static str],
     input: &'static [u8],
-    /// What was written after 0, 1, 2 and so on bytes of the input were read, up to all of them: the answers to the
-    /// lines that had ended by then.
+    /// `before[n]` is all that the program has written when it has read `n` bytes of the input: the answers to the lines
+    /// that end within them.
     before: &'static [&'static str],
 }
 
@@ -89,7 +89,7 @@ const FAILED_READS: &[FailedRead] = &[
     },
 ];
 
-/// Runs on a writer that accepts one byte in each call, and of which one call fails.
+/// Test runs for a writer that accepts one byte in each call until one of its calls fails.
 const FAILED_WRITES: &[Run] = &[
     Run {
         name: "two answers",
@@ -117,8 +117,9 @@ const FAILED_WRITES: &[Run] = &[
     },
 ];
 
-/// Runs the row on a reader that returns one byte in each call and whose call `bad` fails. Checks that the run returns
-/// that error, that it has written these answers, and that it doesn't read again.
+/// Runs the row on a reader that returns one byte in each call, and that fails as `failing` says, first at call
+/// number `bad`. Checks that the run reports a failed read, that it has written the answers `expected`, and that it
+/// doesn't read again.
 fn check_failed_read(
     rt: &(impl Abort + AllocGlobal),
     row: &FailedRead,
@@ -143,8 +144,9 @@ fn check_failed_read(
     );
 }
 
-/// Runs the row on readers that fail or would block after 0, 1, 2 and so on bytes of the input, up to all of them, each
-/// time with and without interrupted calls.
+/// Runs the row on readers that return 0, 1, 2 and so on bytes of the input, up to all of them, and after that fail.
+/// For each number of bytes, one reader fails for good, one would block, and one fails for good and is interrupted in
+/// every second call before.
 fn check_failed_reads(rt: &(impl Abort + AllocGlobal), row: &FailedRead) {
     assert_eq!(rt;
         row.before.len(),
@@ -170,7 +172,8 @@ fn a_failed_read(rt: HostRuntime) -> Result<(), Fail> {
     Ok(())
 }
 
-/// Runs a case that reads, on a reader that always fails. Checks that the run returns that error and writes nothing.
+/// Runs a case that reads, on a reader that always fails. Checks that the run reports a failed read and writes
+/// nothing.
 fn check_first_read(rt: &(impl Abort + AllocGlobal), case: &Case, reader: FakeReader<'_>) {
     let outcome = outcome_of(rt, case.words, reader, FakeWriter::new(rt.alloc()), "");
     check_outcome(
@@ -199,8 +202,8 @@ fn a_reader_that_always_fails(rt: HostRuntime) -> Result<(), Fail> {
     Ok(())
 }
 
-/// Runs a case on this writer. Checks that the run reports a failed write, that the writer has the first `count` bytes
-/// of the output, and how often it was called.
+/// Runs a case on this writer. Checks that the run reports a failed write, that the writer has the first `count`
+/// bytes of the output, and that it was called `writes` times.
 fn check_failed_write(
     rt: &(impl Abort + AllocGlobal),
     case: &Case,
@@ -224,8 +227,8 @@ fn check_failed_write(
     );
 }
 
-/// Runs a case on a writer that accepts one byte in each call and whose call `bad` fails. Checks that nothing is
-/// written after that.
+/// Runs a case on a writer that accepts one byte in each call, and that fails as `failing` says, first at call number
+/// `bad`. Checks that the writer isn't called after that.
 fn check_failed_call(rt: &(impl Abort + AllocGlobal), case: &Case, failing: Failing, bad: usize) {
     let mut writer = FakeWriter::new(rt.alloc());
     writer.most = 1;
@@ -277,8 +280,8 @@ fn a_failed_write_of_an_answer(rt: HostRuntime) -> Result<(), Fail> {
     Ok(())
 }
 
-/// Runs the row on a writer that accepts one byte in each call and whose call `bad` fails. Checks that the bytes before
-/// that were written.
+/// Runs the row on a writer that accepts one byte in each call, and that fails from call number `bad` on. Checks that
+/// the first `bad` bytes of the output were written.
 fn check_failed_byte(rt: &(impl Abort + AllocGlobal), row: &Run, bad: usize) {
     let mut writer = FakeWriter::new(rt.alloc());
     writer.most = 1;
@@ -349,7 +352,8 @@ fn answers_go_out_before_each_read(rt: HostRuntime) -> Result<(), Fail> {
     Ok(())
 }
 
-/// Returns how a run of these words ends on a writer that accepts 50,000 bytes in each call and fails in this way.
+/// Returns how a run of these words ends on a writer that accepts 50,000 bytes in each call and fails as `failing`
+/// says.
 fn failed_ending(rt: &impl AllocGlobal, words: &[&str], input: &[u8], failing: Failing) -> Ending {
     let mut writer = FakeWriter::new(rt.alloc());
     writer.most = 50_000;
@@ -376,7 +380,7 @@ fn check_each_write(rt: &(impl Abort + AllocGlobal), words: &[&str], input: &[u8
     );
 }
 
-/// A command that reads writes before its second read and at its end. Any other command writes once.
+/// A command that reads its input writes before its second read and at its end. Any other command writes once.
 #[test]
 fn a_failed_write_of_what_was_held(rt: HostRuntime) -> Result<(), Fail> {
     for case in CASES {

@@ -7,8 +7,8 @@ use std::alloc::{AllocError, Global};
 use std::process::Abort;
 use std::test::Fail;
 
-/// Runs the words on this input, of which each call reads at most `most` bytes. Checks that all of it is read, and how
-/// many bytes are written.
+/// Runs the words on this input, of which each call reads at most `most` bytes. Checks that all of it is read, and
+/// that `written` bytes are written. Returns how many reads there were.
 fn check_large(
     rt: &(impl Abort + AllocGlobal),
     words: &[&str],

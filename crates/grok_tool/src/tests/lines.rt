@@ -135,7 +135,7 @@ const ROWS: &[Run] = &[
     },
 ];
 
-/// Runs on four lines, of which the last one has no line feed, and what they write in two writes.
+/// Test runs on four lines, of which the last one has no line feed. Each run writes its output in two writes.
 const WRITES: &[Run] = &[
     Run {
         name: "answers",

@@ -44,7 +44,7 @@ pub(crate) fn outcome_at<'a>(
     }
 }
 
-/// Returns the kind of a fault.
+/// Returns the way in which a run with this fault ended.
 pub(crate) fn ending_at(fault: &ToolFault) -> Ending {
     match fault {
         ToolFault::Pattern(_) => Ending::Pattern,
@@ -132,7 +132,7 @@ pub(crate) fn check_outcome(
     assert_eq!(rt; outcome, wanted, "{name}");
 }
 
-/// Checks that the run of the row ends in this way before a device is called.
+/// Checks that `outcome` is that of a run of the row which ended as `ending` says, and which called no device.
 pub(crate) fn check_untouched(
     rt: &(impl Abort + AllocGlobal),
     row: &Run,

@@ -133,7 +133,7 @@ const LISTS: &[Run] = &[
     },
 ];
 
-/// Patterns that use the doublings up to `D61`, and the line that `measure` writes for each.
+/// Patterns that use the doublings up to `D61` (see `doublings`), and the line that `measure` writes for each.
 const DOUBLED: &[Run] = &[
     Run {
         name: "a length that is a number",
@@ -156,7 +156,8 @@ const LONG_TEXTS: &[&str] = &[
     "\nD70: too long\nD8: ",
 ];
 
-/// Returns the doublings: the word `D0=a`, and then words that each define a name as twice the one before.
+/// Returns the doublings up to the number `last`, as words that define them: `D0=a`, `D1=%{D0}%{D0}`, `D2=%{D1}%{D1}`
+/// and so on.
 fn doublings(alloc: Global, last: u8) -> Result<Vec<String>, AllocError> {
     let mut words = vec![in alloc; String::from_str(alloc, "D0=a")?]?;
     for i in 0..last {
@@ -166,7 +167,7 @@ fn doublings(alloc: Global, last: u8) -> Result<Vec<String>, AllocError> {
     Ok(words)
 }
 
-/// Returns these words, followed by the doublings.
+/// Returns the words `first`, followed by the words `doublings`.
 fn with_doublings<'a>(
     alloc: Global,
     first: &[&'a str],
@@ -180,7 +181,7 @@ fn with_doublings<'a>(
     Ok(words)
 }
 
-/// Runs words that succeed and read nothing, and returns what they write in one write.
+/// Runs the words, and returns what is written. Checks that the run succeeds, reads nothing, and writes once.
 fn written(rt: &(impl Abort + AllocGlobal), name: &str, words: &[&str]) -> Vec<u8> {
     let mut reader = FakeReader::new(UNREAD.input);
     let mut writer = FakeWriter::new(rt.alloc());
@@ -202,8 +203,8 @@ fn written(rt: &(impl Abort + AllocGlobal), name: &str, words: &[&str]) -> Vec<u
     writer.taken
 }
 
-/// Runs a row with these words after its own. Checks that it succeeds, reads nothing, and writes its output in one
-/// write.
+/// Runs a row with the words `more` after its own. Checks that it succeeds, reads nothing, and writes its output in
+/// one write.
 fn check_written(
     rt: &(impl Abort + AllocGlobal),
     row: &Run,

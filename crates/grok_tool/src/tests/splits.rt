@@ -45,7 +45,7 @@ const PIECES: &[Run] = &[
     SEVERAL,
 ];
 
-/// A pattern with two pieces and a fault.
+/// A run of `split` with a pattern that has two pieces and a fault.
 const SEVERAL: Run = Run {
     name: "two pieces and a fault",
     words: &["split", "a%{b}%{c!}"],

@@ -4,7 +4,8 @@ use Rattle.grok.specs.declared.measure.mode.MeasureMode.{MeasureMode}
 use Rattle.grok.specs.Items.{item_view}
 use Rattle.grok.specs.FaultPlaces.{fault_within}
 use Rattle.grok.specs.FirstWrong.{IsResolvedItem, IsWrong}
-use Rattle.grok.proofs.Trees.FirstFaultIsLocated.{placing_starts, next_resolved, placing_goes, placing_stands}
+use Rattle.grok.proofs.Trees.FirstFaultIsLocated.{placing_starts, next_resolved, placing_goes}
+use Rattle.grok.proofs.Trees.ItemsStandAtPieces.{reading_stands}
 use Rattle.grok.proofs.locate.first_wrong.Goals as goal
 
 pub items-init : goal.items-init
@@ -43,9 +44,9 @@ returns-in-Some-2-clause-wrong c known =
     let p = c.items.invariant.placing known in
     let resolved = subst (λ (mode : MeasureMode). IsResolvedItem (finite.get mode.grok.now) item) (sym mode) (next_resolved stored c.args.levels c.args.text.now c.items.pieces c.items.items c.items.begin p item rest cut) in
     record {
-      before = p.before;
+      before = p.reading.before;
       item = item;
-      stands = placing_stands stored c.args.levels c.args.text.now c.items.pieces c.items.items c.items.begin p item rest cut c.next-in-Some.result c.next-in-Some.new.self c.next-in-Some.ensures.steps c.end_of-end.result c.end_of-end.ensures;
+      stands = reading_stands stored c.args.text.now c.items.pieces c.items.items c.items.begin p.reading item rest cut c.next-in-Some.result c.next-in-Some.new.self c.next-in-Some.ensures.steps c.end_of-end.result c.end_of-end.ensures;
       clean = p.clean;
       wrong = subst (λ (mode : MeasureMode). IsWrong (finite.get mode.grok.now) c.args.levels item c.in-Some-2.wrong) mode (rw c.in-Some-2.is at (c.in_ok-wrong.ensures.wrong (c.items.invariant.known known) resolved));
     }

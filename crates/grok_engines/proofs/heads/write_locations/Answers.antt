@@ -14,7 +14,7 @@ all_groups-preserved c =
     let new : located_texts line c.push.new.self.items ≡ located_texts line old ++ option_map (located_text line) c.location_at.result ∷ [] =
     rw c.in_ok-push.ensures.items (map-append (option_map (located_text line)) old (c.location_at.result ∷ [])) in (
       rw (new, c.all_groups.invariant.0, c.location_at.ensures.text)
-          (sym (map-range_with_len_more (line_at line) 0 c.all_groups.place c.all_groups.place (zero-add _))),
+          (sym (map-range_with_len_more (line_at line) 0 c.all_groups.group c.all_groups.group (zero-add _))),
       rw c.in_ok-push.ensures.items (All-push (λ location. ForSome location (IsLocationIn line)) _ _ c.all_groups.invariant.1 c.location_at.ensures.inside),
       search rules,
     )

@@ -6,5 +6,5 @@ use Rattle.grok_engines.proofs.heads.write_locations.Given as goal
 
 abbrev pub invariant-all_groups : goal.invariant-all_groups
 invariant-all_groups l =
-    (located_texts l.line l.locations.items ≡ map (line_at l.line) (range_with_len 0 l.place)) × AreLocationsIn l.line l.locations.items
-    × (vec_len l.locations ≡ l.place)
+    (located_texts l.line l.locations.items ≡ map (line_at l.line) (range_with_len 0 l.group)) × AreLocationsIn l.line l.locations.items
+    × (vec_len l.locations ≡ l.group)

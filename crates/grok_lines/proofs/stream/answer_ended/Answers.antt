@@ -1,4 +1,4 @@
-use Rattle.std.proofs.Common.{◌≡◌, ◌≤◌, ◌+◌, take, drop, length, IfSome, MatchResult, List, ℕ, [], ◌-◌, Bor, Result, Ok, Err, refl, sym, ◌∙◌, arith}
+use Rattle.std.proofs.Common.{◌≡◌, ◌≤◌, ◌+◌, take, drop, length, IfSome, MatchResult, List, ℕ, [], ◌-◌, Bor, Result, Ok, Err, sym, ◌∙◌, arith}
 use Rattle.std.specs.Io.KnownBytes.{Appends, append_known}
 use Rattle.std.specs.Result.{result_ok}
 use Rattle.simdutf8.specs.declared.basic.Utf8Error.{Utf8Error}
@@ -7,7 +7,8 @@ use Rattle.std.proofs.lemmas.Str.{IsCharBoundary-start, IsCharBoundary-before_as
 use Rattle.grok_lines.proofs.LineFeeds.{next_line, no_line}
 use Rattle.grok_lines.proofs.Appending.{appends_still}
 use Rattle.grok_lines.proofs.Held.{held_more}
-use Rattle.grok_lines.proofs.Steps.{fed_start, fed_step, fed_end}
+use Rattle.grok_lines.specs.Streams.{AreAnswersAfter}
+use Rattle.grok_lines.proofs.Steps.{fed_start, fed_step, fed_end, fed_end_next}
 use Rattle.grok_lines.proofs.stream.answer_ended.Goals.{in-Some-utf8+in_ok-answer_str-in-Some-utf8, in-None-utf8+in_ok-answer_line-in-None-utf8}
 use Rattle.grok_lines.proofs.stream.answer_ended.Goals as goal
 
@@ -19,7 +20,6 @@ text_of_lines lines (Err error) h = tt
 pub lines-init : goal.lines-init
 lines-init g c = record {
   fed = fed_start (g.A.LineAnswers.answer c.args.answers.now) (append_known (g.W.Write.contents c.args.output.now) c.args.held.now.items) c.args.lines.now;
-  same = refl;
   feeds = c.into_iter-end-iterator.ensures.into_iter_gives ∙ c.memchr_iter-end-items.ensures.value;
   start = omega arith;
   utf8 = rw c.ok-utf8.ensures.value (text_of_lines c.args.lines.now c.from_utf8.result c.from_utf8.ensures);
@@ -56,34 +56,34 @@ slice_bounds-answer_line-end g c =
 pub lines-preserved : goal.lines-preserved
 lines-preserved g c =
     let f = g.A.LineAnswers.answer c.args.answers.now in
+    let by = g.A.LineAnswers.answer c.lines.answers in
     let old = append_known (g.W.Write.contents c.args.output.now) c.args.held.now.items in
     let now = append_known (g.W.Write.contents c.lines.output) c.lines.held.items in
     let new = append_known (g.W.Write.contents c.send_long.new.output) c.send_long.new.held.items in
     let lines = c.args.lines.now in
     let ends = next_line lines c.lines.start c.in-Some.end c.next.new.self c.lines.invariant.start (sym c.lines.invariant.feeds ∙ c.in-Some.ensures.steps) in
     let line = take (c.in-Some.end - c.lines.start) (drop c.lines.start lines) in
-    let step = λ (sent : Appends now new (f line)). fed_step f old now new lines [] (drop c.lines.start lines) line (drop (c.in-Some.end + 1) lines) c.lines.invariant.fed tt ends.line ends.cut sent in
+    let step = λ (then : ℕ → List ℕ → List ℕ) (sent : Appends now new (by 0 line)) (next : AreAnswersAfter 1 by then).
+    fed_step f by then old now new lines [] (drop c.lines.start lines) line (drop (c.in-Some.end + 1) lines) c.lines.invariant.fed tt ends.line ends.cut sent next in
     let after : c.in-Some.end + 1 ≤ length lines = omega (arith, ends.high) in
     elim c.match-utf8.branch [
       | in-Some-utf8+in_ok-answer_str-in-Some-utf8 w ↦
           let text = rw w.in-Some-utf8.is at c.lines.invariant.utf8 in
-          let more = rw (c.lines.invariant.same, w.range.ensures.value, text.0) at w.in_ok-answer_str-in-Some-utf8.ensures.ok in
-          let held = rw (← w.held-is) at (held_more (g.W.Write.contents c.lines.output) c.lines.held.items w.answer_str.new.text.items (f line) more) in
-          let sent : Appends now new (f line) = appends_still now _ new (f line) held c.in_ok-send_long.ensures.ok in
+          let more = rw (w.range.ensures.value, text.0) at w.in_ok-answer_str-in-Some-utf8.ensures.ok in
+          let held = rw (← w.held-is) at (held_more (g.W.Write.contents c.lines.output) c.lines.held.items w.answer_str.new.text.items (by 0 line) more) in
+          let sent : Appends now new (by 0 line) = appends_still now _ new (by 0 line) held c.in_ok-send_long.ensures.ok in
           record {
-            fed = step sent;
-            same = rw w.answers-is (w.in_ok-answer_str-in-Some-utf8.ensures.same ∙ c.lines.invariant.same);
+            fed = rw w.answers-is (step (g.A.LineAnswers.answer w.answer_str.new.self) sent w.in_ok-answer_str-in-Some-utf8.ensures.next);
             feeds = ends.later;
             start = after;
             utf8 = rw w.in-Some-utf8.is (text.0, text.1, IsCharBoundary-after_ascii lines c.in-Some.end text.1 ends.high (omega (arith, ends.feed)));
           }
       | in-None-utf8+in_ok-answer_line-in-None-utf8 w ↦
-          let more = rw c.lines.invariant.same at w.in_ok-answer_line-in-None-utf8.ensures.ok in
-          let held = rw (← w.held-is) at (held_more (g.W.Write.contents c.lines.output) c.lines.held.items w.answer_line.new.text.items (f line) more) in
-          let sent : Appends now new (f line) = appends_still now _ new (f line) held c.in_ok-send_long.ensures.ok in
+          let more = w.in_ok-answer_line-in-None-utf8.ensures.ok in
+          let held = rw (← w.held-is) at (held_more (g.W.Write.contents c.lines.output) c.lines.held.items w.answer_line.new.text.items (by 0 line) more) in
+          let sent : Appends now new (by 0 line) = appends_still now _ new (by 0 line) held c.in_ok-send_long.ensures.ok in
           record {
-            fed = step sent;
-            same = rw w.answers-is (w.in_ok-answer_line-in-None-utf8.ensures.same ∙ c.lines.invariant.same);
+            fed = rw w.answers-is (step (g.A.LineAnswers.answer w.answer_line.new.self) sent w.in_ok-answer_line-in-None-utf8.ensures.next);
             feeds = ends.later;
             start = after;
             utf8 = rw w.in-None-utf8.is tt;
@@ -93,4 +93,9 @@ lines-preserved g c =
 pub returns-clause-ok : goal.returns-clause-ok
 returns-clause-ok g c =
     let none = no_line c.args.lines.now c.lines.start c.lines.invariant.start (sym c.lines.invariant.feeds ∙ c.in-None.ensures.steps.0) in
-    (fed_end (g.A.LineAnswers.answer c.args.answers.now) _ _ _ (drop c.lines.start c.args.lines.now) c.lines.invariant.fed none).0
+    (fed_end (g.A.LineAnswers.answer c.args.answers.now) _ _ _ _ (drop c.lines.start c.args.lines.now) c.lines.invariant.fed none).0
+
+pub returns-clause-next : goal.returns-clause-next
+returns-clause-next g c =
+    let none = no_line c.args.lines.now c.lines.start c.lines.invariant.start (sym c.lines.invariant.feeds ∙ c.in-None.ensures.steps.0) in
+    fed_end_next (g.A.LineAnswers.answer c.args.answers.now) _ _ _ _ (drop c.lines.start c.args.lines.now) c.lines.invariant.fed none

@@ -5,25 +5,31 @@ use Rattle.grok_lines.proofs.Held.{held_more}
 use Rattle.grok_lines.specs.Lines.{IsLine, ended_lines_of}
 use Rattle.grok_lines.proofs.LineLemmas.{line-append}
 use Rattle.grok_lines.proofs.LineLaws.{no_line_holds_a_line_feed}
-use Rattle.grok_lines.proofs.Steps.{fed_start, fed_first, fed_end, fed_whole, fed_begun, begun_whole}
+use Rattle.grok_lines.proofs.Steps.{fed_start, fed_first, fed_end, fed_end_next, fed_whole, fed_whole_next, fed_begun, begun_whole}
 use Rattle.grok_lines.proofs.stream.feed.Goals as goal
 
 pub returns-in_default-clause-ok : goal.returns-in_default-clause-ok
 returns-in_default-clause-ok g c =
     let f = g.A.LineAnswers.answer c.args.answers.now in
     let all = c.args.partial_line.now.items ++ c.args.block.now in
-    (fed_end f _ _ all all (fed_start f (append_known (g.W.Write.contents c.args.output.now) c.args.held.now.items) all) (line-append c.args.partial_line.now.items c.args.block.now c.requires c.in_default.ensures)).0
+    (fed_end f f _ _ all all (fed_start f (append_known (g.W.Write.contents c.args.output.now) c.args.held.now.items) all) (line-append c.args.partial_line.now.items c.args.block.now c.requires c.in_default.ensures)).0
 
 pub returns-in_default-clause-partial_line : goal.returns-in_default-clause-partial_line
 returns-in_default-clause-partial_line g c =
     let f = g.A.LineAnswers.answer c.args.answers.now in
     let all = c.args.partial_line.now.items ++ c.args.block.now in
     c.in_ok-extend_from_slice.ensures.items
-    ∙ (fed_end f _ _ all all (fed_start f (append_known (g.W.Write.contents c.args.output.now) c.args.held.now.items) all) (line-append c.args.partial_line.now.items c.args.block.now c.requires c.in_default.ensures)).1
+    ∙ (fed_end f f _ _ all all (fed_start f (append_known (g.W.Write.contents c.args.output.now) c.args.held.now.items) all) (line-append c.args.partial_line.now.items c.args.block.now c.requires c.in_default.ensures)).1
 
 pub returns-in_default-clause-is_line : goal.returns-in_default-clause-is_line
 returns-in_default-clause-is_line g c =
     rw c.in_ok-extend_from_slice.ensures.items (line-append c.args.partial_line.now.items c.args.block.now c.requires c.in_default.ensures)
+
+pub returns-in_default-clause-next : goal.returns-in_default-clause-next
+returns-in_default-clause-next g c =
+    let f = g.A.LineAnswers.answer c.args.answers.now in
+    let all = c.args.partial_line.now.items ++ c.args.block.now in
+    fed_end_next f f _ _ all all (fed_start f (append_known (g.W.Write.contents c.args.output.now) c.args.held.now.items) all) (line-append c.args.partial_line.now.items c.args.block.now c.requires c.in_default.ensures)
 
 pub returns-in_err-answer_ended-clause-memory : goal.returns-in_err-answer_ended-clause-memory
 returns-in_err-answer_ended-clause-memory g c = λ h.
@@ -32,9 +38,10 @@ returns-in_err-answer_ended-clause-memory g c = λ h.
     let now = append_known (g.W.Write.contents c.args.output.now) c.answer_line.new.text.items in
     let p = err_from_is_err_and c.from_residual-in_err-answer_ended.result c.from_residual-in_err-answer_ended.ensures.1 in
     let sent = held_more (g.W.Write.contents c.args.output.now) c.args.held.now.items c.answer_line.new.text.items _ (rw (c.deref.ensures.value, c.in_ok-extend_from_slice-2.ensures.items) at c.in_ok-answer_line.ensures.ok) in
-    let fed = fed_first f old now c.args.partial_line.now.items c.args.block.now c.in-Some.line.now c.in-Some.after.now c.requires c.in-Some.ensures.0 c.in-Some.ensures.1 sent in
-    let begun = rw (c.in_ok-answer_line.ensures.same, c.split_ended.ensures.ended) at (c.in_err-answer_ended.ensures.memory (rw (← p.2) (sym p.1 ∙ h))) in
-    fed_begun f old now (append_known (g.W.Write.contents c.answer_ended.new.output) c.answer_ended.new.held.items) (c.args.partial_line.now.items ++ c.args.block.now) c.in-Some.after.now fed begun
+    let by = g.A.LineAnswers.answer c.answer_line.new.self in
+    let fed = fed_first f by old now c.args.partial_line.now.items c.args.block.now c.in-Some.line.now c.in-Some.after.now c.requires c.in-Some.ensures.0 c.in-Some.ensures.1 sent c.in_ok-answer_line.ensures.next in
+    let begun = rw c.split_ended.ensures.ended at (c.in_err-answer_ended.ensures.memory (rw (← p.2) (sym p.1 ∙ h))) in
+    fed_begun f by old now (append_known (g.W.Write.contents c.answer_ended.new.output) c.answer_ended.new.held.items) (c.args.partial_line.now.items ++ c.args.block.now) c.in-Some.after.now fed begun
 
 pub returns-clause-ok : goal.returns-clause-ok
 returns-clause-ok g c =
@@ -42,9 +49,21 @@ returns-clause-ok g c =
     let old = append_known (g.W.Write.contents c.args.output.now) c.args.held.now.items in
     let now = append_known (g.W.Write.contents c.args.output.now) c.answer_line.new.text.items in
     let sent = held_more (g.W.Write.contents c.args.output.now) c.args.held.now.items c.answer_line.new.text.items _ (rw (c.deref.ensures.value, c.in_ok-extend_from_slice-2.ensures.items) at c.in_ok-answer_line.ensures.ok) in
-    let fed = fed_first f old now c.args.partial_line.now.items c.args.block.now c.in-Some.line.now c.in-Some.after.now c.requires c.in-Some.ensures.0 c.in-Some.ensures.1 sent in
-    let others = rw (c.in_ok-answer_line.ensures.same, c.split_ended.ensures.ended) at c.in_ok-answer_ended.ensures.ok in
-    fed_whole f old now (append_known (g.W.Write.contents c.answer_ended.new.output) c.answer_ended.new.held.items) (c.args.partial_line.now.items ++ c.args.block.now) c.in-Some.after.now fed others
+    let by = g.A.LineAnswers.answer c.answer_line.new.self in
+    let fed = fed_first f by old now c.args.partial_line.now.items c.args.block.now c.in-Some.line.now c.in-Some.after.now c.requires c.in-Some.ensures.0 c.in-Some.ensures.1 sent c.in_ok-answer_line.ensures.next in
+    let others = rw c.split_ended.ensures.ended at c.in_ok-answer_ended.ensures.ok in
+    fed_whole f by old now (append_known (g.W.Write.contents c.answer_ended.new.output) c.answer_ended.new.held.items) (c.args.partial_line.now.items ++ c.args.block.now) c.in-Some.after.now fed others
+
+pub returns-clause-next : goal.returns-clause-next
+returns-clause-next g c =
+    let f = g.A.LineAnswers.answer c.args.answers.now in
+    let old = append_known (g.W.Write.contents c.args.output.now) c.args.held.now.items in
+    let now = append_known (g.W.Write.contents c.args.output.now) c.answer_line.new.text.items in
+    let sent = held_more (g.W.Write.contents c.args.output.now) c.args.held.now.items c.answer_line.new.text.items _ (rw (c.deref.ensures.value, c.in_ok-extend_from_slice-2.ensures.items) at c.in_ok-answer_line.ensures.ok) in
+    let by = g.A.LineAnswers.answer c.answer_line.new.self in
+    let fed = fed_first f by old now c.args.partial_line.now.items c.args.block.now c.in-Some.line.now c.in-Some.after.now c.requires c.in-Some.ensures.0 c.in-Some.ensures.1 sent c.in_ok-answer_line.ensures.next in
+    let then = g.A.LineAnswers.answer c.answer_ended.new.answers in
+    fed_whole_next f by then old now (c.args.partial_line.now.items ++ c.args.block.now) c.in-Some.after.now fed (rw c.split_ended.ensures.ended at c.in_ok-answer_ended.ensures.next)
 
 pub returns-in_err-extend_from_slice-3-clause-memory : goal.returns-in_err-extend_from_slice-3-clause-memory
 returns-in_err-extend_from_slice-3-clause-memory g c = λ h.
@@ -54,16 +73,18 @@ returns-in_err-extend_from_slice-3-clause-memory g c = λ h.
     let new = append_known (g.W.Write.contents c.answer_ended.new.output) c.answer_ended.new.held.items in
     let all = c.args.partial_line.now.items ++ c.args.block.now in
     let sent = held_more (g.W.Write.contents c.args.output.now) c.args.held.now.items c.answer_line.new.text.items _ (rw (c.deref.ensures.value, c.in_ok-extend_from_slice-2.ensures.items) at c.in_ok-answer_line.ensures.ok) in
-    let fed = fed_first f old now c.args.partial_line.now.items c.args.block.now c.in-Some.line.now c.in-Some.after.now c.requires c.in-Some.ensures.0 c.in-Some.ensures.1 sent in
-    let others = rw (c.in_ok-answer_line.ensures.same, c.split_ended.ensures.ended) at c.in_ok-answer_ended.ensures.ok in
-    begun_whole f old new (ended_lines_of all) (fed_whole f old now new all c.in-Some.after.now fed others)
+    let by = g.A.LineAnswers.answer c.answer_line.new.self in
+    let fed = fed_first f by old now c.args.partial_line.now.items c.args.block.now c.in-Some.line.now c.in-Some.after.now c.requires c.in-Some.ensures.0 c.in-Some.ensures.1 sent c.in_ok-answer_line.ensures.next in
+    let others = rw c.split_ended.ensures.ended at c.in_ok-answer_ended.ensures.ok in
+    begun_whole f old new (ended_lines_of all) (fed_whole f by old now new all c.in-Some.after.now fed others)
 
 pub returns-clause-partial_line : goal.returns-clause-partial_line
 returns-clause-partial_line g c =
     let f = g.A.LineAnswers.answer c.args.answers.now in
     let sent = held_more (g.W.Write.contents c.args.output.now) c.args.held.now.items c.answer_line.new.text.items _ (rw (c.deref.ensures.value, c.in_ok-extend_from_slice-2.ensures.items) at c.in_ok-answer_line.ensures.ok) in
-    let fed = fed_first f (append_known (g.W.Write.contents c.args.output.now) c.args.held.now.items) (append_known (g.W.Write.contents c.args.output.now) c.answer_line.new.text.items) c.args.partial_line.now.items c.args.block.now
-    c.in-Some.line.now c.in-Some.after.now c.requires c.in-Some.ensures.0 c.in-Some.ensures.1 sent in
+    let by = g.A.LineAnswers.answer c.answer_line.new.self in
+    let fed = fed_first f by (append_known (g.W.Write.contents c.args.output.now) c.args.held.now.items) (append_known (g.W.Write.contents c.args.output.now) c.answer_line.new.text.items) c.args.partial_line.now.items c.args.block.now
+    c.in-Some.line.now c.in-Some.after.now c.requires c.in-Some.ensures.0 c.in-Some.ensures.1 sent c.in_ok-answer_line.ensures.next in
     c.in_ok-extend_from_slice-3.ensures.items ∙ rw c.clear.ensures.items (c.split_ended.ensures.rest ∙ sym fed.unended)
 
 pub returns-clause-is_line : goal.returns-clause-is_line

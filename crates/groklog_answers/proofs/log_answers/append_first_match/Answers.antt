@@ -17,18 +17,18 @@ pub returns-then-branch-clause-is_match : goal.returns-then-branch-clause-is_mat
 returns-then-branch-clause-is_match c =
     let inside : c.searches.i < length c.searches.searches = omega arith in
     let is = sym c.if-branch.true ∙ c.in_ok-append_answer.ensures.is_match in
-    is ∙ ap is_some (sym (found_at searched c.searches.searches (map searched c.args.searches.now) c.searches.i c.index-searches-i.result c.args.line.now
+    is ∙ ap is_some (sym (found_at searched c.searches.searches (map searched c.args.searches.now) c.searches.i c.index-searches-i.result c.args.line.text.now
     c.searches.invariant.same inside c.searches.invariant.rest is))
 
 pub returns-then-branch-clause-matched : goal.returns-then-branch-clause-matched
 returns-then-branch-clause-matched c _ =
     let inside : c.searches.i < length c.searches.searches = omega arith in
     let is = sym c.if-branch.true ∙ c.in_ok-append_answer.ensures.is_match in
-    let found = found_at searched c.searches.searches (map searched c.args.searches.now) c.searches.i c.index-searches-i.result c.args.line.now
+    let found = found_at searched c.searches.searches (map searched c.args.searches.now) c.searches.i c.index-searches-i.result c.args.line.text.now
     c.searches.invariant.same inside c.searches.invariant.rest is in
     c.in_ok-append_answer.ensures.matched c.if-branch.true
-    ∙ ap (λ found. c.searches.answer.items ++ answer_by (layout_value c.args.layout) found c.args.line.now) (sym found)
-    ∙ ap (λ before. before ++ answer_by (layout_value c.args.layout) (first_match (map searched c.args.searches.now) c.args.line.now) c.args.line.now)
+    ∙ ap (λ found. c.searches.answer.items ++ answer_by (layout_value c.args.layout) found c.args.line.number c.args.line.text.now) (sym found)
+    ∙ ap (λ before. before ++ answer_by (layout_value c.args.layout) (first_match (map searched c.args.searches.now) c.args.line.text.now) c.args.line.number c.args.line.text.now)
     c.searches.invariant.answer
 
 pub returns-then-branch-clause-same : goal.returns-then-branch-clause-same
@@ -43,7 +43,7 @@ searches-preserved c =
     record {
       same = map-set_same searched c.searches.searches c.searches.i c.append_answer.new.self c.index-searches-i.result c.append_answer.ensures.same
           ∙ c.searches.invariant.same;
-      rest = left_after searched c.searches.searches (map searched c.args.searches.now) c.searches.i c.index-searches-i.result c.args.line.now
+      rest = left_after searched c.searches.searches (map searched c.args.searches.now) c.searches.i c.index-searches-i.result c.args.line.text.now
           c.searches.invariant.same inside c.searches.invariant.rest is;
       answer = c.in_ok-append_answer.ensures.unmatched c.if-branch.false ∙ c.searches.invariant.answer;
     }

@@ -6,6 +6,6 @@ use Rattle.groklog_answers.proofs.log_answers.append_first_match.Given as goal
 abbrev pub invariant-searches : goal.invariant-searches
 invariant-searches l = record {
   same : map searched l.searches ≡ map searched l.fn.searches;
-  rest : first_match (drop l.i (map searched l.fn.searches)) l.fn.line ≡ first_match (map searched l.fn.searches) l.fn.line;
+  rest : first_match (drop l.i (map searched l.fn.searches)) l.fn.line.text.now ≡ first_match (map searched l.fn.searches) l.fn.line.text.now;
   answer : l.answer.items ≡ l.fn.answer.items;
 }

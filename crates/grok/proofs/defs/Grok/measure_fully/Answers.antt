@@ -5,7 +5,7 @@ use Rattle.grok.specs.Tree as tree
 use Rattle.grok.specs.MeasuredOnce.{State, items_within, nothing_measured}
 use Rattle.grok.specs.MeasureCache.{ShowsState, StopsReading, measure_view}
 use Rattle.grok.proofs.Sizes.MeasuringAgain.{answer_is, nothing_true}
-use Rattle.grok.proofs.Sizes.MeasureIsCounted.{pieces_most, ends_most, pieces_all, ends_all, pieces_read, ends_read, numbered_alias_is}
+use Rattle.grok.proofs.Sizes.MeasureIsCounted.{pieces_most, ends_most, pieces_all, ends_all, pieces_read, ends_read, numbered_is}
 use Rattle.grok.proofs.defs.Grok.measure_fully.Goals as goal
 
 pub returns : goal.returns
@@ -31,5 +31,5 @@ returns c =
         read_pieces = pieces_read texts alias_only pattern r frames cache stops;
         read_ends = ends_read texts alias_only pattern r frames cache stops;
       };
-      numbered_alias = numbered_alias_is texts alias_only pattern r frames cache stops;
+      numbered = numbered_is texts alias_only pattern r frames cache stops;
     }

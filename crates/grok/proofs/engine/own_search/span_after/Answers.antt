@@ -11,9 +11,9 @@ pub returns-then-marks-clause-span : goal.returns-then-marks-clause-span
 returns-then-marks-clause-span c =
     let p = c.args.program.now in
     let hay = c.args.hay.now in
-    ∥∥₁_elim c.requires.marked (Coded-set (coded_option (coded× coded_ℕ coded_ℕ)) None (option_map span (leftmost p hay (c.args.place + 1)))) (λ marks.
-    sym (ap (option_map span) (anchored_later (pattern_of p) hay (marks.start c.if-marks.true) (c.args.place + 1) (omega arith))))
+    ∥∥₁_elim c.requires.marked (Coded-set (coded_option (coded× coded_ℕ coded_ℕ)) None (option_map span (leftmost p hay (c.args.position + 1)))) (λ marks.
+    sym (ap (option_map span) (anchored_later (pattern_of p) hay (marks.start c.if-marks.true) (c.args.position + 1) (omega arith))))
 
-pub returns-then-place-hay-clause-span : goal.returns-then-place-hay-clause-span
-returns-then-place-hay-clause-span c =
-    sym (ap (option_map span) (leftmost_beyond c.args.program.now c.args.hay.now (c.args.place + 1) (omega arith)))
+pub returns-then-position-hay-clause-span : goal.returns-then-position-hay-clause-span
+returns-then-position-hay-clause-span c =
+    sym (ap (option_map span) (leftmost_beyond c.args.program.now c.args.hay.now (c.args.position + 1) (omega arith)))

@@ -1,20 +1,17 @@
 use Rattle.std.proofs.Common.{◌∙◌, ap, subst, length}
 use Rattle.grok.specs.Captures.{AreSlicesOf, capture_texts}
-use Rattle.grok.proofs.Captures.CapturesAreOfMatch.{captured, uncaptured}
+use Rattle.grok.proofs.Captures.CapturesAreOfMatch.{captured, uncaptured, listed}
 use Rattle.grok.proofs.engine.regex_engine.captures_uncached.Goals as goal
 
-pub returns-in-Some-clause-answer : goal.returns-in-Some-clause-answer
-returns-in-Some-clause-answer c =
+pub returns-in-Some : goal.returns-in-Some
+returns-in-Some c =
     let found = c.in-Some.ensures.found in
-    captured _ _ _ c.in-Some.found found.0 _ (rw c.in_ok-matcher.ensures.pattern at found.1) found.2
-    (c.in-Some.ensures.names ∙ c.in_ok-matcher.ensures.names) c.in_ok-group_texts-in-Some.ensures.texts
+    let texts = c.in_ok-group_texts-in-Some in
+    let names = c.in-Some.ensures.names ∙ c.in_ok-matcher.ensures.names in
+    listed texts.field-0
+    (captured _ _ _ c.in-Some.found found.0 _ (rw c.in_ok-matcher.ensures.pattern at found.1) found.2 names texts.ensures.texts)
+    (texts.ensures.count ∙ ap length names)
+    (subst (λ line. AreSlicesOf line (capture_texts texts.field-0.items)) found.2.0 texts.ensures.slices)
 
-pub returns-in-Some-clause-slices : goal.returns-in-Some-clause-slices
-returns-in-Some-clause-slices c =
-    subst (λ line. AreSlicesOf line (capture_texts c.in_ok-group_texts-in-Some.field-0.items)) c.in-Some.ensures.found.2.0 c.in_ok-group_texts-in-Some.ensures.slices
-
-pub returns-in-Some-clause-all_groups : goal.returns-in-Some-clause-all_groups
-returns-in-Some-clause-all_groups c = c.in_ok-group_texts-in-Some.ensures.count ∙ ap length (c.in-Some.ensures.names ∙ c.in_ok-matcher.ensures.names)
-
-pub returns-clause-answer : goal.returns-clause-answer
-returns-clause-answer c = uncaptured _ _ _ (rw c.in_ok-matcher.ensures.pattern at c.in-None.ensures.found)
+pub returns : goal.returns
+returns c = record { answer = uncaptured _ _ _ (rw c.in_ok-matcher.ensures.pattern at c.in-None.ensures.found); all_groups = tt; slices = tt }

@@ -12,7 +12,7 @@ all_groups-preserved c =
     let new : capture_texts c.push.new.self.items ≡ capture_texts old ++ option_map text_of c.whole_at-capture.result ∷ [] =
     rw c.in_ok-push.ensures.items (map-append (option_map text_of) old (c.whole_at-capture.result ∷ [])) in (
       rw (new, c.all_groups.invariant.0, c.whole_at-capture.ensures.text)
-          (sym (map-range_with_len_more (line_at c.args.line.now) 0 c.all_groups.place c.all_groups.place (zero-add _))),
+          (sym (map-range_with_len_more (line_at c.args.line.now) 0 c.all_groups.group c.all_groups.group (zero-add _))),
       rw new (All-push (λ text. IfSome text (IsSliceOf c.args.line.now)) _ _ c.all_groups.invariant.1 c.whole_at-capture.ensures.slice),
       search rules,
     )

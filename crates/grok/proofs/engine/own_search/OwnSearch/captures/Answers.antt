@@ -1,23 +1,32 @@
 use Rattle.std.proofs.Common.{vec_len, string_bytes, refl, ap, ◌∙◌, Some}
 use Rattle.grok.proofs.Captures.AutomataFindMatches.{answered}
+use Rattle.grok.proofs.Captures.CapturesAreOfMatch.{listed}
 use Rattle.grok.proofs.engine.own_search.OwnSearch.captures.Goals as goal
 
-pub returns-in_ok-texts_of-in-Some-clause-answer : goal.returns-in_ok-texts_of-in-Some-clause-answer
-returns-in_ok-texts_of-in-Some-clause-answer c =
+pub returns-in_ok-texts_of-in-Some : goal.returns-in_ok-texts_of-in-Some
+returns-in_ok-texts_of-in-Some c =
     let it = c.args.self.now in
     let of = c.if-not-is_of.ensures in
     let found = c.in_ok-whole.ensures in
-    let texts = rw (c.deref.ensures.len, found.width, of.groups refl, c.deref.ensures.value) at c.in_ok-texts_of-in-Some.ensures.texts in
-    ap Some texts
+    let these = c.in_ok-texts_of-in-Some.ensures in
+    let texts = rw (c.deref.ensures.len, found.width, of.groups refl, c.deref.ensures.value) at these.texts in
+    listed c.in_ok-texts_of-in-Some.field-0
+    (ap Some texts
     ∙ answered (string_bytes it.source) it.program.hir c.args.regex.now c.args.line.now c.find.new.self.cells.items (vec_len it.cells) _
     it.read (of.source refl) c.requires (λ k. (c.type_inv.line k).fits) c.in_ok-whole.field-0 _ found.span found.cells (of.groups refl)
-    c.in-Some.is
+    c.in-Some.is)
+    (rw (c.deref.ensures.len, found.width, of.groups refl) at these.count)
+    these.slices
 
-pub returns-in-None-clause-answer : goal.returns-in-None-clause-answer
-returns-in-None-clause-answer c =
+pub returns-in-None : goal.returns-in-None
+returns-in-None c =
     let it = c.args.self.now in
     let of = c.if-not-is_of.ensures in
     let found = c.in_ok-whole.ensures in
-    answered (string_bytes it.source) it.program.hir c.args.regex.now c.args.line.now c.find.new.self.cells.items (vec_len it.cells) _
-    it.read (of.source refl) c.requires (λ k. (c.type_inv.line k).fits) c.in_ok-whole.field-0 _ found.span found.cells (of.groups refl)
-    c.in-None.is
+    record {
+      answer = answered (string_bytes it.source) it.program.hir c.args.regex.now c.args.line.now c.find.new.self.cells.items (vec_len it.cells) _
+          it.read (of.source refl) c.requires (λ k. (c.type_inv.line k).fits) c.in_ok-whole.field-0 _ found.span found.cells (of.groups refl)
+          c.in-None.is;
+      all_groups = tt;
+      slices = tt;
+    }

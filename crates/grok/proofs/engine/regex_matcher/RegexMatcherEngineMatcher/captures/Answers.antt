@@ -2,7 +2,7 @@ use Rattle.std.proofs.Common.{◌≡◌, ℕ, List, Option, length, ap, ap₂, s
 use Rattle.regex.specs.Patterns.{Re}
 use Rattle.grok.specs.Captures.{AreSlicesOf, capture_texts}
 use Rattle.grok.specs.RegexFinds.{captures_in}
-use Rattle.grok.proofs.Captures.CapturesAreOfMatch.{captured, uncaptured}
+use Rattle.grok.proofs.Captures.CapturesAreOfMatch.{captured, uncaptured, listed}
 use Rattle.grok.proofs.engine.regex_matcher.RegexMatcherEngineMatcher.captures.Goals as goal
 
 same_finds : (p q : Re) (xs ys : List (Option (List ℕ))) → (p ≡ q) × (xs ≡ ys) → captures_in p (length xs) ≡ captures_in q (length ys)
@@ -14,17 +14,14 @@ returns-in_err-group_texts-in-Some-clause-same c = same_finds _ _ _ _ c.captures
 pub returns-in_err-group_texts-in-Some-clause-count : goal.returns-in_err-group_texts-in-Some-clause-count
 returns-in_err-group_texts-in-Some-clause-count c = ap length c.captures-2.follows.holds-at-none.1
 
-pub returns-in_ok-group_texts-in-Some-clause-answer : goal.returns-in_ok-group_texts-in-Some-clause-answer
-returns-in_ok-group_texts-in-Some-clause-answer c =
+pub returns-in_ok-group_texts-in-Some-clause-captures : goal.returns-in_ok-group_texts-in-Some-clause-captures
+returns-in_ok-group_texts-in-Some-clause-captures c =
     let found = c.in-Some.ensures.found in
-    captured _ _ _ c.in-Some.found found.0 _ found.1 found.2 c.in-Some.ensures.names c.in_ok-group_texts-in-Some.ensures.texts
-
-pub returns-in_ok-group_texts-in-Some-clause-all_groups : goal.returns-in_ok-group_texts-in-Some-clause-all_groups
-returns-in_ok-group_texts-in-Some-clause-all_groups c = c.in_ok-group_texts-in-Some.ensures.count ∙ ap length c.in-Some.ensures.names
-
-pub returns-in_ok-group_texts-in-Some-clause-slices : goal.returns-in_ok-group_texts-in-Some-clause-slices
-returns-in_ok-group_texts-in-Some-clause-slices c =
-    subst (λ line. AreSlicesOf line (capture_texts c.in_ok-group_texts-in-Some.field-0.items)) c.in-Some.ensures.found.2.0 c.in_ok-group_texts-in-Some.ensures.slices
+    let texts = c.in_ok-group_texts-in-Some in
+    listed texts.field-0
+    (captured _ _ _ c.in-Some.found found.0 _ found.1 found.2 c.in-Some.ensures.names texts.ensures.texts)
+    (texts.ensures.count ∙ ap length c.in-Some.ensures.names)
+    (subst (λ line. AreSlicesOf line (capture_texts texts.field-0.items)) found.2.0 texts.ensures.slices)
 
 pub returns-in_ok-group_texts-in-Some-clause-same : goal.returns-in_ok-group_texts-in-Some-clause-same
 returns-in_ok-group_texts-in-Some-clause-same c = same_finds _ _ _ _ c.captures-2.follows.holds-at-none
@@ -32,8 +29,8 @@ returns-in_ok-group_texts-in-Some-clause-same c = same_finds _ _ _ _ c.captures-
 pub returns-in_ok-group_texts-in-Some-clause-count : goal.returns-in_ok-group_texts-in-Some-clause-count
 returns-in_ok-group_texts-in-Some-clause-count c = ap length c.captures-2.follows.holds-at-none.1
 
-pub returns-in-None-clause-answer : goal.returns-in-None-clause-answer
-returns-in-None-clause-answer c = uncaptured _ _ _ c.in-None.ensures.found
+pub returns-in-None-clause-captures : goal.returns-in-None-clause-captures
+returns-in-None-clause-captures c = record { answer = uncaptured _ _ _ c.in-None.ensures.found; all_groups = tt; slices = tt }
 
 pub returns-in-None-clause-same : goal.returns-in-None-clause-same
 returns-in-None-clause-same c = same_finds _ _ _ _ c.captures-2.follows.holds-at-none

@@ -2,7 +2,7 @@ use Rattle.std.proofs.Common.{◌∷◌, [], ◌++◌, ap, subst, sym, ◌∙◌
 use Rattle.grok.specs.Tree.{Inline, Stored, PlaceholderItem}
 use Rattle.grok.specs.Items.{label_view, meaning_view, item_view}
 use Rattle.grok.specs.Tallied.{HasTallied}
-use Rattle.grok.proofs.Keys.DefinitionsAreCounted.{text_tallied, placeholder_tallied, nothing_counted, whole_tallied}
+use Rattle.grok.proofs.Keys.DefinitionsAreCounted.{text_tallied, placeholder_tallied, nothing_counted, none_left, whole_tallied}
 use Rattle.grok.proofs.expand.tallies.DefinitionTallies.count_item.Goals as goal
 
 pub returns-in-Text : goal.returns-in-Text
@@ -24,5 +24,5 @@ returns-in-Some c =
     let text = c.in-Stored.field-0.now in
     placeholder_tallied c.args.mode (item_view c.args.item) label (Stored text) c.args.tally.now c.add_placeholder-in-Some.new.self c.in-Some.front.now.tally c.add_placeholder-in-Some.result
     (ap item_view c.in-Placeholder.is ∙ ap (λ m. PlaceholderItem label (meaning_view m)) c.in-Stored.is)
-    (λ sound. whole_tallied c.args.mode text c.in-Some.front.now (c.in-Some.ensures c.args.mode c.requires text sound) c.if-front.true)
+    (λ sound. whole_tallied c.args.mode text c.in-Some.front.now (c.in-Some.ensures c.args.mode c.requires text sound) (none_left c.in-Some.front.now.uncounted c.is_none.result c.is_none.ensures c.if-is_none.true))
     c.add_placeholder-in-Some.ensures

@@ -1,10 +1,10 @@
-use Rattle.std.proofs.Common.{◌≡◌, ◌+◌, ◌∷◌, refl, sym, subst, arith}
+use Rattle.std.proofs.Common.{◌≡◌, ◌+◌, ◌∷◌, Some, refl, sym, subst, arith}
 use Rattle.std.specs.FinMap as finite
 use Rattle.grok.specs.Items.{item_view}
 use Rattle.grok.specs.Tallied.{resolve, HasTallied, with_item}
 use Rattle.grok.proofs.Sizes.TextsWithoutPlaceholders.{AreSound, sound_rest}
 use Rattle.grok.proofs.Sizes.ItemsAreSound.{sound_texts}
-use Rattle.grok.proofs.Keys.DefinitionsAreCounted.{sound_first, counting_starts, counting_goes_on, counted_in_part}
+use Rattle.grok.proofs.Keys.DefinitionsAreCounted.{sound_first, counting_starts, counting_goes_on, counted_in_part, counted_wholly}
 use Rattle.grok.proofs.expand.tallies.DefinitionTallies.count_text.Goals as goal
 
 pub items-init : goal.items-init
@@ -24,11 +24,11 @@ items-preserved c =
     let new = c.count_item.new.tally in
     let cut : c.items.items ≡ item ∷ rest = rw c.in-Some.is at c.in_ok-item.ensures in
     let sound : AreSound (resolve mode) (finite.get mode.grok.now) (item ∷ rest) = subst (AreSound (resolve mode) (finite.get mode.grok.now)) cut c.items.invariant.sound in
-    let one : c.in-Some-checked_add.more ≡ c.items.front.items + 1 = omega (arith, c.in-Some-checked_add.ensures) in
+    let one : c.in-Some-checked_add.read ≡ c.items.front.read + 1 = omega (arith, c.in-Some-checked_add.ensures) in
     record {
       sound = sound_rest (resolve mode) (finite.get mode.grok.now) item rest sound;
       part = c.items.invariant.part;
-      counting = counting_goes_on mode c.args.stored.now c.items.items rest item c.items.front.items c.in-Some-checked_add.more c.items.front.tally new cut one c.items.invariant.counting
+      counting = counting_goes_on mode c.args.stored.now c.items.items rest item c.items.front.read c.in-Some-checked_add.read c.items.front.tally new cut one c.items.invariant.counting
           (λ items h. subst (λ b. HasTallied mode (with_item b items item) new) c.if-not-branch.false (c.in_ok-count_item.ensures (sound_first mode item rest sound) items h));
     }
 
@@ -40,10 +40,11 @@ returns-then-not-branch c =
     let new = c.count_item.new.tally in
     let cut : c.items.items ≡ item ∷ rest = rw c.in-Some.is at c.in_ok-item.ensures in
     let sound : AreSound (resolve mode) (finite.get mode.grok.now) (item ∷ rest) = subst (AreSound (resolve mode) (finite.get mode.grok.now)) cut c.items.invariant.sound in
+    let one : c.in-Some-checked_add.read ≡ c.items.front.read + 1 = omega (arith, c.in-Some-checked_add.ensures) in
     let so_far = c.items.invariant.counting in
-    counted_in_part mode c.args.stored.now c.items.items (record c.items.front { tally = new }) c.items.invariant.part
+    counted_in_part mode c.args.stored.now c.items.items rest c.in-Some.item c.items.front.read (record { tally = new; uncounted = Some c.in-Some.item; read = c.in-Some-checked_add.read }) cut one refl
     (record { items = so_far.items; cut = so_far.cut; many = so_far.many; tallied = subst (λ b. HasTallied mode (with_item b so_far.items item) new) c.if-not-branch.true (c.in_ok-count_item.ensures (sound_first mode item rest sound) so_far.items so_far.tallied) })
 
-pub returns-in_default-checked_add : goal.returns-in_default-checked_add
-returns-in_default-checked_add c =
-    counted_in_part c.args.mode c.args.stored.now c.items.items c.items.front c.items.invariant.part c.items.invariant.counting
+pub returns : goal.returns
+returns c =
+    counted_wholly c.args.mode c.args.stored.now c.items.items c.items.front.read c.items.front (rw c.in_default.is at c.in_ok-item.ensures).0 c.items.invariant.part c.items.invariant.counting

@@ -1,0 +1,84 @@
+-- The search for a use passes over events one after the other, and over a counted definition at once.
+use Rattle.std.proofs.Common.{◌≡◌, ℕ, zero, suc, ◌+◌, ◌<◌, Bool, true, false, ◌||◌, List, [], ◌∷◌, ◌++◌, refl, sym, ◌∙◌, ap, subst, arith, append-nil}
+use Rattle.grok.specs.Tree.{Label, Meaning, meaning_text, Item, PlaceholderItem, Event, Open, events}
+use Rattle.grok.specs.Keys.{how_often}
+use Rattle.grok.specs.Tallied.{opened_events, counted, IsTallyOf}
+use Rattle.grok.specs.UseSteps.{is_some_use, HasPassed, HasPassedEvents, StepsAtUse, StepsAtMeaning}
+use Rattle.grok.specs.declared.expand.tallies.CompileMode.{CompileMode}
+use Rattle.grok.specs.declared.expand.tallies.KeyTally.{KeyTally}
+use Rattle.grok.specs.declared.locate_clash.SoughtKeys.{SoughtKeys}
+use Rattle.grok.specs.declared.locate_clash.UsesSoFar.{UsesSoFar}
+use Rattle.grok.specs.declared.locate_clash.UseStep.{UseStep}
+use Rattle.grok.specs.declared.locate_clash.UseStep.TheVariants as step
+use Rattle.grok.proofs.Keys.DefinitionsAreCounted.{often_both}
+
+-- ---- uses
+
+or_false : (b : Bool) → b ≡ (b || false)
+or_false true = refl
+or_false false = refl
+
+some_both : (b : Bool) (one more : ℕ) → ((b || is_some_use one) || is_some_use more) ≡ (b || is_some_use (one + more))
+some_both true one more = refl
+some_both false zero more = let e : more ≡ 0 + more = omega arith in ap is_some_use e
+some_both false (suc one) more = let e : suc (one + more) ≡ suc one + more = omega arith in ap is_some_use e
+
+pub passed_none : (so_far : UsesSoFar) → HasPassed 0 0 so_far so_far
+passed_none so_far = record { fewer = omega arith; seen = or_false so_far.is_other_used }
+
+pub passed_same : (uses others uses' others' : ℕ) (old new : UsesSoFar) → uses ≡ uses' → others ≡ others' → HasPassed uses others old new → HasPassed uses' others' old new
+passed_same uses others uses' others' old new one two = λ h. subst (λ n. HasPassed uses' n old new) two (subst (λ n. HasPassed n others old new) one h)
+
+pub passed_both : (uses others uses' others' : ℕ) (old mid new : UsesSoFar) → HasPassed uses others old mid → HasPassed uses' others' mid new → HasPassed (uses + uses') (others + others') old new
+passed_both uses others uses' others' old mid new h g = record {
+  fewer = omega (arith, h.fewer, g.fewer);
+  seen = g.seen ∙ ap (λ b. b || is_some_use others') h.seen ∙ some_both old.is_other_used others others';
+}
+
+module _ (mode : CompileMode) (keys : SoughtKeys) where
+  abbrev base : List ℕ
+  base = keys.base.now
+
+  abbrev other : List ℕ
+  other = keys.other.now
+
+  -- ---- events
+
+  pub passed_nothing : (so_far : UsesSoFar) → HasPassedEvents mode keys [] so_far so_far
+  passed_nothing so_far = passed_none so_far
+
+  pub passed_events : (xs ys : List Event) (old mid new : UsesSoFar) → HasPassedEvents mode keys xs old mid → HasPassedEvents mode keys ys mid new → HasPassedEvents mode keys (xs ++ ys) old new
+  passed_events xs ys old mid new h g =
+      passed_same (how_often (counted mode xs) base + how_often (counted mode ys) base) (how_often (counted mode xs) other + how_often (counted mode ys) other) (how_often (counted mode (xs ++ ys)) base) (how_often (counted mode (xs ++ ys)) other) old new
+      (sym (often_both mode xs ys base)) (sym (often_both mode xs ys other))
+      (passed_both (how_often (counted mode xs) base) (how_often (counted mode xs) other) (how_often (counted mode ys) base) (how_often (counted mode ys) other) old mid new h g)
+
+  -- a placeholder, whose open and whose definition were passed over
+  pub passed_placeholder : (levels : ℕ) (label : Label) (meaning : Meaning) (old mid new : UsesSoFar) → HasPassedEvents mode keys (Open label meaning ∷ []) old mid
+      → HasPassedEvents mode keys (opened_events mode levels (meaning_text meaning)) mid new → HasPassedEvents mode keys (events (opened_events mode levels) (PlaceholderItem label meaning ∷ [])) old new
+  passed_placeholder levels label meaning old mid new h g =
+      subst (λ es. HasPassedEvents mode keys (Open label meaning ∷ es) old new) (sym (append-nil (opened_events mode levels (meaning_text meaning))))
+      (passed_events (Open label meaning ∷ []) (opened_events mode levels (meaning_text meaning)) old mid new h g)
+
+  -- a counted definition
+  pub passed_tallied : (levels : ℕ) (text : List ℕ) (tally : KeyTally) (uses others : ℕ) (old new : UsesSoFar) → (t : IsTallyOf mode text tally) → tally.height < levels
+      → uses ≡ t.uses base → others ≡ t.uses other → HasPassed uses others old new → HasPassedEvents mode keys (opened_events mode levels text) old new
+  passed_tallied levels text tally uses others old new t high one two =
+      passed_same uses others (how_often (counted mode (opened_events mode levels text)) base) (how_often (counted mode (opened_events mode levels text)) other) old new
+      (one ∙ sym (t.often levels high base)) (two ∙ sym (t.often levels high other))
+
+  -- ---- one item
+
+  -- the step at a placeholder, after its own use was passed over
+  pub step_at_placeholder : (levels : ℕ) (item : Item) (label : Label) (meaning : Meaning) (found : UseStep) (old mid new : UsesSoFar) → item ≡ PlaceholderItem label meaning
+      → HasPassedEvents mode keys (Open label meaning ∷ []) old mid → StepsAtMeaning mode keys levels label meaning found mid new → StepsAtUse mode keys levels item found old new
+  step_at_placeholder levels item label meaning step.Later old mid new is opened later =
+      subst (λ i. HasPassedEvents mode keys (events (opened_events mode levels) (i ∷ [])) old new) (sym is) (passed_placeholder levels label meaning old mid new opened later)
+  step_at_placeholder levels item label meaning step.Here old mid new is opened later = absurd later
+  step_at_placeholder levels item label meaning (step.Inside name definition) old mid new is opened (means, named, room, same) = record {
+    label = label;
+    is = is ∙ ap (PlaceholderItem label) means;
+    named = named;
+    room = room;
+    passed = subst (λ m. HasPassedEvents mode keys (Open label m ∷ []) old new) means (subst (HasPassedEvents mode keys (Open label meaning ∷ []) old) (sym same) opened);
+  }
