@@ -28,3 +28,7 @@ echo
 echo '## Compiling'
 echo
 "$here/compile.sh"
+echo
+echo '## Searching for a clash'
+echo
+"$here/clashes.sh"

@@ -1,0 +1,79 @@
+#!/usr/bin/env bash
+# Measures how long `compile` takes to find the first fault, and how much memory, if an alias ends in a number: then the
+# uses of keys are counted to find a clash. The definitions are the costly ones of docs/HOSTILE.md, in three sizes.
+# Another grok_tool can be given, to measure both in the same run.
+#
+#   bench/clashes.sh [GROK_TOOL]
+set -euo pipefail
+source "$(dirname "$0")/common.sh"
+tools=("$(program grok_tool)" "$@")
+sizes=(25 50 100)
+shapes=(doubled shared all-numbered circle)
+declare -A meaning=(
+    [doubled]='a definition with many aliases, one of them numbered, doubled 70 times'
+    [shared]='many definitions that each use one with many aliases, one of them numbered'
+    [all-numbered]='the same, with every alias numbered'
+    [circle]='a circle with many inline definitions, one alias of which is numbered'
+)
+
+# Prints a definition B with COUNT aliases, of which the first is numbered: `aliases COUNT`.
+aliases() {
+    printf 'B=%%{A:x[1]}'
+    seq -f '%%{A:key%g}' "$1" | tr -d '\n'
+    echo
+}
+
+# Prints the definitions of a shape in about SIZE kB, one on a line, the pattern first: `library SHAPE SIZE`.
+library() {
+    local bytes=$(($2 * 1000)) level
+    echo '%{TOP}%{missing}'
+    echo 'A=a'
+    case $1 in
+    doubled)
+        aliases $((bytes / 12))
+        echo 'D0=%{B}'
+        for ((level = 1; level <= 70; level++)); do
+            echo "D$level=%{D$((level - 1))}%{D$((level - 1))}"
+        done
+        echo 'TOP=%{D70}'
+        ;;
+    shared)
+        aliases $((bytes / 2 / 12))
+        seq -f 'N%g=%%{B}' $((bytes / 2 / 18))
+        seq -f '%%{N%g}' $((bytes / 2 / 18)) | tr -d '\n' | sed 's/^/TOP=/'
+        echo
+        ;;
+    all-numbered)
+        printf 'B='
+        seq -f '%%{A:key%g[1000000]}' $((bytes / 2 / 21)) | tr -d '\n'
+        echo
+        seq -f 'N%g=%%{B}' $((bytes / 2 / 18))
+        seq -f '%%{N%g}' $((bytes / 2 / 18)) | tr -d '\n' | sed 's/^/TOP=/'
+        echo
+        ;;
+    circle)
+        printf 'TOP=%%{A:x[1]}'
+        seq -f '%%{W%g=a}' $((bytes / 11)) | tr -d '\n'
+        echo '%{TOP}'
+        ;;
+    esac
+}
+
+echo "$(machine)."
+echo
+echo '| Definitions | kB | program | seconds | MB |'
+echo '|---|---|---|---|---|'
+for shape in "${shapes[@]}"; do
+    for size in "${sizes[@]}"; do
+        mapfile -t words < <(library "$shape" "$size")
+        for tool in "${tools[@]}"; do
+            status=0
+            timeout 600 /usr/bin/time -f '%e %M' -o "$room/took" "$tool" match -a "${words[@]}" </dev/null 2>"$room/complaint" || status=$?
+            if [ "$status" != 1 ]; then
+                echo "$tool ended with status $status: $(head -c 300 "$room/complaint")" >&2
+            fi
+            read -r seconds kib < <(tail -n 1 "$room/took")
+            echo "| ${meaning[$shape]} | $size | $tool | $seconds | $((kib / 1024)) |"
+        done
+    done
+done
