@@ -8,12 +8,12 @@ use Rattle.grok.specs.Keys.{TreeFault, numbered, key_after, how_often, is_among}
 use Rattle.grok.specs.CapturedSoFar.{taken_of, faults, after}
 use Rattle.grok.specs.KeyUses.{CountsUses, IsFree}
 use Rattle.grok.specs.NumberedBases.{only_clashing}
-use Rattle.grok.specs.Tallied.{resolve, opened_events}
+use Rattle.grok.specs.CountedDefinitions.{resolve, opened_events}
 use Rattle.grok.specs.Walks.{tree_fault_view, Clashes}
 use Rattle.grok.specs.declared.errors.fault.TreeFault.{TreeFault as CodeFault}
 use Rattle.grok.specs.declared.errors.fault.TreeFault.TheVariants as fault
 use Rattle.grok.specs.declared.expand.key_uses.KeyUses.{KeyUses}
-use Rattle.grok.specs.declared.expand.tallies.CompileMode.{CompileMode}
+use Rattle.grok.specs.declared.expand.counted_definitions.CompileMode.{CompileMode}
 use Rattle.grok.specs.declared.expand.first_fault.ItemStep.{ItemStep}
 use Rattle.grok.specs.declared.expand.first_fault.ItemStep.TheVariants.{Skip, Enter, Report}
 

@@ -35,7 +35,7 @@ pub mod CapturedSoFar
 pub mod FirstFault
 pub mod NumberedBases
 pub mod KeyUses
-pub mod Tallied
+pub mod CountedDefinitions
 pub mod Walks
 pub mod FirstFaultSteps
 pub mod Writes

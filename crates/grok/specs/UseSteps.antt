@@ -4,10 +4,10 @@ use Rattle.std.specs.FinMap as finite
 use Rattle.grok.specs.Tree.{Definitions, Label, Meaning, meaning_text, Stored, Item, PlaceholderItem, Event, Open, items_of, events, deepest}
 use Rattle.grok.specs.Pieces.{pieces}
 use Rattle.grok.specs.Keys.{base_key, how_often}
-use Rattle.grok.specs.Tallied.{resolve, opened_events, is_counted, counted}
+use Rattle.grok.specs.CountedDefinitions.{resolve, opened_events, is_counted, counted}
 use Rattle.grok.specs.FaultPlaces.{path_view}
 use Rattle.grok.specs.ByteLocations.{IsEventAt}
-use Rattle.grok.specs.declared.expand.tallies.CompileMode.{CompileMode}
+use Rattle.grok.specs.declared.expand.counted_definitions.CompileMode.{CompileMode}
 use Rattle.grok.specs.declared.locate_clash.PlaceholderLocation.{PlaceholderLocation}
 use Rattle.grok.specs.declared.locate_clash.SoughtKeys.{SoughtKeys}
 use Rattle.grok.specs.declared.locate_clash.UsesSoFar.{UsesSoFar}

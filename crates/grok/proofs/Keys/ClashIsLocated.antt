@@ -15,7 +15,7 @@ use Rattle.grok.specs.FirstFault.{IsFaultAfter, Breaks, Meets}
 use Rattle.grok.specs.ByteLocations.{IsEventAt}
 use Rattle.grok.specs.ClashLocations.{HasKeyAt, IsClashAt}
 use Rattle.grok.specs.UseSteps.{is_some_use, IsUseAt, FindsUse}
-use Rattle.grok.specs.declared.expand.tallies.CompileMode.{CompileMode}
+use Rattle.grok.specs.declared.expand.counted_definitions.CompileMode.{CompileMode}
 use Rattle.grok.specs.declared.locate_clash.SoughtKeys.{SoughtKeys}
 use Rattle.grok.specs.declared.locate_clash.UsesSoFar.{UsesSoFar}
 use Rattle.grok.specs.declared.locate_clash.PlaceholderLocation.{PlaceholderLocation}

@@ -16,13 +16,13 @@ use Rattle.grok.specs.KeyUses.{CountsUses, IsFree}
 use Rattle.grok.specs.NumberedBases.{opens_numbered_from, is_base_in, only_clashing}
 use Rattle.grok.specs.Walks.{Clashes, tree_fault_view}
 use Rattle.grok.specs.Items.{item_view}
-use Rattle.grok.specs.Tallied.{resolve, opened_events, IsSoundItem, HasTallied, IsCountedPartOf}
+use Rattle.grok.specs.CountedDefinitions.{resolve, opened_events, IsSoundItem, IsCountOfItems, IsCountedPartOf}
 use Rattle.grok.specs.FirstFaultSteps.{IsCountOf, CountedUse, HaveCounted, events_inside, EntersText, EntersPlaceholder, StepsAtItem, counted_fault, counted_after, HasFittingNumber}
 use Rattle.grok.specs.declared.defs.items.Item as code
 use Rattle.grok.specs.declared.expand.key_uses.KeyUses.{KeyUses}
-use Rattle.grok.specs.declared.expand.tallies.CompileMode.{CompileMode}
-use Rattle.grok.specs.declared.expand.tallies.KeyTally.{KeyTally}
-use Rattle.grok.specs.declared.expand.tallies.CountedPart.{CountedPart}
+use Rattle.grok.specs.declared.expand.counted_definitions.CompileMode.{CompileMode}
+use Rattle.grok.specs.declared.expand.counted_definitions.CountedItems.{CountedItems}
+use Rattle.grok.specs.declared.expand.counted_definitions.CountedPart.{CountedPart}
 use Rattle.grok.specs.declared.errors.fault.TreeFault.{TreeFault}
 use Rattle.grok.specs.declared.expand.first_fault.ItemStep.{ItemStep}
 use Rattle.grok.proofs.Keys.KeysAreDistinct.{how_often_more}
@@ -95,11 +95,11 @@ module _ (total : KeyUses) (before : List Label) (label : Label) (key : String G
 
 -- ---- what an open holds
 
-module _ (mode : CompileMode) (items : List Item) (levels : ℕ) (before : List Label) (tally : KeyTally) (t : HasTallied mode items tally) (high : tally.height < levels) where
+module _ (mode : CompileMode) (items : List Item) (levels : ℕ) (before : List Label) (count : CountedItems) (t : IsCountOfItems mode items count) (high : count.height < levels) where
   abbrev held : List Event
   held = events_inside mode levels items
 
-  enough : tally.height ≤ levels - 1
+  enough : count.height ≤ levels - 1
   enough = omega arith
 
   -- how often each base key is used, with the uses of the items

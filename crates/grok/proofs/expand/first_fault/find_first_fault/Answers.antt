@@ -2,7 +2,7 @@ use Rattle.std.proofs.Common.{◌≡◌, ◌-◌, ◌<◌, length, [], ◌∷◌
 use Rattle.std.proofs.lemmas.List.{nil_from_length}
 use Rattle.grok.specs.Tree.{deepest}
 use Rattle.grok.specs.Items.{item_view}
-use Rattle.grok.specs.Tallied.{resolve}
+use Rattle.grok.specs.CountedDefinitions.{resolve}
 use Rattle.grok.specs.FirstFaultSteps.{EntersPlaceholder, StepsAtItem, ReportsCountable}
 use Rattle.grok.proofs.Keys.FirstFaultIsFound.{left_of, IsWalking, walked, walked_keeps, walk_starts, walk_ends, walk_closes, close_smaller, walk_steps, walk_passes, pass_smaller, walk_finds, walk_enters, enter_smaller, is_first_fault}
 use Rattle.grok.proofs.expand.first_fault.find_first_fault.Goals as goal

@@ -1,5 +1,5 @@
 use Rattle.std.proofs.Common.{[], length}
-use Rattle.grok.specs.Tallied.{resolve}
+use Rattle.grok.specs.CountedDefinitions.{resolve}
 use Rattle.grok.proofs.Keys.FirstFaultIsFound.{IsWalking, left_of}
 use Rattle.grok.proofs.expand.first_fault.find_first_fault.Given as goal
 

@@ -1,10 +1,10 @@
 use Rattle.std.proofs.Common.{◌≡◌, ℕ, ◌+◌, cond, List, sym, ◌∙◌, ap, arith}
 use Rattle.std.specs.Str.{bytes_eq}
 use Rattle.grok.specs.Keys.{base_key}
-use Rattle.grok.specs.Tallied.{is_counted}
+use Rattle.grok.specs.CountedDefinitions.{is_counted}
 use Rattle.grok.specs.Items.{label_view}
 use Rattle.grok.proofs.Keys.DefinitionsAreCounted.{counts_same}
-use Rattle.grok.proofs.expand.tallies.KeyTally.add_open.Goals as goal
+use Rattle.grok.proofs.expand.counted_definitions.CountedItems.add_open.Goals as goal
 
 pub returns-in_ok-add-clause-counts : goal.returns-in_ok-add-clause-counts
 returns-in_ok-add-clause-counts c wants counts =

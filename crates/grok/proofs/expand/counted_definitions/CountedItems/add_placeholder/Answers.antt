@@ -1,8 +1,8 @@
 use Rattle.std.proofs.Common.{◌≡◌, ◌+◌, ◌<◌, ◌≤◌, IsTrue, refl, subst, sym, arith}
 use Rattle.grok.specs.Items.{label_view}
-use Rattle.grok.specs.Tallied.{HasTallied}
-use Rattle.grok.proofs.Keys.DefinitionsAreCounted.{opened_tallied}
-use Rattle.grok.proofs.expand.tallies.KeyTally.add_placeholder.Goals as goal
+use Rattle.grok.specs.CountedDefinitions.{IsCountOfItems}
+use Rattle.grok.proofs.Keys.DefinitionsAreCounted.{meaning_counted}
+use Rattle.grok.proofs.expand.counted_definitions.CountedItems.add_placeholder.Goals as goal
 
 pub returns : goal.returns
 returns c meaning items t h =
@@ -13,8 +13,8 @@ returns c meaning items t h =
     let kept : new.height ≡ c.add_opened.new.self.height = c.in_ok-add_open.ensures.height in
     let above : c.args.self.now.height ≤ new.height = omega (arith, high.1, kept) in
     let deep : c.args.inner.now.height < new.height = omega (arith, high.0, kept) in
-    opened_tallied c.args.mode items c.args.self.now new h above label meaning c.args.inner.now t deep
+    meaning_counted c.args.mode items c.args.self.now new h above label meaning c.args.inner.now t deep
     (λ others wants has_others has_wants. c.in_ok-add_open.ensures.counts (λ key. others key + wants key) (c.in_ok-add_opened.ensures.counts added wants others has_wants has_others))
 
 pub returns-then-not-branch : goal.returns-then-not-branch
-returns-then-not-branch c meaning items t h = subst (HasTallied c.args.mode items) (sym (c.in_ok-add_opened.ensures.unchanged c.if-not-branch.true)) h
+returns-then-not-branch c meaning items t h = subst (IsCountOfItems c.args.mode items) (sym (c.in_ok-add_opened.ensures.unchanged c.if-not-branch.true)) h

@@ -10,10 +10,10 @@ use Rattle.grok.specs.Keys.{how_often, capturing, is_capturing, base_key}
 use Rattle.grok.specs.Items.{item_view}
 use Rattle.grok.specs.NumberedBases.{can_clash, only_clashing}
 use Rattle.grok.specs.KeyUses.{CountsUses}
-use Rattle.grok.specs.declared.expand.tallies.CompileMode.{CompileMode}
-use Rattle.grok.specs.declared.expand.tallies.KeyTally.{KeyTally}
-use Rattle.grok.specs.declared.expand.tallies.CountedPart.{CountedPart}
-use Rattle.grok.specs.declared.expand.tallies.DefinitionTallies.{DefinitionTallies}
+use Rattle.grok.specs.declared.expand.counted_definitions.CompileMode.{CompileMode}
+use Rattle.grok.specs.declared.expand.counted_definitions.CountedItems.{CountedItems}
+use Rattle.grok.specs.declared.expand.counted_definitions.CountedPart.{CountedPart}
+use Rattle.grok.specs.declared.expand.counted_definitions.CountedDefinitions.{CountedDefinitions}
 
 -- the items of a text, with these definitions
 abbrev pub resolve : CompileMode → List ℕ → List Item
@@ -49,24 +49,24 @@ IsSoundItem mode (FaultItem fault) = Unit {0}
 IsSoundItem mode (PlaceholderItem label (Inline text)) = OpensNothing mode text
 IsSoundItem mode (PlaceholderItem label (Stored text)) = finite.get mode.grok.now label.name ≡ Some text
 
--- ---- tallies
+-- ---- counts
 
--- If more levels than `tally.height` are allowed, the text has no structural fault, and `tally.uses` counts how often
+-- If more levels than `count.height` are allowed, the text has no structural fault, and `count.uses` counts how often
 -- its placeholders use each base key (the key before its number is added) that can take part in a clash.
-pub record IsTallyOf (mode : CompileMode) (text : List ℕ) (tally : KeyTally) : Type 0 where
+pub record IsCountOfText (mode : CompileMode) (text : List ℕ) (count : CountedItems) : Type 0 where
   pub uses : List ℕ → ℕ
-  pub counts : CountsUses tally.uses uses
-  pub clean : (levels : ℕ) → tally.height < levels → first_structural (opened_events mode levels text) ≡ None
-  pub often : (levels : ℕ) → tally.height < levels → (key : List ℕ)
+  pub counts : CountsUses count.uses uses
+  pub clean : (levels : ℕ) → count.height < levels → first_structural (opened_events mode levels text) ≡ None
+  pub often : (levels : ℕ) → count.height < levels → (key : List ℕ)
       → how_often (counted mode (opened_events mode levels text)) key ≡ uses key
 
--- The items were counted. If at least `tally.height` levels are allowed, they have no structural fault, and
--- `tally.uses` counts how often their placeholders use each base key that can take part in a clash.
-pub record HasTallied (mode : CompileMode) (items : List Item) (tally : KeyTally) : Type 0 where
+-- If at least `count.height` levels are allowed, the items have no structural fault, and `count.uses` counts how often
+-- their placeholders use each base key that can take part in a clash.
+pub record IsCountOfItems (mode : CompileMode) (items : List Item) (count : CountedItems) : Type 0 where
   pub uses : List ℕ → ℕ
-  pub counts : CountsUses tally.uses uses
-  pub clean : (levels : ℕ) → tally.height ≤ levels → first_structural (events (opened_events mode levels) items) ≡ None
-  pub often : (levels : ℕ) → tally.height ≤ levels → (key : List ℕ)
+  pub counts : CountsUses count.uses uses
+  pub clean : (levels : ℕ) → count.height ≤ levels → first_structural (events (opened_events mode levels) items) ≡ None
+  pub often : (levels : ℕ) → count.height ≤ levels → (key : List ℕ)
       → how_often (counted mode (events (opened_events mode levels) items)) key ≡ uses key
 
 -- the items, and after them one more if it was counted
@@ -80,13 +80,13 @@ pub record IsCountedPartOf (mode : CompileMode) (text : List ℕ) (front : Count
   pub items : List Item
   pub cut : MatchOption front.uncounted (resolve mode text ≡ items)
       (λ item. resolve mode text ≡ items ++ item_view item ∷ drop front.read (resolve mode text))
-  pub tallied : HasTallied mode items front.tally
+  pub is_count : IsCountOfItems mode items front.counted
 
 -- the counted part of the definition of a name
 abbrev pub counted_part_of : BTreeMap (Bor (List ℕ)) CountedPart → List ℕ → Option CountedPart
 counted_part_of by_name name = get_by (λ (key : Bor (List ℕ)). slice_cmp nat_cmp name key.now) by_name
 
 -- what is kept for each name is a counted part of its definition
-abbrev pub AreTallied : CompileMode → DefinitionTallies → Type 0
-AreTallied mode tallies = (name text : List ℕ) (front : CountedPart) → counted_part_of tallies.by_name name ≡ Some front
+abbrev pub AreCounted : CompileMode → CountedDefinitions → Type 0
+AreCounted mode definitions = (name text : List ℕ) (front : CountedPart) → counted_part_of definitions.by_name name ≡ Some front
     → finite.get mode.grok.now name ≡ Some text → IsCountedPartOf mode text front

@@ -7,7 +7,7 @@ ghost use Rattle.grok.specs.Tree as tree;
 ghost use Rattle.grok.specs.Keys.{base_key as base_key_of};
 ghost use Rattle.grok.specs.Items.{label_view, item_view};
 ghost use Rattle.grok.specs.KeyUses.{CountsUses};
-ghost use Rattle.grok.specs.Tallied.{is_counted, IsTallyOf, HasTallied, IsCountedPartOf, AreTallied, IsSoundItem, with_item};
+ghost use Rattle.grok.specs.CountedDefinitions.{is_counted, IsCountOfText, IsCountOfItems, IsCountedPartOf, AreCounted, IsSoundItem, with_item};
 
 use crate::defs::Grok;
 use crate::defs::definition::Definition;
@@ -19,12 +19,13 @@ use crate::expand::numbered_bases::NumberedBases;
 use std::alloc::{AllocError, Global};
 use std::collections::BTreeMap;
 
-/// The tally of some items. If `height` levels are left for the items, they have no structural
-/// fault. `uses` counts how often their capturing placeholders use each base key (the key before
-/// its number is added) that can take part in a clash.
+/// What was counted of some items.
 #[derive(Drop)]
-pub(crate) struct KeyTally<'a> {
+pub(crate) struct CountedItems<'a> {
+    /// How many levels they need: if at least that many are left, they have no structural fault.
     pub height: usize,
+    /// How often their capturing placeholders use each base key (the key before its number is
+    /// added) that can take part in a clash.
     pub uses: KeyUses<'a>,
 }
 
@@ -51,7 +52,8 @@ impl<'a> CompileMode<'a, '_> {
 /// The part of a definition that was counted: its first items, or all of them.
 #[derive(Drop)]
 pub(crate) struct CountedPart<'a> {
-    pub tally: KeyTally<'a>,
+    /// What was counted of these items.
+    pub counted: CountedItems<'a>,
     /// The first item that wasn't counted, or `None` if all were. The search for the first fault
     /// goes on with it.
     pub uncounted: Option<Item<'a>>,
@@ -61,17 +63,17 @@ pub(crate) struct CountedPart<'a> {
 
 /// The counted parts of definitions, by name.
 #[derive(Drop)]
-pub(crate) struct DefinitionTallies<'a> {
+pub(crate) struct CountedDefinitions<'a> {
     by_name: BTreeMap<&'a str, CountedPart<'a>>,
 }
 
-impl<'a> KeyTally<'a> {
-    /// Makes the tally of a text without placeholders.
-    pub fn new(alloc: Global) -> KeyTally<'a>
+impl<'a> CountedItems<'a> {
+    /// Makes the counts of items without placeholders.
+    pub fn new(alloc: Global) -> CountedItems<'a>
         ensures height { result.height ≡ 0 }
         ensures counts { CountsUses result.uses (λ key. 0) }
     {
-        KeyTally {
+        CountedItems {
             height: 0,
             uses: KeyUses::new(alloc),
         }
@@ -91,12 +93,11 @@ impl<'a> KeyTally<'a> {
         Ok(())
     }
 
-    /// Adds `inner`, the tally of a placeholder's definition, to this one, and returns `true`.
-    /// Leaves this tally as it is and returns `false` if the definition needs too many levels, if
-    /// two keys would clash, or if a base key would be used more than `usize::MAX` times. When the
-    /// search for the first fault enters such a definition, it ends there, so nothing after it has
-    /// to be counted.
-    fn add_opened(&mut self, inner: &KeyTally<'a>) -> Result<bool, AllocError>
+    /// Adds `inner`, which was counted of a placeholder's definition, and returns `true`. Adds
+    /// nothing and returns `false` if the definition needs too many levels, if two keys would
+    /// clash, or if a base key would be used more than `usize::MAX` times. When the search for the
+    /// first fault enters such a definition, it ends there, so nothing after it has to be counted.
+    fn add_opened(&mut self, inner: &CountedItems<'a>) -> Result<bool, AllocError>
         ensures height { IfOk result (λ added. IsTrue added →
             (inner.now.height < self.new.height) × (self.old.height ≤ self.new.height)) }
         ensures counts { IfOk result (λ added. IsTrue added → (uses others : List ℕ → ℕ)
@@ -112,18 +113,18 @@ impl<'a> KeyTally<'a> {
         Ok(true)
     }
 
-    /// Counts a placeholder and its definition, which has the tally `inner`. Returns `false` and
+    /// Counts a placeholder and its definition, of which `inner` was counted. Returns `false` and
     /// counts neither if `add_opened` refuses the definition, or if the base key of the placeholder
     /// would be used more than `usize::MAX` times.
     fn add_placeholder(
         &mut self,
         mode: CompileMode<'a, '_>,
         label: Label<'a>,
-        inner: &KeyTally<'a>,
+        inner: &CountedItems<'a>,
     ) -> Result<bool, AllocError>
         ensures { IfOk result (λ added. (meaning : tree.Meaning) (front : List tree.Item)
-            → IsTallyOf mode.entry (tree.meaning_text meaning) inner.now
-            → HasTallied mode.entry front self.old → HasTallied mode.entry
+            → IsCountOfText mode.entry (tree.meaning_text meaning) inner.now
+            → IsCountOfItems mode.entry front self.old → IsCountOfItems mode.entry
             (with_item added front (tree.PlaceholderItem (label_view label.entry) meaning)) self.new) }
     {
         let key = base_key(label);
@@ -139,39 +140,39 @@ impl<'a> KeyTally<'a> {
     }
 }
 
-impl<'a> DefinitionTallies<'a> {
+impl<'a> CountedDefinitions<'a> {
     /// Returns the counted part of the definition of a name, if there is one.
     pub fn of_name(&self, name: &'a str) -> Option<&CountedPart<'a>>
-        ensures { IfSome result (λ front. (mode : CompileMode) → AreTallied mode self.now → (text : List ℕ)
+        ensures { IfSome result (λ front. (mode : CompileMode) → AreCounted mode self.now → (text : List ℕ)
             → finite.get mode.grok.now name.now ≡ Some text → IsCountedPartOf mode text front.now) }
     {
         self.by_name.get(&name)
     }
 
-    /// Adds an item, and the definition if it is a placeholder, to `tally`. Returns `false` and
+    /// Adds an item, and the definition if it is a placeholder, to `counted`. Returns `false` and
     /// adds nothing if it isn't known that the item has no fault.
     fn count_item(
         &self,
         mode: CompileMode<'a, '_>,
         item: Item<'a>,
-        tally: &mut KeyTally<'a>,
+        counted: &mut CountedItems<'a>,
     ) -> Result<bool, AllocError>
-        requires { AreTallied mode self.now }
+        requires { AreCounted mode self.now }
         ensures { IfOk result (λ known. IsSoundItem mode.entry (item_view item.entry)
-            → (front : List tree.Item) → HasTallied mode.entry front tally.old →
-            HasTallied mode.entry (with_item known front (item_view item.entry)) tally.new) }
+            → (front : List tree.Item) → IsCountOfItems mode.entry front counted.old →
+            IsCountOfItems mode.entry (with_item known front (item_view item.entry)) counted.new) }
     {
         match item {
             Item::Text(_) => Ok(true),
             Item::Fault(_) => Ok(false),
             Item::Placeholder(label, meaning) => match meaning {
                 Meaning::Inline(_) => {
-                    let nothing = KeyTally::new(mode.grok.alloc());
-                    tally.add_placeholder(mode, label, &nothing)
+                    let nothing = CountedItems::new(mode.grok.alloc());
+                    counted.add_placeholder(mode, label, &nothing)
                 }
                 Meaning::Stored(_) => match self.of_name(label.name) {
                     Some(front) if front.uncounted.is_none() => {
-                        tally.add_placeholder(mode, label, &front.tally)
+                        counted.add_placeholder(mode, label, &front.counted)
                     }
                     _ => Ok(false),
                 },
@@ -186,14 +187,14 @@ impl<'a> DefinitionTallies<'a> {
         mode: CompileMode<'a, '_>,
         stored: &'a Definition,
     ) -> Result<Option<CountedPart<'a>>, AllocError>
-        requires { AreTallied mode self.now }
+        requires { AreCounted mode self.now }
         ensures { IfOk result (λ counted. IfSome counted
             (λ front. IsCountedPartOf mode.entry stored.now front)) }
     {
         let alloc = mode.grok.alloc();
         let mut items = Items::of_stored(alloc, mode.grok, stored);
         let mut front = CountedPart {
-            tally: KeyTally::new(alloc),
+            counted: CountedItems::new(alloc),
             uncounted: None,
             read: 0,
         };
@@ -202,7 +203,7 @@ impl<'a> DefinitionTallies<'a> {
                 return Ok(None);
             };
             front.read = read;
-            if !self.count_item(mode, item, &mut front.tally)? {
+            if !self.count_item(mode, item, &mut front.counted)? {
                 front.uncounted = Some(item);
                 return Ok(Some(front));
             }
@@ -213,8 +214,8 @@ impl<'a> DefinitionTallies<'a> {
     /// Counts the definition of a name, if it has one, and keeps what was counted under that name.
     /// Keeps nothing if the definition has more than `usize::MAX` items.
     fn add_name(&mut self, mode: CompileMode<'a, '_>, name: &'a str) -> Result<(), AllocError>
-        requires { AreTallied mode self.old }
-        ensures { OnOk result (AreTallied mode.entry self.new) }
+        requires { AreCounted mode self.old }
+        ensures { OnOk result (AreCounted mode.entry self.new) }
     {
         let Some(stored) = mode.grok.definition(name) else {
             return Ok(());
@@ -231,15 +232,15 @@ impl<'a> DefinitionTallies<'a> {
     pub fn of_names(
         mode: CompileMode<'a, '_>,
         names: &[(usize, &'a str)],
-    ) -> Result<DefinitionTallies<'a>, AllocError>
-        ensures { IfOk result (λ tallies. AreTallied mode.entry tallies) }
+    ) -> Result<CountedDefinitions<'a>, AllocError>
+        ensures { IfOk result (λ definitions. AreCounted mode.entry definitions) }
     {
-        let mut tallies = DefinitionTallies {
+        let mut definitions = CountedDefinitions {
             by_name: BTreeMap::new(mode.grok.alloc()),
         };
         'names: for &(_, name) in names {
-            tallies.add_name(mode, name)?;
+            definitions.add_name(mode, name)?;
         }
-        Ok(tallies)
+        Ok(definitions)
     }
 }
