@@ -1,21 +1,36 @@
--- What is counted on the way to the first fault, and what each step does.
+-- What contracts see of the first fault, what is counted on the way to it, and what each step does.
 use Rattle.std.specs.Prelude.{◌≡◌, ℕ, suc, ◌-◌, ◌<◌, ◌^◌, List, [], ◌∷◌, ◌++◌, Bool, true, false, Option, Some, None, MatchOption}
 use Rattle.std.specs.Global.{Global}
 use Rattle.std.specs.String.{string_bytes}
 use Rattle.std.specs.declared.string.String.{String}
 use Rattle.grok.specs.Tree.{Label, Meaning, meaning_text, Item, PlaceholderItem, Event, Open, events}
+use Rattle.grok.specs.Keys as keys
 use Rattle.grok.specs.Keys.{TreeFault, numbered, key_after, how_often, is_among}
 use Rattle.grok.specs.CapturedSoFar.{taken_of, faults, after}
 use Rattle.grok.specs.KeyUses.{CountsUses, IsFree}
 use Rattle.grok.specs.NumberedBases.{only_clashing}
 use Rattle.grok.specs.CountedDefinitions.{resolve, opened_events}
-use Rattle.grok.specs.Walks.{tree_fault_view, Clashes}
+use Rattle.grok.specs.Items.{fault_view}
 use Rattle.grok.specs.declared.errors.fault.TreeFault.{TreeFault as CodeFault}
 use Rattle.grok.specs.declared.errors.fault.TreeFault.TheVariants as fault
 use Rattle.grok.specs.declared.expand.key_uses.KeyUses.{KeyUses}
 use Rattle.grok.specs.declared.expand.counted_definitions.CompileMode.{CompileMode}
 use Rattle.grok.specs.declared.expand.first_fault.ItemStep.{ItemStep}
 use Rattle.grok.specs.declared.expand.first_fault.ItemStep.TheVariants.{Skip, Enter, Report}
+
+-- ---- the fault
+
+-- what contracts see of the first fault
+abbrev pub tree_fault_view : CodeFault → TreeFault
+tree_fault_view (fault.Structural structural) = keys.Structural (fault_view structural)
+tree_fault_view (fault.Clash key) = keys.Clash (string_bytes key)
+
+-- `key` is the key that the next capturing placeholder, with the label `label`, would get, but one in `before` has it
+pub record Clashes (before : List Label) (label : Label) (key : String Global) : Type 0 where
+  pub taken : is_among (key_after before label) (taken_of before) ≡ true
+  pub named : string_bytes key ≡ key_after before label
+
+-- ---- what is counted
 
 -- `total` counts how often each base key (the key before its number is added) is used by the placeholders `before`,
 -- which are those read so far that can clash. No two of them have the same key.

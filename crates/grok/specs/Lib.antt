@@ -36,7 +36,7 @@ pub mod FirstFault
 pub mod NumberedBases
 pub mod KeyUses
 pub mod CountedDefinitions
-pub mod Walks
+pub mod AssignedKeys
 pub mod FirstFaultSteps
 pub mod Writes
 pub mod Compiled

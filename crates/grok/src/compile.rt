@@ -9,7 +9,7 @@ ghost use Rattle.grok.specs.Tree.{tree as tree_of, first_structural, reached};
 ghost use Rattle.grok.specs.Keys.{Structural, first_fault};
 ghost use Rattle.grok.specs.NumberedBases.{opens_numbered_from, is_base_in};
 ghost use Rattle.grok.specs.Expanded.{expanded};
-ghost use Rattle.grok.specs.Walks.{tree_fault_view};
+ghost use Rattle.grok.specs.FirstFaultSteps.{tree_fault_view};
 ghost use Rattle.grok.specs.Errors.{error_value, Memory as memory};
 ghost use Rattle.grok.specs.Compiled.{IsErrorOf, IsFirstError, error_of_refusal, IsBuilt, IsRefusal, Compiles, expansion_of};
 ghost use Rattle.grok.specs.Expansions.{Expands};

@@ -14,10 +14,9 @@ use Rattle.grok.specs.CapturedSoFar.{taken_of, faults, after}
 use Rattle.grok.specs.Events.{events_left}
 use Rattle.grok.specs.KeyUses.{CountsUses, IsFree}
 use Rattle.grok.specs.NumberedBases.{opens_numbered_from, is_base_in, only_clashing}
-use Rattle.grok.specs.Walks.{Clashes, tree_fault_view}
 use Rattle.grok.specs.Items.{item_view}
 use Rattle.grok.specs.CountedDefinitions.{resolve, opened_events, IsSoundItem, IsCountOfItems, IsCountedPartOf}
-use Rattle.grok.specs.FirstFaultSteps.{IsCountOf, CountedUse, HaveCounted, events_inside, EntersText, EntersPlaceholder, StepsAtItem, counted_fault, counted_after, HasFittingNumber}
+use Rattle.grok.specs.FirstFaultSteps.{tree_fault_view, Clashes, IsCountOf, CountedUse, HaveCounted, events_inside, EntersText, EntersPlaceholder, StepsAtItem, counted_fault, counted_after, HasFittingNumber}
 use Rattle.grok.specs.declared.defs.items.Item as code
 use Rattle.grok.specs.declared.expand.key_uses.KeyUses.{KeyUses}
 use Rattle.grok.specs.declared.expand.counted_definitions.CompileMode.{CompileMode}
@@ -167,7 +166,7 @@ module _ (mode : CompileMode) (text : List ℕ) (front : CountedPart) (f : IsCou
         inside_is zero none = absurd (omega arith)
         inside_is (suc n) some = let same : suc n - 1 ≡ n = omega arith in ap (λ k. events (opened_events mode k) (resolve mode text) ++ Close ∷ []) same
 
--- ---- the whole walk
+-- ---- the whole search
 
 -- no event that was read is a fault, and these are left
 pub record HasCountedUpTo (mode : CompileMode) (all left : List Event) (total : KeyUses) : Type 0 where
@@ -254,8 +253,9 @@ module _ (mode : CompileMode) (all : List Event) (total : KeyUses) where
     pub all_passed : left ≡ [] → counted_fault mode [] all ≡ None
     all_passed over = ap (counted_fault mode []) (h.cut ∙ ap (λ ls. h.read ++ ls) over ∙ append-nil h.read) ∙ h.passed.none
 
--- what the walk keeps, where these texts are open around the items that are left of the innermost one
-pub record IsWalking (mode : CompileMode) (all : List Event) (around : List (List Item)) (items : List Item) (total : KeyUses) : Type 0 where
+-- What is true during the search. In `around` are the items that remain of each open text, and in `items` those of the
+-- innermost one. `all` has the events of the whole tree.
+pub record IsSearching (mode : CompileMode) (all : List Event) (around : List (List Item)) (items : List Item) (total : KeyUses) : Type 0 where
   pub room : length around ≤ deepest
   pub sound : AreSound (resolve mode) (finite.get mode.grok.now) items
   pub all_sound : AreAllSound mode around
@@ -267,41 +267,41 @@ some_event inner (FaultItem fault) = omega arith
 some_event inner (PlaceholderItem label meaning) = omega arith
 
 module _ (mode : CompileMode) (all : List Event) where
-  pub walk_starts : (text : List ℕ) (around : List (List Item)) (items : List Item) (total : KeyUses) → around ≡ [] → items ≡ resolve mode text → all ≡ left_of mode [] (resolve mode text) → CountsUses total (λ key. 0) → IsWalking mode all around items total
-  walk_starts text around items total none is whole counts = record {
+  pub search_starts : (text : List ℕ) (around : List (List Item)) (items : List Item) (total : KeyUses) → around ≡ [] → items ≡ resolve mode text → all ≡ left_of mode [] (resolve mode text) → CountsUses total (λ key. 0) → IsSearching mode all around items total
+  search_starts text around items total none is whole counts = record {
     room = let e : length around ≡ 0 = ap length none in omega arith;
     sound = subst (AreSound (resolve mode) (finite.get mode.grok.now)) (sym is) ((sound_texts (finite.get mode.grok.now)).sound text);
     all_sound = subst (AreAllSound mode) (sym none) tt;
     passed = subst (λ left. HasCountedUpTo mode all left total) (whole ∙ ap (λ items. left_of mode [] items) (sym is) ∙ ap (λ around. left_of mode around items) (sym none)) (start_passed mode all total counts);
   }
 
-  module _ (around : List (List Item)) (items : List Item) (total : KeyUses) (w : IsWalking mode all around items total) where
-    abbrev pub walked : List Label
-    walked = so_far mode all total (left_of mode around items) w.passed
+  module _ (around : List (List Item)) (items : List Item) (total : KeyUses) (w : IsSearching mode all around items total) where
+    abbrev pub counted_so_far : List Label
+    counted_so_far = so_far mode all total (left_of mode around items) w.passed
 
-    pub walked_keeps : IsCountOf total walked
-    walked_keeps = w.passed.passed.keeps
+    pub so_far_is_counted : IsCountOf total counted_so_far
+    so_far_is_counted = w.passed.passed.keeps
 
-    pub walk_ends : items ≡ [] → around ≡ [] → counted_fault mode [] all ≡ None
-    walk_ends over none = all_passed mode all total (left_of mode around items) w.passed (ap (λ items. left_of mode around items) over ∙ ap (λ around. left_of mode around []) none)
+    pub search_ends : items ≡ [] → around ≡ [] → counted_fault mode [] all ≡ None
+    search_ends over none = all_passed mode all total (left_of mode around items) w.passed (ap (λ items. left_of mode around items) over ∙ ap (λ around. left_of mode around []) none)
 
     module _ (outer : List Item) (outside : List (List Item)) (over : items ≡ []) (is : around ≡ outside ++ outer ∷ []) where
-      closes : left_of mode around items ≡ Close ∷ left_of mode outside outer
-      closes = ap (λ items. left_of mode around items) over ∙ ap (λ around. left_of mode around []) is ∙ left_close (resolve mode) deepest outside outer
+      close_then_outer : left_of mode around items ≡ Close ∷ left_of mode outside outer
+      close_then_outer = ap (λ items. left_of mode around items) over ∙ ap (λ around. left_of mode around []) is ∙ left_close (resolve mode) deepest outside outer
 
-      pub walk_closes : IsWalking mode all outside outer total
-      walk_closes =
+      pub search_closes : IsSearching mode all outside outer total
+      search_closes =
           let sound = all_sound-pop mode outside outer (subst (AreAllSound mode) is w.all_sound) in
           let long : length around ≡ length outside + 1 = ap length is ∙ length-append outside (outer ∷ []) in
           record {
             room = omega (arith, w.room);
             sound = sound.0;
             all_sound = sound.1;
-            passed = more_passed mode all total (left_of mode around items) w.passed (Close ∷ []) (left_of mode outside outer) closes total (record { none = refl; keeps = walked_keeps });
+            passed = more_passed mode all total (left_of mode around items) w.passed (Close ∷ []) (left_of mode outside outer) close_then_outer total (record { none = refl; keeps = so_far_is_counted });
           }
 
       pub close_smaller : length (left_of mode outside outer) < length (left_of mode around items)
-      close_smaller = omega (arith, ap length closes)
+      close_smaller = omega (arith, ap length close_then_outer)
 
     module _ (item : Item) (rest : List Item) (cut : items ≡ item ∷ rest) where
       pub item_sound : IsSoundItem mode item
@@ -310,37 +310,37 @@ module _ (mode : CompileMode) (all : List Event) where
       rest_sound : AreSound (resolve mode) (finite.get mode.grok.now) rest
       rest_sound = sound_rest (resolve mode) (finite.get mode.grok.now) item rest (subst (AreSound (resolve mode) (finite.get mode.grok.now)) cut w.sound)
 
-      -- what reading the item does to the walk
-      pub walk_steps : (levels : ℕ) → levels ≡ deepest - length around → (later : KeyUses) (step : ItemStep) → (IsSoundItem mode item → (before : List Label) → IsCountOf total before → StepsAtItem mode levels item before later step)
-          → StepsAtItem mode (deepest - length around) item walked later step
-      walk_steps levels same later step enters = subst (λ n. StepsAtItem mode n item walked later step) same (enters item_sound walked walked_keeps)
+      -- the step at the item, after all placeholders that were counted so far
+      pub search_steps : (levels : ℕ) → levels ≡ deepest - length around → (later : KeyUses) (step : ItemStep) → (IsSoundItem mode item → (before : List Label) → IsCountOf total before → StepsAtItem mode levels item before later step)
+          → StepsAtItem mode (deepest - length around) item counted_so_far later step
+      search_steps levels same later step steps = subst (λ n. StepsAtItem mode n item counted_so_far later step) same (steps item_sound counted_so_far so_far_is_counted)
 
       abbrev pub its_events : List Event
       its_events = events (opened_events mode (deepest - length around)) (item ∷ [])
 
-      goes : left_of mode around items ≡ its_events ++ left_of mode around rest
-      goes = ap (λ items. left_of mode around items) cut ∙ left_item (resolve mode) deepest around item rest
+      item_then_rest : left_of mode around items ≡ its_events ++ left_of mode around rest
+      item_then_rest = ap (λ items. left_of mode around items) cut ∙ left_item (resolve mode) deepest around item rest
 
-      pub walk_passes : (later : KeyUses) → HaveCounted mode walked its_events later → IsWalking mode all around rest later
-      walk_passes later passed = record {
+      pub search_passes : (later : KeyUses) → HaveCounted mode counted_so_far its_events later → IsSearching mode all around rest later
+      search_passes later passed = record {
         room = w.room;
         sound = rest_sound;
         all_sound = w.all_sound;
-        passed = more_passed mode all total (left_of mode around items) w.passed its_events (left_of mode around rest) goes later passed;
+        passed = more_passed mode all total (left_of mode around items) w.passed its_events (left_of mode around rest) item_then_rest later passed;
       }
 
       pub pass_smaller : length (left_of mode around rest) < length (left_of mode around items)
-      pass_smaller = omega (arith, ap length goes, length-append its_events (left_of mode around rest), some_event (opened_events mode (deepest - length around)) item)
+      pass_smaller = omega (arith, ap length item_then_rest, length-append its_events (left_of mode around rest), some_event (opened_events mode (deepest - length around)) item)
 
-      pub walk_finds : (tree_fault : TreeFault) → counted_fault mode walked its_events ≡ Some (tree_fault_view tree_fault) → counted_fault mode [] all ≡ Some (tree_fault_view tree_fault)
-      walk_finds tree_fault stops = fault_found mode all total (left_of mode around items) w.passed its_events (left_of mode around rest) goes (tree_fault_view tree_fault) stops
+      pub search_finds : (tree_fault : TreeFault) → counted_fault mode counted_so_far its_events ≡ Some (tree_fault_view tree_fault) → counted_fault mode [] all ≡ Some (tree_fault_view tree_fault)
+      search_finds tree_fault stops = fault_found mode all total (left_of mode around items) w.passed its_events (left_of mode around rest) item_then_rest (tree_fault_view tree_fault) stops
 
-      module _ (inner : List Item) (later : KeyUses) (e : EntersPlaceholder mode (deepest - length around) item inner walked later) (deeper : List (List Item)) (is : deeper ≡ around ++ rest ∷ []) where
+      module _ (inner : List Item) (later : KeyUses) (e : EntersPlaceholder mode (deepest - length around) item inner counted_so_far later) (deeper : List (List Item)) (is : deeper ≡ around ++ rest ∷ []) where
         abbrev its_front : List Event
         its_front = Open e.label e.meaning ∷ events_inside mode (deepest - length around) e.front
 
-        enters : left_of mode around items ≡ its_front ++ left_of mode deeper inner
-        enters =
+        front_then_inner : left_of mode around items ≡ its_front ++ left_of mode deeper inner
+        front_then_inner =
             let long : length (around ++ rest ∷ []) ≡ length around + 1 = length-append around (rest ∷ []) in
             let same : deepest - length (around ++ rest ∷ []) ≡ deepest - length around - 1 = omega (arith, long) in
             ap (λ items. left_of mode around items) (cut ∙ ap (λ i. i ∷ rest) e.is)
@@ -351,20 +351,20 @@ module _ (mode : CompileMode) (all : List Event) where
             ∙ ap (λ n. events (opened_events mode n) e.front ++ left_of mode (around ++ rest ∷ []) inner) same
             ∙ ap (λ around'. events_inside mode (deepest - length around) e.front ++ left_of mode around' inner) (sym is))
 
-        pub walk_enters : IsWalking mode all deeper inner later
-        walk_enters =
+        pub search_enters : IsSearching mode all deeper inner later
+        search_enters =
             let long : length deeper ≡ length around + 1 = ap length is ∙ length-append around (rest ∷ []) in
             record {
               room = omega (arith, e.room);
               sound = sound_after_front mode e.front inner (subst (AreSound (resolve mode) (finite.get mode.grok.now)) e.cut ((sound_texts (finite.get mode.grok.now)).sound (meaning_text e.meaning)));
               all_sound = subst (AreAllSound mode) (sym is) (all_sound-push mode around rest w.all_sound rest_sound);
-              passed = more_passed mode all total (left_of mode around items) w.passed its_front (left_of mode deeper inner) enters later e.passed;
+              passed = more_passed mode all total (left_of mode around items) w.passed its_front (left_of mode deeper inner) front_then_inner later e.passed;
             }
 
         pub enter_smaller : length (left_of mode deeper inner) < length (left_of mode around items)
-        enter_smaller = omega (arith, ap length enters, length-append its_front (left_of mode deeper inner))
+        enter_smaller = omega (arith, ap length front_then_inner, length-append its_front (left_of mode deeper inner))
 
--- what the walk finds is the first fault of the whole tree, if all bases of numbered aliases are known
+-- what the search finds is the first fault of the whole tree, if all bases of numbered aliases are known
 pub is_first_fault : (mode : CompileMode) (pattern : List ℕ)
     → ((base : List ℕ) → is_base_in mode.numbered.now base ≡ opens_numbered_from base (reached (tree (finite.get mode.grok.now) pattern)))
     → counted_fault mode [] (left_of mode [] (resolve mode pattern)) ≡ first_fault mode.with_alias_only (tree (finite.get mode.grok.now) pattern)

@@ -10,7 +10,7 @@ use Rattle.grok.specs.Tree.{is_absent, Label, Event}
 use Rattle.grok.specs.Keys.{base_key, numbered, how_often, key_after, capturing}
 use Rattle.grok.specs.CapturedSoFar.{onto, in_order, extract_before, after}
 use Rattle.grok.specs.declared.expand.key_assigner.KeyAssigner.{KeyAssigner}
-use Rattle.grok.specs.Walks.{HasAssigned, CanAssign, HasKeys}
+use Rattle.grok.specs.AssignedKeys.{HasAssigned, CanAssign, HasKeys}
 use Rattle.grok.proofs.Keys.KeysAreDistinct.{how_often_more}
 use Rattle.grok.proofs.Keys.FirstFaultAndLastExtract.{in_order_onto, extract_onto}
 

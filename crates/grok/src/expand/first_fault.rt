@@ -8,9 +8,8 @@ ghost use Rattle.grok.specs.Tree.{tree as tree_of, reached};
 ghost use Rattle.grok.specs.NumberedBases.{opens_numbered_from, is_base_in};
 ghost use Rattle.grok.specs.Keys.{first_fault};
 ghost use Rattle.grok.specs.Items.{label_view, meaning_view, item_view};
-ghost use Rattle.grok.specs.Walks.{tree_fault_view};
 ghost use Rattle.grok.specs.CountedDefinitions.{AreCounted, IsCountOfItems, IsCountedPartOf, IsSoundItem, resolve};
-ghost use Rattle.grok.specs.FirstFaultSteps.{IsCountOf, CountsUse, SkipsCounted, StepsAtText, StepsAtItem, IsCountableFault, ReportsCountable};
+ghost use Rattle.grok.specs.FirstFaultSteps.{tree_fault_view, IsCountOf, CountsUse, SkipsCounted, StepsAtText, StepsAtItem, IsCountableFault, ReportsCountable};
 
 use crate::defs::deferred_items::DeferredItems;
 use crate::defs::items::{Item, Items, Label, Meaning};

@@ -1,18 +1,13 @@
--- What the key assigner has assigned so far, and the first fault of a tree.
-use Rattle.std.specs.Prelude.{◌≡◌, ℕ, ◌+◌, ◌<◌, ◌^◌, List, map, length, Bool, true, unwrap_or}
+-- What the key assigner has assigned so far, and to all placeholders of a tree.
+use Rattle.std.specs.Prelude.{◌≡◌, ℕ, ◌+◌, ◌<◌, ◌^◌, List, map, length, Bool, unwrap_or}
 use Rattle.std.specs.Option.{option_map}
 use Rattle.std.specs.String.{string_bytes}
 use Rattle.std.specs.BTreeMap.{get_by_text}
-use Rattle.std.specs.Global.{Global}
-use Rattle.std.specs.declared.string.String.{String}
 use Rattle.grok.specs.Tree.{Label, Event}
 use Rattle.grok.specs.Keys as keys
-use Rattle.grok.specs.Keys.{key_after, how_often, is_among, capturing, extract_of}
-use Rattle.grok.specs.CapturedSoFar.{taken_of, in_order, extract_before}
-use Rattle.grok.specs.Items.{fault_view}
+use Rattle.grok.specs.Keys.{how_often, capturing, extract_of}
+use Rattle.grok.specs.CapturedSoFar.{in_order, extract_before}
 use Rattle.grok.specs.declared.expand.key_assigner.KeyAssigner.{KeyAssigner}
-use Rattle.grok.specs.declared.errors.fault.TreeFault.{TreeFault}
-use Rattle.grok.specs.declared.errors.fault.TreeFault.TheVariants.{Structural, Clash}
 
 -- ---- what was assigned
 
@@ -31,18 +26,6 @@ pub record CanAssign (assigner : KeyAssigner) (more : ℕ) : Type 0 where
   pub before : List Label
   pub shows : HasAssigned assigner before
   pub fits : length before + more < 2 ^ 64
-
--- ---- the first fault
-
--- `key` is the key that the next capturing placeholder, with the label `label`, would get, but one in `before` has it
-pub record Clashes (before : List Label) (label : Label) (key : String Global) : Type 0 where
-  pub taken : is_among (key_after before label) (taken_of before) ≡ true
-  pub named : string_bytes key ≡ key_after before label
-
--- what contracts see of the first fault
-abbrev pub tree_fault_view : TreeFault → keys.TreeFault
-tree_fault_view (Structural fault) = keys.Structural (fault_view fault)
-tree_fault_view (Clash key) = keys.Clash (string_bytes key)
 
 -- ---- a whole tree
 
