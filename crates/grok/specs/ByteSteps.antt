@@ -5,7 +5,7 @@ use Rattle.grok.specs.Expanded.{expanded, groups}
 use Rattle.grok.specs.Sizes.{Size, length_of, size_or_fault}
 use Rattle.grok.specs.MeasuredOnce.{inlined}
 use Rattle.grok.specs.MeasureCache.{shown}
-use Rattle.grok.specs.FaultPlaces.{StandsAt, fault_within}
+use Rattle.grok.specs.FaultLocations.{StandsAt, fault_within}
 use Rattle.grok.specs.ByteLocations.{IsOwnEvent, IsPartOf}
 use Rattle.grok.specs.declared.measure.partial_size.PartialSize.{PartialSize}
 use Rattle.grok.specs.declared.locate_byte.WrittenByte.{WrittenByte}

@@ -5,7 +5,7 @@ use Rattle.grok.specs.Tree.{Definitions, Label, Meaning, meaning_text, Stored, I
 use Rattle.grok.specs.Pieces.{pieces}
 use Rattle.grok.specs.Keys.{base_key, how_often}
 use Rattle.grok.specs.CountedDefinitions.{resolve, opened_events, is_counted, counted}
-use Rattle.grok.specs.FaultPlaces.{path_view}
+use Rattle.grok.specs.FaultLocations.{path_view}
 use Rattle.grok.specs.ByteLocations.{IsEventAt}
 use Rattle.grok.specs.declared.expand.counted_definitions.CompileMode.{CompileMode}
 use Rattle.grok.specs.declared.locate_clash.PlaceholderLocation.{PlaceholderLocation}

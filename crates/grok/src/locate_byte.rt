@@ -5,7 +5,7 @@ ghost use Rattle.grok.specs.Tree.{Definitions, Label as ItemLabel, Meaning as It
 ghost use Rattle.grok.specs.Keys.{is_capturing as captures};
 ghost use Rattle.grok.specs.Items.{item_view, label_view, meaning_view};
 ghost use Rattle.grok.specs.MeasureCache.{IsIdle, HasCorrectCache};
-ghost use Rattle.grok.specs.FaultPlaces.{fault_within};
+ghost use Rattle.grok.specs.FaultLocations.{fault_within};
 ghost use Rattle.grok.specs.ByteLocations.{LocatesByte};
 ghost use Rattle.grok.specs.ByteSteps.{IsLater, IsSizedItem, IsSizeOfDefinition, IsStep, IsStepAfter, FindsWritingPiece};
 

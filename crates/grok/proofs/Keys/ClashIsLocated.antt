@@ -10,7 +10,7 @@ use Rattle.grok.specs.Tree.{Definitions, Label, Meaning, PlaceholderItem, Event,
 use Rattle.grok.specs.Keys.{is_capturing, capturing, base_key, how_often, numbered, key_after, TreeFault, Clash, first_fault}
 use Rattle.grok.specs.CapturedSoFar.{onto}
 use Rattle.grok.specs.NumberedBases.{opens_numbered_from, is_base_in, can_clash}
-use Rattle.grok.specs.FaultPlaces.{path_view}
+use Rattle.grok.specs.FaultLocations.{path_view}
 use Rattle.grok.specs.FirstFault.{IsFaultAfter, Breaks, Meets}
 use Rattle.grok.specs.ByteLocations.{IsEventAt}
 use Rattle.grok.specs.ClashLocations.{HasKeyAt, IsClashAt}

@@ -9,7 +9,7 @@ use Rattle.grok.specs.Items.{fault_view}
 use Rattle.grok.specs.Measured.{tree_of, measured_tree}
 use Rattle.grok.specs.MeasuredOnce.{nothing_measured}
 use Rattle.grok.specs.MeasureCache.{HasCorrectCache, measure_view}
-use Rattle.grok.specs.FaultPlaces.{path_view}
+use Rattle.grok.specs.FaultLocations.{path_view}
 use Rattle.grok.specs.ByteSteps.{FindsWritingPiece, IsWritingPiece, IsWrittenInside}
 use Rattle.grok.proofs.Sizes.MeasuringAgain.{nothing_true}
 use Rattle.grok.proofs.Trees.ByteIsLocated.{IsWayTo, measured_faulty, measured_clean, way_starts, way_goes, way_ends}
