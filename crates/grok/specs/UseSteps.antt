@@ -20,7 +20,7 @@ abbrev pub is_some_use : ℕ → Bool
 is_some_use zero = false
 is_some_use (suc count) = true
 
--- The search passed over so many uses of the base key, and so many of the other one.
+-- The search passed over `uses` uses of the base key that is sought, and `others` uses of the other base key.
 pub record HasPassed (uses others : ℕ) (old new : UsesSoFar) : Type 0 where
   pub fewer : uses + new.left ≡ old.left
   pub seen : new.is_other_used ≡ (old.is_other_used || is_some_use others)

@@ -126,7 +126,7 @@ module _ (alias_only : Bool) where
       let key = key_after (onto [] opens) label in
       let same = key_onto opens label in
       elim (cases_Bool (is_capturing alias_only label)) [
-        | inr unrecorded ↦ let bad : None ≡ Some tree_fault = sym (ap (λ b. cond b (cond (is_among key (taken_of (onto [] opens))) (Some (Clash key)) None) None) unrecorded) ∙ e in cc
+        | inr not_capturing ↦ let bad : None ≡ Some tree_fault = sym (ap (λ b. cond b (cond (is_among key (taken_of (onto [] opens))) (Some (Clash key)) None) None) not_capturing) ∙ e in cc
         | inl is ↦
             let e₁ : cond (is_among key (taken_of (onto [] opens))) (Some (Clash key)) None ≡ Some tree_fault = sym (ap (λ b. cond b (cond (is_among key (taken_of (onto [] opens))) (Some (Clash key)) None) None) is) ∙ e in
             elim (cases_Bool (is_among key (taken_of (onto [] opens)))) [

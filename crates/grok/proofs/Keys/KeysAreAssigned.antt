@@ -22,12 +22,12 @@ module _ (before : List Label) (label : Label) (old : KeyAssigner) (shows : HasA
       let often : count ≡ how_often before want = counted ∙ shows.uses want in
       named ∙ ap (numbered want) often ∙ ap (λ w. numbered w (how_often before w)) wants
 
-  pub recorded_now : (new : KeyAssigner) (want name : List ℕ) → want ≡ base_key label → name ≡ key_after before label
+  pub assigned_now : (new : KeyAssigner) (want name : List ℕ) → want ≡ base_key label → name ≡ key_after before label
       → ((key : List ℕ) → unwrap_or (get_by_text new.uses key) 0 ≡ cond (bytes_eq want key) 1 0 + unwrap_or (get_by_text old.uses key) 0)
       → map string_bytes new.keys.items ≡ map string_bytes old.keys.items ++ name ∷ []
       → ((key : List ℕ) → option_map string_bytes (get_by_text new.extracts key) ≡ cond (bytes_eq name key && not (is_absent label.extract)) (Some label.extract) (option_map string_bytes (get_by_text old.extracts key)))
       → HasAssigned new (label ∷ before)
-  recorded_now new want name wants is counts keys extracts = record {
+  assigned_now new want name wants is counts keys extracts = record {
     uses = λ key. counts key ∙ ap (λ n. cond {A = ℕ} (bytes_eq want key) 1 0 + n) (shows.uses key) ∙ ap (λ w. cond {A = ℕ} (bytes_eq w key) 1 0 + how_often before key) wants ∙ sym (how_often_more label before key);
     keys = keys ∙ ap (λ ks. ks ++ name ∷ []) shows.keys ∙ ap (λ k. in_order before ++ k ∷ []) is;
     extracts = λ key. extracts key ∙ ap (λ o. cond (bytes_eq name key && not (is_absent label.extract)) (Some label.extract) o) (shows.extracts key)
