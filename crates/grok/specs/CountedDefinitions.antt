@@ -74,13 +74,13 @@ abbrev pub with_item : Bool → List Item → Item → List Item
 with_item true items item = items ++ item ∷ []
 with_item false items item = items
 
--- `front` is the counted part of the text: all of its items, or those before the first one that wasn't counted, which
--- is `front.uncounted`. The items after that one are those after the first `front.read` items of the text.
-pub record IsCountedPartOf (mode : CompileMode) (text : List ℕ) (front : CountedPart) : Type 0 where
+-- `part` is the counted part of the text: all of its items, or those before the first one that wasn't counted, which
+-- is `part.uncounted`. The items after that one are those after the first `part.read` items of the text.
+pub record IsCountedPartOf (mode : CompileMode) (text : List ℕ) (part : CountedPart) : Type 0 where
   pub items : List Item
-  pub cut : MatchOption front.uncounted (resolve mode text ≡ items)
-      (λ item. resolve mode text ≡ items ++ item_view item ∷ drop front.read (resolve mode text))
-  pub is_count : IsCountOfItems mode items front.counted
+  pub cut : MatchOption part.uncounted (resolve mode text ≡ items)
+      (λ item. resolve mode text ≡ items ++ item_view item ∷ drop part.read (resolve mode text))
+  pub is_count : IsCountOfItems mode items part.counted
 
 -- the counted part of the definition of a name
 abbrev pub counted_part_of : BTreeMap (Bor (List ℕ)) CountedPart → List ℕ → Option CountedPart
@@ -88,5 +88,5 @@ counted_part_of by_name name = get_by (λ (key : Bor (List ℕ)). slice_cmp nat_
 
 -- what is kept for each name is a counted part of its definition
 abbrev pub AreCounted : CompileMode → CountedDefinitions → Type 0
-AreCounted mode definitions = (name text : List ℕ) (front : CountedPart) → counted_part_of definitions.by_name name ≡ Some front
-    → finite.get mode.grok.now name ≡ Some text → IsCountedPartOf mode text front
+AreCounted mode definitions = (name text : List ℕ) (part : CountedPart) → counted_part_of definitions.by_name name ≡ Some part
+    → finite.get mode.grok.now name ≡ Some text → IsCountedPartOf mode text part

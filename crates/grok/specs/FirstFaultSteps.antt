@@ -42,7 +42,7 @@ pub record IsCountOf (total : KeyUses) (before : List Label) : Type 0 where
 -- too.
 pub record CountedUse (before : List Label) (label : Label) (total : KeyUses) : Type 0 where
   pub free : is_among (key_after before label) (taken_of before) ≡ false
-  pub keeps : IsCountOf total (label ∷ before)
+  pub is_count : IsCountOf total (label ∷ before)
 
 -- If `clash` is `None`, one more placeholder was counted, with the label `label`. Otherwise `clash` is its key, which
 -- a placeholder in `before` already has.
@@ -63,7 +63,7 @@ counted_after mode before es = after mode.with_alias_only before (only_clashing 
 -- `before` and those in `es` that can clash.
 pub record HaveCounted (mode : CompileMode) (before : List Label) (es : List Event) (total : KeyUses) : Type 0 where
   pub none : counted_fault mode before es ≡ None
-  pub keeps : IsCountOf total (counted_after mode before es)
+  pub is_count : IsCountOf total (counted_after mode before es)
 
 -- the events of items of a definition, if `levels` levels are allowed, its own among them
 abbrev pub events_inside : CompileMode → ℕ → List Item → List Event
@@ -80,9 +80,9 @@ SkipsCounted mode items levels before old new false = IsCountOf new before
 pub record EntersText (mode : CompileMode) (levels : ℕ) (text : List ℕ) (items : List Item) (before : List Label)
     (total : KeyUses) : Type 0 where
   pub room : 0 < levels
-  pub front : List Item
-  pub cut : resolve mode text ≡ front ++ items
-  pub passed : HaveCounted mode before (events_inside mode levels front) total
+  pub skipped : List Item
+  pub cut : resolve mode text ≡ skipped ++ items
+  pub passed : HaveCounted mode before (events_inside mode levels skipped) total
 
 -- one step at the text of a placeholder: skip it, enter it, or report its first fault
 abbrev pub StepsAtText : CompileMode → ℕ → List ℕ → List Label → KeyUses → ItemStep → Type 0
@@ -99,9 +99,9 @@ pub record EntersPlaceholder (mode : CompileMode) (levels : ℕ) (item : Item) (
   pub meaning : Meaning
   pub is : item ≡ PlaceholderItem label meaning
   pub room : 0 < levels
-  pub front : List Item
-  pub cut : resolve mode (meaning_text meaning) ≡ front ++ items
-  pub passed : HaveCounted mode before (Open label meaning ∷ events_inside mode levels front) total
+  pub skipped : List Item
+  pub cut : resolve mode (meaning_text meaning) ≡ skipped ++ items
+  pub passed : HaveCounted mode before (Open label meaning ∷ events_inside mode levels skipped) total
 
 -- one step at an item: skip it with its definition, enter the definition, or report the first fault
 abbrev pub StepsAtItem : CompileMode → ℕ → Item → List Label → KeyUses → ItemStep → Type 0

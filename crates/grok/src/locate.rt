@@ -66,7 +66,7 @@ fn wrong_item<'a>(
         IsResolvedItem (finite.get measurer.old.mode.grok.now) (item_view item.entry) → MatchOption found
         (fault_within (finite.get measurer.old.mode.grok.now) levels (item_view item.entry ∷ []) ≡ None)
         (λ wrong. IsWrong (finite.get measurer.old.mode.grok.now) levels (item_view item.entry) wrong)) }
-    ensures keeps { IfOk result
+    ensures cache { IfOk result
         (λ found. HasCorrectCache measurer.old →
         HasCorrectCache measurer.new) }
     ensures idle { IfOk result (λ found. IsIdle measurer.new) }
@@ -120,7 +120,7 @@ fn first_wrong<'a>(
         (fault_within (finite.get measurer.old.mode.grok.now) levels
         (items_of (finite.get measurer.old.mode.grok.now) text.now) ≡ None)
         (λ first. IsFirstWrong (finite.get measurer.old.mode.grok.now) levels text.now first)) }
-    ensures keeps { IfOk result
+    ensures cache { IfOk result
         (λ found. HasCorrectCache measurer.old →
         HasCorrectCache measurer.new) }
     ensures idle { IfOk result (λ found. IsIdle measurer.new) }

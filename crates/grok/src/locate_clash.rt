@@ -148,8 +148,8 @@ fn pass_definition<'a>(
     ensures stopped { result ≡ false → so_far.new ≡ so_far.old }
 {
     match definitions.of_name(name) {
-        Some(front) if front.uncounted.is_none() && front.counted.height < levels => {
-            let uses = &front.counted.uses;
+        Some(part) if part.uncounted.is_none() && part.counted.height < levels => {
+            let uses = &part.counted.uses;
             let own = uses.times_of(keys.base);
             let others = uses.times_of(keys.other);
             so_far.pass(own, others)

@@ -51,8 +51,8 @@ sound_first mode (PlaceholderItem label (Stored text)) items h = h.0
 
 -- ---- counts
 
-pub counts_same : (counts : KeyUses) (wants others : List ℕ → ℕ) → ((key : List ℕ) → wants key ≡ others key) → CountsUses counts wants → CountsUses counts others
-counts_same counts wants others same = subst (CountsUses counts) (λ i key. same key i)
+pub counts_same : (counts : KeyUses) (uses others : List ℕ → ℕ) → ((key : List ℕ) → uses key ≡ others key) → CountsUses counts uses → CountsUses counts others
+counts_same counts uses others same = subst (CountsUses counts) (λ i key. same key i)
 
 -- how often the open of this label uses the key, if its uses are counted
 abbrev pub own : CompileMode → Label → List ℕ → ℕ
@@ -132,7 +132,7 @@ module _ (mode : CompileMode) where
     }
 
     pub meaning_counted : (label : Label) (meaning : Meaning) (inner : CountedItems) → IsCountOfText mode (meaning_text meaning) inner → inner.height < new.height
-        → ((others wants : List ℕ → ℕ) → CountsUses inner.uses others → CountsUses old.uses wants → CountsUses new.uses (λ key. own mode label key + (others key + wants key)))
+        → ((others uses : List ℕ → ℕ) → CountsUses inner.uses others → CountsUses old.uses uses → CountsUses new.uses (λ key. own mode label key + (others key + uses key)))
         → IsCountOfItems mode (items ++ PlaceholderItem label meaning ∷ []) new
     meaning_counted label meaning inner t high counts =
         one_more_counted (PlaceholderItem label meaning) (λ key. own mode label key + t.uses key)
@@ -174,26 +174,26 @@ module _ (mode : CompileMode) where
   counting_starts text left count is counts = record { items = []; cut = sym is; many = refl; is_count = no_items_counted count counts }
 
   -- the search goes on with the item at which counting stops, and after it with the items that weren't read
-  pub counted_in_part : (text : List ℕ) (left rest : List Item) (item : code.Item) (counted : ℕ) (front : CountedPart) → left ≡ item_view item ∷ rest → front.read ≡ counted + 1 → front.uncounted ≡ Some item
-      → IsCounting text left counted front.counted → IsCountedPartOf mode text front
-  counted_in_part text left rest item counted front is one part h =
+  pub counted_in_part : (text : List ℕ) (left rest : List Item) (item : code.Item) (counted : ℕ) (part : CountedPart) → left ≡ item_view item ∷ rest → part.read ≡ counted + 1 → part.uncounted ≡ Some item
+      → IsCounting text left counted part.counted → IsCountedPartOf mode text part
+  counted_in_part text left rest item counted part is one stops h =
       let whole : resolve mode text ≡ h.items ++ item_view item ∷ rest = h.cut ∙ ap (λ left. h.items ++ left) is in
-      let read : length (h.items ++ item_view item ∷ []) ≡ front.read = omega (arith, length-append h.items (item_view item ∷ []), h.many, one) in
-      let later : drop front.read (resolve mode text) ≡ rest =
+      let read : length (h.items ++ item_view item ∷ []) ≡ part.read = omega (arith, length-append h.items (item_view item ∷ []), h.many, one) in
+      let later : drop part.read (resolve mode text) ≡ rest =
       ap (λ n. drop n (resolve mode text)) (sym read)
       ∙ ap (drop (length (h.items ++ item_view item ∷ []))) (whole ∙ sym (append_assoc h.items (item_view item ∷ []) rest))
       ∙ drop-append_seam (h.items ++ item_view item ∷ []) rest in
       record {
         items = h.items;
-        cut = subst (λ o. MatchOption o (resolve mode text ≡ h.items) (λ item. resolve mode text ≡ h.items ++ item_view item ∷ drop front.read (resolve mode text))) (sym part)
+        cut = subst (λ o. MatchOption o (resolve mode text ≡ h.items) (λ item. resolve mode text ≡ h.items ++ item_view item ∷ drop part.read (resolve mode text))) (sym stops)
             (whole ∙ ap (λ rest. h.items ++ item_view item ∷ rest) (sym later));
         is_count = h.is_count;
       }
 
-  pub counted_wholly : (text : List ℕ) (left : List Item) (counted : ℕ) (front : CountedPart) → left ≡ [] → front.uncounted ≡ None → IsCounting text left counted front.counted → IsCountedPartOf mode text front
-  counted_wholly text left counted front over part h = record {
+  pub counted_wholly : (text : List ℕ) (left : List Item) (counted : ℕ) (part : CountedPart) → left ≡ [] → part.uncounted ≡ None → IsCounting text left counted part.counted → IsCountedPartOf mode text part
+  counted_wholly text left counted part over none h = record {
     items = h.items;
-    cut = subst (λ o. MatchOption o (resolve mode text ≡ h.items) (λ item. resolve mode text ≡ h.items ++ item_view item ∷ drop front.read (resolve mode text))) (sym part)
+    cut = subst (λ o. MatchOption o (resolve mode text ≡ h.items) (λ item. resolve mode text ≡ h.items ++ item_view item ∷ drop part.read (resolve mode text))) (sym none)
         (h.cut ∙ ap (λ left. h.items ++ left) over ∙ append-nil h.items);
     is_count = h.is_count;
   }
@@ -207,8 +207,8 @@ module _ (mode : CompileMode) where
     is_count = counts_item h.items h.is_count;
   }
 
-  pub whole_text_counted : (text : List ℕ) (front : CountedPart) → IsCountedPartOf mode text front → front.uncounted ≡ None → IsCountOfText mode text front.counted
-  whole_text_counted text front f whole = record {
+  pub whole_text_counted : (text : List ℕ) (part : CountedPart) → IsCountedPartOf mode text part → part.uncounted ≡ None → IsCountOfText mode text part.counted
+  whole_text_counted text part f whole = record {
     uses = f.is_count.uses;
     counts = f.is_count.counts;
     clean = clean;
@@ -216,15 +216,15 @@ module _ (mode : CompileMode) where
   }
     where
       all : resolve mode text ≡ f.items
-      all = subst (λ o. MatchOption o (resolve mode text ≡ f.items) (λ item. resolve mode text ≡ f.items ++ item_view item ∷ drop front.read (resolve mode text))) whole f.cut
+      all = subst (λ o. MatchOption o (resolve mode text ≡ f.items) (λ item. resolve mode text ≡ f.items ++ item_view item ∷ drop part.read (resolve mode text))) whole f.cut
 
-      clean : (levels : ℕ) → front.counted.height < levels → first_structural (opened_events mode levels text) ≡ None
+      clean : (levels : ℕ) → part.counted.height < levels → first_structural (opened_events mode levels text) ≡ None
       clean zero high = absurd (omega arith)
       clean (suc levels) high =
           first_structural-append (events (opened_events mode levels) (resolve mode text)) (Close ∷ [])
           ∙ ap (λ o. or_else o None) (ap (λ items. first_structural (events (opened_events mode levels) items)) all ∙ f.is_count.clean levels (omega arith))
 
-      often : (levels : ℕ) → front.counted.height < levels → (key : List ℕ) → how_often (counted mode (opened_events mode levels text)) key ≡ f.is_count.uses key
+      often : (levels : ℕ) → part.counted.height < levels → (key : List ℕ) → how_often (counted mode (opened_events mode levels text)) key ≡ f.is_count.uses key
       often zero high key = absurd (omega arith)
       often (suc levels) high key =
           let es = events (opened_events mode levels) (resolve mode text) in
@@ -255,17 +255,17 @@ none_left None b answer is = refl
 none_left (Some x) b answer is = absurd (true≢false (answer ∙ ap not is))
 
 -- one name more
-pub name_counted : (mode : CompileMode) (old new : CountedDefinitions) (name text : List ℕ) (front : CountedPart) → AreCounted mode old → finite.get mode.grok.now name ≡ Some text → IsCountedPartOf mode text front
-    → ((other : List ℕ) → counted_part_of new.by_name other ≡ cond (bytes_eq name other) (Some front) (counted_part_of old.by_name other)) → AreCounted mode new
-name_counted mode old new name text front are_counted defined is updates other its found at defines = elim (cases_Bool (bytes_eq name other)) [
+pub name_counted : (mode : CompileMode) (old new : CountedDefinitions) (name text : List ℕ) (part : CountedPart) → AreCounted mode old → finite.get mode.grok.now name ≡ Some text → IsCountedPartOf mode text part
+    → ((other : List ℕ) → counted_part_of new.by_name other ≡ cond (bytes_eq name other) (Some part) (counted_part_of old.by_name other)) → AreCounted mode new
+name_counted mode old new name text part are_counted defined is updates other its found at defines = elim (cases_Bool (bytes_eq name other)) [
   | inl same ↦
       let e : name ≡ other = same_text name other same in
-      let now : counted_part_of new.by_name other ≡ Some front = updates other ∙ ap (λ b. cond b (Some front) (counted_part_of old.by_name other)) same in
-      let this : Some front ≡ Some found = sym now ∙ at in
+      let now : counted_part_of new.by_name other ≡ Some part = updates other ∙ ap (λ b. cond b (Some part) (counted_part_of old.by_name other)) same in
+      let this : Some part ≡ Some found = sym now ∙ at in
       let text_is : Some text ≡ Some its = sym defined ∙ ap (λ n. finite.get mode.grok.now n) e ∙ defines in
-      let one : front ≡ found = cc in
+      let one : part ≡ found = cc in
       let two : text ≡ its = cc in
-      subst (IsCountedPartOf mode its) one (subst (λ t. IsCountedPartOf mode t front) two is)
+      subst (IsCountedPartOf mode its) one (subst (λ t. IsCountedPartOf mode t part) two is)
   | inr apart ↦
-      are_counted other its found (sym (updates other ∙ ap (λ b. cond b (Some front) (counted_part_of old.by_name other)) apart) ∙ at) defines
+      are_counted other its found (sym (updates other ∙ ap (λ b. cond b (Some part) (counted_part_of old.by_name other)) apart) ∙ at) defines
 ]

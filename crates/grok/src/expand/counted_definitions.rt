@@ -122,10 +122,10 @@ impl<'a> CountedItems<'a> {
         label: Label<'a>,
         inner: &CountedItems<'a>,
     ) -> Result<bool, AllocError>
-        ensures { IfOk result (λ added. (meaning : tree.Meaning) (front : List tree.Item)
+        ensures { IfOk result (λ added. (meaning : tree.Meaning) (items : List tree.Item)
             → IsCountOfText mode.entry (tree.meaning_text meaning) inner.now
-            → IsCountOfItems mode.entry front self.old → IsCountOfItems mode.entry
-            (with_item added front (tree.PlaceholderItem (label_view label.entry) meaning)) self.new) }
+            → IsCountOfItems mode.entry items self.old → IsCountOfItems mode.entry
+            (with_item added items (tree.PlaceholderItem (label_view label.entry) meaning)) self.new) }
     {
         let key = base_key(label);
         let uses = self.uses.times_of(key);
@@ -143,8 +143,8 @@ impl<'a> CountedItems<'a> {
 impl<'a> CountedDefinitions<'a> {
     /// Returns the counted part of the definition of a name, if there is one.
     pub fn of_name(&self, name: &'a str) -> Option<&CountedPart<'a>>
-        ensures { IfSome result (λ front. (mode : CompileMode) → AreCounted mode self.now → (text : List ℕ)
-            → finite.get mode.grok.now name.now ≡ Some text → IsCountedPartOf mode text front.now) }
+        ensures { IfSome result (λ part. (mode : CompileMode) → AreCounted mode self.now → (text : List ℕ)
+            → finite.get mode.grok.now name.now ≡ Some text → IsCountedPartOf mode text part.now) }
     {
         self.by_name.get(&name)
     }
@@ -159,8 +159,8 @@ impl<'a> CountedDefinitions<'a> {
     ) -> Result<bool, AllocError>
         requires { AreCounted mode self.now }
         ensures { IfOk result (λ known. IsSoundItem mode.entry (item_view item.entry)
-            → (front : List tree.Item) → IsCountOfItems mode.entry front counted.old →
-            IsCountOfItems mode.entry (with_item known front (item_view item.entry)) counted.new) }
+            → (items : List tree.Item) → IsCountOfItems mode.entry items counted.old →
+            IsCountOfItems mode.entry (with_item known items (item_view item.entry)) counted.new) }
     {
         match item {
             Item::Text(_) => Ok(true),
@@ -171,8 +171,8 @@ impl<'a> CountedDefinitions<'a> {
                     counted.add_placeholder(mode, label, &nothing)
                 }
                 Meaning::Stored(_) => match self.of_name(label.name) {
-                    Some(front) if front.uncounted.is_none() => {
-                        counted.add_placeholder(mode, label, &front.counted)
+                    Some(part) if part.uncounted.is_none() => {
+                        counted.add_placeholder(mode, label, &part.counted)
                     }
                     _ => Ok(false),
                 },
@@ -189,26 +189,26 @@ impl<'a> CountedDefinitions<'a> {
     ) -> Result<Option<CountedPart<'a>>, AllocError>
         requires { AreCounted mode self.now }
         ensures { IfOk result (λ counted. IfSome counted
-            (λ front. IsCountedPartOf mode.entry stored.now front)) }
+            (λ part. IsCountedPartOf mode.entry stored.now part)) }
     {
         let alloc = mode.grok.alloc();
         let mut items = Items::of_stored(alloc, mode.grok, stored);
-        let mut front = CountedPart {
+        let mut part = CountedPart {
             counted: CountedItems::new(alloc),
             uncounted: None,
             read: 0,
         };
         'items: while let Some(item) = items.next()? {
-            let Some(read) = front.read.checked_add(1) else {
+            let Some(read) = part.read.checked_add(1) else {
                 return Ok(None);
             };
-            front.read = read;
-            if !self.count_item(mode, item, &mut front.counted)? {
-                front.uncounted = Some(item);
-                return Ok(Some(front));
+            part.read = read;
+            if !self.count_item(mode, item, &mut part.counted)? {
+                part.uncounted = Some(item);
+                return Ok(Some(part));
             }
         }
-        Ok(Some(front))
+        Ok(Some(part))
     }
 
     /// Counts the definition of a name, if it has one, and keeps what was counted under that name.
@@ -220,8 +220,8 @@ impl<'a> CountedDefinitions<'a> {
         let Some(stored) = mode.grok.definition(name) else {
             return Ok(());
         };
-        if let Some(front) = self.count_text(mode, stored)? {
-            self.by_name.insert(name, front)?;
+        if let Some(part) = self.count_text(mode, stored)? {
+            self.by_name.insert(name, part)?;
         }
         Ok(())
     }

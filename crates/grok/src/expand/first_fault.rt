@@ -89,23 +89,23 @@ fn skip_counted<'a>(
 /// of it. If the counted part can't be skipped, all of the definition is entered.
 fn open_after_counted<'a>(
     total: &mut KeyUses<'a>,
-    front: &CountedPart<'a>,
+    part: &CountedPart<'a>,
     items: Items<'a>,
     levels: usize,
 ) -> Result<ItemStep<'a>, AllocError>
     requires { 0 < levels }
-    ensures step { IfOk result (λ step. (mode : CompileMode) (text : List ℕ) → IsCountedPartOf mode text front.now
+    ensures step { IfOk result (λ step. (mode : CompileMode) (text : List ℕ) → IsCountedPartOf mode text part.now
         → items.entry ≡ resolve mode text → (before : List tree.Label) → IsCountOf total.old before →
         StepsAtText mode levels text before total.new step) }
     ensures number { IfOk result (λ step. ReportsCountable step) }
 {
-    if !skip_counted(total, &front.counted, levels)? {
+    if !skip_counted(total, &part.counted, levels)? {
         return Ok(ItemStep::Enter(DeferredItems::of_items(items)));
     }
-    match front.uncounted {
+    match part.uncounted {
         None => Ok(ItemStep::Skip),
         Some(item) => {
-            let rest = DeferredItems::known_first(item, front.read, items);
+            let rest = DeferredItems::known_first(item, part.read, items);
             Ok(ItemStep::Enter(rest))
         }
     }
@@ -140,7 +140,7 @@ fn open_placeholder<'a>(
         Meaning::Stored(stored) => {
             let items = Items::of_stored(alloc, mode.grok, stored);
             match definitions.of_name(label.name) {
-                Some(front) => open_after_counted(total, front, items, levels),
+                Some(part) => open_after_counted(total, part, items, levels),
                 None => Ok(ItemStep::Enter(DeferredItems::of_items(items))),
             }
         }

@@ -115,8 +115,8 @@ pub(crate) fn check_pattern_fault(
 ) -> Result<(), AllocError> {
     let mut reader = FakeReader::new(row.input);
     let mut writer = FakeWriter::new(rt.alloc());
-    let said = words_of_pattern(rt.alloc(), row.words, &mut reader, &mut writer)?;
-    assert_eq!(rt; said.as_str(), row.output, "{}", row.name);
+    let printed = words_of_pattern(rt.alloc(), row.words, &mut reader, &mut writer)?;
+    assert_eq!(rt; printed.as_str(), row.output, "{}", row.name);
     let outcome = outcome_at(Ending::Pattern, &reader, &writer);
     check_untouched(rt, row, outcome, Ending::Pattern);
     Ok(())

@@ -26,7 +26,7 @@ items-preserved c =
     record {
       idle = c.in_ok-wrong.ensures.idle;
       mode = c.in_ok-wrong.ensures.mode ∙ mode;
-      known = λ known. c.in_ok-wrong.ensures.keeps (c.items.invariant.known known);
+      known = λ known. c.in_ok-wrong.ensures.cache (c.items.invariant.known known);
       locating = λ known.
           let p = c.items.invariant.locating known in
           let resolved = subst (λ (mode : MeasureMode). IsResolvedItem (finite.get mode.grok.now) item) (sym mode) (next_resolved stored c.args.levels c.args.text.now c.items.pieces c.items.items c.items.begin p item rest cut) in

@@ -47,7 +47,7 @@ texts-preserved c =
       idle = c.in_ok-first.ensures.idle;
       grok = ap (λ (mode : MeasureMode). mode.grok.now) c.in_ok-first.ensures.mode ∙ c.texts.invariant.grok;
       few = let few : c.texts.levels ≤ deepest = c.texts.invariant.few in omega arith;
-      known = c.in_ok-first.ensures.keeps c.texts.invariant.known;
+      known = c.in_ok-first.ensures.cache c.texts.invariant.known;
       way = subst (λ names. IsWayDown stored c.args.pattern.now names (c.texts.levels - 1) c.text-text.result.now) (sym longer)
           (subst (IsWayDown stored c.args.pattern.now (path ++ name.now ∷ []) (c.texts.levels - 1)) (sym c.text-text.ensures) below);
     }

@@ -9,6 +9,6 @@ use Rattle.grok.proofs.expand.counted_definitions.CountedDefinitions.of_name.Goa
 pub returns : goal.returns
 returns c = found c.get.result c.get.ensures.value
   where
-    found : (o : Option (Bor CountedPart)) → option_copied o ≡ counted_part_of c.args.self.now.by_name c.args.name.now → IfSome o (λ front. (mode : CompileMode) → AreCounted mode c.args.self.now → (text : List ℕ) → finite.get mode.grok.now c.args.name.now ≡ Some text → IsCountedPartOf mode text front.now)
+    found : (o : Option (Bor CountedPart)) → option_copied o ≡ counted_part_of c.args.self.now.by_name c.args.name.now → IfSome o (λ part. (mode : CompileMode) → AreCounted mode c.args.self.now → (text : List ℕ) → finite.get mode.grok.now c.args.name.now ≡ Some text → IsCountedPartOf mode text part.now)
     found None e = tt
-    found (Some front) e = λ mode are_counted text is. are_counted c.args.name.now text front.now (sym e) is
+    found (Some part) e = λ mode are_counted text is. are_counted c.args.name.now text part.now (sym e) is

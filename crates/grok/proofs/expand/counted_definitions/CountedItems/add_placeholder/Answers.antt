@@ -14,7 +14,7 @@ returns c meaning items t h =
     let above : c.args.self.now.height ≤ new.height = omega (arith, high.1, kept) in
     let deep : c.args.inner.now.height < new.height = omega (arith, high.0, kept) in
     meaning_counted c.args.mode items c.args.self.now new h above label meaning c.args.inner.now t deep
-    (λ others wants has_others has_wants. c.in_ok-add_open.ensures.counts (λ key. others key + wants key) (c.in_ok-add_opened.ensures.counts added wants others has_wants has_others))
+    (λ others uses has_others has_uses. c.in_ok-add_open.ensures.counts (λ key. others key + uses key) (c.in_ok-add_opened.ensures.counts added uses others has_uses has_others))
 
 pub returns-then-not-branch : goal.returns-then-not-branch
 returns-then-not-branch c meaning items t h = subst (IsCountOfItems c.args.mode items) (sym (c.in_ok-add_opened.ensures.unchanged c.if-not-branch.true)) h
