@@ -50,12 +50,13 @@ abbrev pub CountsUse : List Label → Label → KeyUses → Option (String Globa
 CountsUse before label total clash = MatchOption clash (CountedUse before label total)
     (λ key. Clashes before label key)
 
--- The first fault of the events `es`, which come after the counted placeholders `before`. Of the placeholders in
--- `es`, only those are read that can clash.
+-- The first fault of the events `es`, if the placeholders `before` were counted before them. Placeholders in `es` that
+-- can't clash are left out.
 abbrev pub counted_fault : CompileMode → List Label → List Event → Option TreeFault
 counted_fault mode before es = faults mode.with_alias_only before (only_clashing mode.numbered.now es)
 
--- the placeholders in `es` that are counted, the latest first, and after them the earlier ones, those of `before`
+-- All placeholders that were counted once the events `es` are read: those in `before`, and those in `es` that can clash.
+-- The list begins with the latest one.
 abbrev pub counted_after : CompileMode → List Label → List Event → List Label
 counted_after mode before es = after mode.with_alias_only before (only_clashing mode.numbered.now es)
 
@@ -75,8 +76,8 @@ abbrev pub SkipsCounted : CompileMode → List Item → ℕ → List Label → K
 SkipsCounted mode items levels before old new true = HaveCounted mode before (events_inside mode levels items) new
 SkipsCounted mode items levels before old new false = IsCountOf new before
 
--- The definition `text` is entered, since a level is left. `items` are its items that remain to be read. Those before
--- them have no fault and were counted.
+-- The definition `text` is entered, since a level is left. Its first items, `skipped`, have no fault and were counted.
+-- Its other items, `items`, remain to be read.
 pub record EntersText (mode : CompileMode) (levels : ℕ) (text : List ℕ) (items : List Item) (before : List Label)
     (total : KeyUses) : Type 0 where
   pub room : 0 < levels
@@ -91,8 +92,8 @@ StepsAtText mode levels text before total (Enter items) = EntersText mode levels
 StepsAtText mode levels text before total (Report tree_fault) =
     counted_fault mode before (opened_events mode levels text) ≡ Some (tree_fault_view tree_fault)
 
--- The item is a placeholder, and its definition is entered. `items` are the items of the definition that remain to
--- be read. Neither the placeholder nor the items before those have a fault, and they were counted.
+-- The item is a placeholder, and its definition is entered. The placeholder and the first items of that definition,
+-- `skipped`, have no fault and were counted. The other items of it, `items`, remain to be read.
 pub record EntersPlaceholder (mode : CompileMode) (levels : ℕ) (item : Item) (items : List Item) (before : List Label)
     (total : KeyUses) : Type 0 where
   pub label : Label

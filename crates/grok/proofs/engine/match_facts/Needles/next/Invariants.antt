@@ -1,7 +1,7 @@
 use Rattle.std.proofs.Common.{◌-◌, ◌≤◌, length}
 use Rattle.regex_literal.specs.Find.{Nowhere}
 use Rattle.grok.specs.OwnSearches.{StandsAt}
-use Rattle.grok.proofs.engine.marks.Needles.next.Given as goal
+use Rattle.grok.proofs.engine.match_facts.Needles.next.Given as goal
 
 abbrev pub invariant-literals : goal.invariant-literals
 invariant-literals l =

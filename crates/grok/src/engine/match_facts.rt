@@ -1,9 +1,9 @@
-//! Where in a line a match can lie, by the literals that each match of a pattern has.
+//! Finds out where in a line a match can start, from the literals that each match of a pattern has.
 ghost use Rattle.std.specs.Prelude.{◌≡◌, ◌≤◌, Some, length, IfOk, IfSome};
 ghost use Rattle.regex_extract.specs.Needles.{needles_of};
 ghost use Rattle.regex_extract.specs.Frames.{StartsFramed, IsInner};
 ghost use Rattle.regex_meta.specs.Programs.{pattern_of};
-ghost use Rattle.grok.specs.OwnSearches.{BeginsEach, IsInEach, AreMarksOf, IsNextOf, IsPositionOf};
+ghost use Rattle.grok.specs.OwnSearches.{BeginsEach, IsInEach, AreMatchFactsOf, IsNextOf, IsPositionOf};
 
 use regex_extract::{Frame, Framed, Frames, Inner};
 use regex_literal::{Bounded, Prefilter};
@@ -11,32 +11,34 @@ use regex_meta::Program;
 use regex_vm::Declined;
 use std::alloc::Global;
 
-/// Facts that hold for each match of a pattern.
+/// Facts that hold for each match of a pattern. A search uses them to skip the positions at which no
+/// match can start.
 #[derive(Drop)]
-pub(crate) struct Marks {
+pub(crate) struct MatchFacts {
     /// Whether each match starts where the line starts.
     pub(crate) at_start: bool,
-    /// Literals of which each match begins with one, if such are known.
+    /// If not `None`, each match begins with one of these literals.
     pub(crate) first: Option<Needles>,
-    /// Literals of which each match contains one, if such are known.
+    /// If not `None`, each match contains one of these literals.
     pub(crate) inner: Option<Needles>,
 }
 
-/// Literals, and the bytes that can stand around them in a match.
+/// Literals, and the bytes that may stand around them in a match.
 #[derive(Drop)]
 pub(crate) struct Needles {
     literals: Prefilter,
     frame: Frame,
 }
 
-impl Marks {
-    /// Finds out what all matches of the program have. If they start where the line starts, no
-    /// literals are looked for: such a line is refused sooner without them.
-    pub(crate) fn of(alloc: Global, program: &Program) -> Result<Marks, Declined>
-        ensures { IfOk result (λ marks. ∥ AreMarksOf (pattern_of program.now) marks ∥₁) }
+impl MatchFacts {
+    /// Finds out which facts hold for each match of a program. If each match starts where the line
+    /// starts, no literals are extracted: a line that doesn't match is then refused sooner by an
+    /// automaton than by a search for literals.
+    pub(crate) fn of(alloc: Global, program: &Program) -> Result<MatchFacts, Declined>
+        ensures { IfOk result (λ facts. ∥ AreMatchFactsOf (pattern_of program.now) facts ∥₁) }
     {
         if regex_extract::is_anchored_start(&program.hir) {
-            return Ok(Marks {
+            return Ok(MatchFacts {
                 at_start: true,
                 first: None,
                 inner: None,
@@ -47,7 +49,7 @@ impl Marks {
             best,
             second: _second,
         } = regex_extract::framed_needles(alloc, &program.hir)?;
-        Ok(Marks {
+        Ok(MatchFacts {
             at_start: false,
             first: first_needles(alloc, program, first)?,
             inner: inner_needles(alloc, program, best)?,
@@ -57,7 +59,7 @@ impl Marks {
     /// Returns a position such that no match starts between `start` and it, or `None` if no match
     /// starts at `start` or later.
     pub(crate) fn next_position(&self, program: &Program, hay: &[u8], start: usize) -> Option<usize>
-        requires marked { ∥ AreMarksOf (pattern_of program.now) self.now ∥₁ }
+        requires facts_hold { ∥ AreMatchFactsOf (pattern_of program.now) self.now ∥₁ }
         requires inside { start ≤ length hay.now }
         ensures { IsPositionOf program.now hay.now start result }
     {
@@ -73,9 +75,9 @@ impl Marks {
         }
     }
 
-    /// Returns the same by what the matches begin with alone.
+    /// Returns the same as `next_position`, but only from what each match begins with.
     fn next_start(&self, program: &Program, hay: &[u8], start: usize) -> Option<usize>
-        requires marked { ∥ AreMarksOf (pattern_of program.now) self.now ∥₁ }
+        requires facts_hold { ∥ AreMatchFactsOf (pattern_of program.now) self.now ∥₁ }
         requires inside { start ≤ length hay.now }
         ensures { IsPositionOf program.now hay.now start result }
     {
@@ -87,7 +89,7 @@ impl Marks {
 }
 
 impl Needles {
-    /// Builds the search for these literals, if there is a fast one.
+    /// Builds the search for these literals. Returns `None` if there is no fast one.
     fn new(alloc: Global, found: Framed) -> Result<Option<Needles>, Declined>
         ensures { IfOk result (λ needles. IfSome needles (λ n.
             (n.literals ≡ needles_of found.needles) × (n.frame ≡ found.frame))) }
@@ -99,8 +101,9 @@ impl Needles {
         }
     }
 
-    /// Returns the first position from `start` on with a literal and bytes around it that the frame
-    /// allows, or an earlier position if the search gives up there.
+    /// Returns the first position from `start` on at which a literal stands, with bytes around it
+    /// that the frame allows. If the search gives up at an earlier position, returns that one.
+    /// Returns `None` if there is no such literal.
     pub(crate) fn next(&self, hay: &[u8], start: usize) -> Option<usize>
         requires { start ≤ length hay.now }
         ensures { IsNextOf self.now hay.now start result }
@@ -120,7 +123,7 @@ impl Needles {
         }
     }
 
-    /// Returns the same, or the end of the line if there is none.
+    /// Returns the same as `next`, but the end of the line instead of `None`.
     pub(crate) fn next_or_end(&self, hay: &[u8], start: usize) -> usize
         requires { start ≤ length hay.now }
         ensures { (start ≤ result) × (result ≤ length hay.now) }
@@ -132,7 +135,7 @@ impl Needles {
     }
 }
 
-/// Builds the search for what each match begins with.
+/// Builds the search for the literals of which each match begins with one.
 fn first_needles(
     alloc: Global,
     program: &Program,
@@ -148,7 +151,7 @@ fn first_needles(
     }
 }
 
-/// Builds the search for what each match contains.
+/// Builds the search for the literals of which each match contains one.
 fn inner_needles(
     alloc: Global,
     program: &Program,

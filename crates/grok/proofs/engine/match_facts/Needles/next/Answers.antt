@@ -3,7 +3,7 @@ use Rattle.std.proofs.lemmas.Bool.{cases_lt, false≢true}
 use Rattle.regex_literal.specs.declared.bounded.Bounded.TheVariants.{Found, Missing, Tired}
 use Rattle.regex_meta.proofs.PlansLemmas.{IsNext-of_IsBounded}
 use Rattle.grok.specs.OwnSearches.{StandsAt}
-use Rattle.grok.proofs.engine.marks.Needles.next.Goals as goal
+use Rattle.grok.proofs.engine.match_facts.Needles.next.Goals as goal
 
 pub returns-in-Missing : goal.returns-in-Missing
 returns-in-Missing c =
