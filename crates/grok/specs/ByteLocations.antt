@@ -3,7 +3,7 @@ use Rattle.std.specs.Prelude.{◌≡◌, ◌<◌, ◌+◌, ℕ, suc, Bool, List,
 use Rattle.std.specs.Borrow.{Bor}
 use Rattle.grok.specs.Tree.{Definitions, Label, Meaning, meaning_text, Item, TextItem, PlaceholderItem, Event, Text, Open, Close, items_of, events, inside, deepest, tree, first_structural}
 use Rattle.grok.specs.Expanded.{expanded}
-use Rattle.grok.specs.FaultPlaces.{StandsAt, path_view}
+use Rattle.grok.specs.FaultLocations.{StandsAt, path_view}
 use Rattle.grok.specs.declared.locate_byte.WrittenByte.{WrittenByte}
 use Rattle.grok.specs.declared.locate_byte.WrittenByte.TheVariants as written
 use Rattle.grok.specs.declared.locate_byte.ByteLocation.{ByteLocation}

@@ -5,14 +5,14 @@ use Rattle.grok.specs.Expanded.{expanded, groups}
 use Rattle.grok.specs.Sizes.{Size, length_of, size_or_fault}
 use Rattle.grok.specs.MeasuredOnce.{inlined}
 use Rattle.grok.specs.MeasureCache.{shown}
-use Rattle.grok.specs.FaultPlaces.{StandsAt, fault_within}
+use Rattle.grok.specs.FaultLocations.{StandsAt, fault_within}
 use Rattle.grok.specs.ByteLocations.{IsOwnEvent, IsPartOf}
 use Rattle.grok.specs.declared.measure.partial_size.PartialSize.{PartialSize}
 use Rattle.grok.specs.declared.locate_byte.WrittenByte.{WrittenByte}
 use Rattle.grok.specs.declared.locate_byte.Writer.{Writer}
 use Rattle.grok.specs.declared.locate_byte.Writer.TheVariants as writer
-use Rattle.grok.specs.declared.locate_byte.Step.{Step}
-use Rattle.grok.specs.declared.locate_byte.Step.TheVariants as step
+use Rattle.grok.specs.declared.locate_byte.ByteStep.{ByteStep}
+use Rattle.grok.specs.declared.locate_byte.ByteStep.TheVariants as step
 use Rattle.grok.specs.declared.locate_byte.WritingPiece.{WritingPiece}
 
 -- `sum` has the number of bytes and of groups that the events write. Its height may be any.
@@ -81,20 +81,20 @@ IsWriter stored alias_only levels before byte item (writer.Definition name defin
 
 -- The item comes after the events `before`, and the step is what reading it finds: what writes the byte (`Wrote`), or
 -- that the byte comes after the item, with the size of all that is written up to there (`Later`).
-abbrev pub IsStep : Definitions → Bool → ℕ → List Event → ℕ → Item → Step → Type 0
-IsStep stored alias_only levels before byte item (step.Wrote writer) =
+abbrev pub IsByteStep : Definitions → Bool → ℕ → List Event → ℕ → Item → ByteStep → Type 0
+IsByteStep stored alias_only levels before byte item (step.Wrote writer) =
     IsWriter stored alias_only levels before byte item writer
-IsStep stored alias_only levels before byte item (step.Later sum) =
+IsByteStep stored alias_only levels before byte item (step.Later sum) =
     IsLater alias_only (before ++ events (inside (items_of stored) levels) (item ∷ [])) byte sum
 
 -- `found` is the step at the item, if the item has no structural fault, the byte comes after all that is written
 -- before the item, and `sum` is the size of that.
-abbrev pub IsStepAfter : Definitions → Bool → ℕ → PartialSize → ℕ → Item → Step → Type 0
-IsStepAfter stored alias_only levels sum byte item found = (before : List Event)
+abbrev pub IsByteStepAfter : Definitions → Bool → ℕ → PartialSize → ℕ → Item → ByteStep → Type 0
+IsByteStepAfter stored alias_only levels sum byte item found = (before : List Event)
     → IsLater alias_only before byte sum
     → fault_within stored levels (item ∷ []) ≡ None
     → IsSizedItem stored alias_only item
-    → IsStep stored alias_only levels before byte item found
+    → IsByteStep stored alias_only levels before byte item found
 
 -- the piece `found` of the text writes the byte, and the text comes after the events `before`
 pub record IsWritingPiece (stored : Definitions) (alias_only : Bool) (levels : ℕ) (text : List ℕ)

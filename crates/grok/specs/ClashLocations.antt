@@ -3,7 +3,7 @@ use Rattle.std.specs.Prelude.{◌≡◌, ℕ, Bool, true, List, ◌∷◌, ◌++
 use Rattle.std.specs.String.{string_bytes}
 use Rattle.grok.specs.Tree.{Definitions, Label, Meaning, PlaceholderItem, Event, Open, deepest, tree}
 use Rattle.grok.specs.Keys.{is_capturing, capturing, key_after, TreeFault, Clash, first_fault}
-use Rattle.grok.specs.FaultPlaces.{path_view}
+use Rattle.grok.specs.FaultLocations.{path_view}
 use Rattle.grok.specs.ByteLocations.{IsEventAt}
 use Rattle.grok.specs.declared.locate_clash.PlaceholderLocation.{PlaceholderLocation}
 use Rattle.grok.specs.declared.locate_clash.ClashLocation.{ClashLocation}

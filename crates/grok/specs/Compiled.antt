@@ -17,7 +17,7 @@ use Rattle.grok.specs.declared.errors.error.Error.{Error}
 
 -- The error is a `GenericCompilationFailure` with the message `words`. If `words` is `None`, it may have any message.
 abbrev pub FailsWith : Option (List ℕ) → ErrorValue → Type 0
-FailsWith words (GenericCompilationFailure said) = IfSome words (λ known. said ≡ known)
+FailsWith words (GenericCompilationFailure message) = IfSome words (λ known. message ≡ known)
 FailsWith words error = ⊥
 
 -- `error` is the error for this structural fault (a malformed placeholder, a missing definition, or nesting that is

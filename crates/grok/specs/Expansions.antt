@@ -1,7 +1,7 @@
 -- What expanding a pattern returns: what compiling it returns before an engine is built.
 use Rattle.std.specs.Prelude.{◌≡◌, ◌≢◌, ℕ, List, [], Result, MatchResult, string_bytes}
 use Rattle.grok.specs.Expanded.{expanded}
-use Rattle.grok.specs.Walks.{HasKeys}
+use Rattle.grok.specs.AssignedKeys.{HasKeys}
 use Rattle.grok.specs.Errors.{error_value}
 use Rattle.grok.specs.Compiled.{Expansion, CanBuild, IsCompileError}
 use Rattle.grok.specs.declared.expand.write.ExpandedPattern.{ExpandedPattern}

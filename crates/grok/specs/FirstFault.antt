@@ -7,8 +7,8 @@ use Rattle.grok.specs.Keys.{is_capturing, capturing, key_after, keys, TreeFault,
 -- The event is a fault if it comes after the events `before`: it is a structural fault, or it opens a capturing
 -- placeholder that would get the key of an earlier one.
 pub data IsFaultAfter (alias_only : Bool) (before : List Event) : Event → TreeFault → Type 0 where
-  Breaks : (fault : Fault) → IsFaultAfter alias_only before (FaultEvent fault) (Structural fault)
-  Meets : (label : Label) (meaning : Meaning) → is_capturing alias_only label ≡ true
+  StructuralEvent : (fault : Fault) → IsFaultAfter alias_only before (FaultEvent fault) (Structural fault)
+  ClashingOpen : (label : Label) (meaning : Meaning) → is_capturing alias_only label ≡ true
       → is_among (key_after (capturing alias_only before) label) (keys (capturing alias_only before)) ≡ true
       → IsFaultAfter alias_only before (Open label meaning)
       (Clash (key_after (capturing alias_only before) label))

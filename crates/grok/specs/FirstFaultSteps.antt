@@ -1,21 +1,36 @@
--- What is counted on the way to the first fault, and what each step does.
+-- What contracts see of the first fault, what is counted on the way to it, and what each step does.
 use Rattle.std.specs.Prelude.{◌≡◌, ℕ, suc, ◌-◌, ◌<◌, ◌^◌, List, [], ◌∷◌, ◌++◌, Bool, true, false, Option, Some, None, MatchOption}
 use Rattle.std.specs.Global.{Global}
 use Rattle.std.specs.String.{string_bytes}
 use Rattle.std.specs.declared.string.String.{String}
 use Rattle.grok.specs.Tree.{Label, Meaning, meaning_text, Item, PlaceholderItem, Event, Open, events}
+use Rattle.grok.specs.Keys as keys
 use Rattle.grok.specs.Keys.{TreeFault, numbered, key_after, how_often, is_among}
 use Rattle.grok.specs.CapturedSoFar.{taken_of, faults, after}
 use Rattle.grok.specs.KeyUses.{CountsUses, IsFree}
 use Rattle.grok.specs.NumberedBases.{only_clashing}
-use Rattle.grok.specs.Tallied.{resolve, opened_events}
-use Rattle.grok.specs.Walks.{tree_fault_view, Clashes}
+use Rattle.grok.specs.CountedDefinitions.{resolve, opened_events}
+use Rattle.grok.specs.Items.{fault_view}
 use Rattle.grok.specs.declared.errors.fault.TreeFault.{TreeFault as CodeFault}
 use Rattle.grok.specs.declared.errors.fault.TreeFault.TheVariants as fault
 use Rattle.grok.specs.declared.expand.key_uses.KeyUses.{KeyUses}
-use Rattle.grok.specs.declared.expand.tallies.CompileMode.{CompileMode}
+use Rattle.grok.specs.declared.expand.counted_definitions.CompileMode.{CompileMode}
 use Rattle.grok.specs.declared.expand.first_fault.ItemStep.{ItemStep}
 use Rattle.grok.specs.declared.expand.first_fault.ItemStep.TheVariants.{Skip, Enter, Report}
+
+-- ---- the fault
+
+-- what contracts see of the first fault
+abbrev pub tree_fault_view : CodeFault → TreeFault
+tree_fault_view (fault.Structural structural) = keys.Structural (fault_view structural)
+tree_fault_view (fault.Clash key) = keys.Clash (string_bytes key)
+
+-- `key` is the key that the next capturing placeholder, with the label `label`, would get, but one in `before` has it
+pub record Clashes (before : List Label) (label : Label) (key : String Global) : Type 0 where
+  pub taken : is_among (key_after before label) (taken_of before) ≡ true
+  pub named : string_bytes key ≡ key_after before label
+
+-- ---- what is counted
 
 -- `total` counts how often each base key (the key before its number is added) is used by the placeholders `before`,
 -- which are those read so far that can clash. No two of them have the same key.
@@ -27,7 +42,7 @@ pub record IsCountOf (total : KeyUses) (before : List Label) : Type 0 where
 -- too.
 pub record CountedUse (before : List Label) (label : Label) (total : KeyUses) : Type 0 where
   pub free : is_among (key_after before label) (taken_of before) ≡ false
-  pub keeps : IsCountOf total (label ∷ before)
+  pub is_count : IsCountOf total (label ∷ before)
 
 -- If `clash` is `None`, one more placeholder was counted, with the label `label`. Otherwise `clash` is its key, which
 -- a placeholder in `before` already has.
@@ -35,12 +50,13 @@ abbrev pub CountsUse : List Label → Label → KeyUses → Option (String Globa
 CountsUse before label total clash = MatchOption clash (CountedUse before label total)
     (λ key. Clashes before label key)
 
--- The first fault of the events `es`, which come after the counted placeholders `before`. Of the placeholders in
--- `es`, only those are read that can clash.
+-- The first fault of the events `es`, if the placeholders `before` were counted before them. Placeholders in `es` that
+-- can't clash are left out.
 abbrev pub counted_fault : CompileMode → List Label → List Event → Option TreeFault
 counted_fault mode before es = faults mode.with_alias_only before (only_clashing mode.numbered.now es)
 
--- the placeholders in `es` that are counted, the latest first, and after them the earlier ones, those of `before`
+-- All placeholders that were counted once the events `es` are read: those in `before`, and those in `es` that can clash.
+-- The list begins with the latest one.
 abbrev pub counted_after : CompileMode → List Label → List Event → List Label
 counted_after mode before es = after mode.with_alias_only before (only_clashing mode.numbered.now es)
 
@@ -48,7 +64,7 @@ counted_after mode before es = after mode.with_alias_only before (only_clashing 
 -- `before` and those in `es` that can clash.
 pub record HaveCounted (mode : CompileMode) (before : List Label) (es : List Event) (total : KeyUses) : Type 0 where
   pub none : counted_fault mode before es ≡ None
-  pub keeps : IsCountOf total (counted_after mode before es)
+  pub is_count : IsCountOf total (counted_after mode before es)
 
 -- the events of items of a definition, if `levels` levels are allowed, its own among them
 abbrev pub events_inside : CompileMode → ℕ → List Item → List Event
@@ -60,14 +76,14 @@ abbrev pub SkipsCounted : CompileMode → List Item → ℕ → List Label → K
 SkipsCounted mode items levels before old new true = HaveCounted mode before (events_inside mode levels items) new
 SkipsCounted mode items levels before old new false = IsCountOf new before
 
--- The definition `text` is entered, since a level is left. `items` are its items that remain to be read. Those before
--- them have no fault and were counted.
+-- The definition `text` is entered, since a level is left. Its first items, `skipped`, have no fault and were counted.
+-- Its other items, `items`, remain to be read.
 pub record EntersText (mode : CompileMode) (levels : ℕ) (text : List ℕ) (items : List Item) (before : List Label)
     (total : KeyUses) : Type 0 where
   pub room : 0 < levels
-  pub front : List Item
-  pub cut : resolve mode text ≡ front ++ items
-  pub passed : HaveCounted mode before (events_inside mode levels front) total
+  pub skipped : List Item
+  pub cut : resolve mode text ≡ skipped ++ items
+  pub passed : HaveCounted mode before (events_inside mode levels skipped) total
 
 -- one step at the text of a placeholder: skip it, enter it, or report its first fault
 abbrev pub StepsAtText : CompileMode → ℕ → List ℕ → List Label → KeyUses → ItemStep → Type 0
@@ -76,17 +92,17 @@ StepsAtText mode levels text before total (Enter items) = EntersText mode levels
 StepsAtText mode levels text before total (Report tree_fault) =
     counted_fault mode before (opened_events mode levels text) ≡ Some (tree_fault_view tree_fault)
 
--- The item is a placeholder, and its definition is entered. `items` are the items of the definition that remain to
--- be read. Neither the placeholder nor the items before those have a fault, and they were counted.
+-- The item is a placeholder, and its definition is entered. The placeholder and the first items of that definition,
+-- `skipped`, have no fault and were counted. The other items of it, `items`, remain to be read.
 pub record EntersPlaceholder (mode : CompileMode) (levels : ℕ) (item : Item) (items : List Item) (before : List Label)
     (total : KeyUses) : Type 0 where
   pub label : Label
   pub meaning : Meaning
   pub is : item ≡ PlaceholderItem label meaning
   pub room : 0 < levels
-  pub front : List Item
-  pub cut : resolve mode (meaning_text meaning) ≡ front ++ items
-  pub passed : HaveCounted mode before (Open label meaning ∷ events_inside mode levels front) total
+  pub skipped : List Item
+  pub cut : resolve mode (meaning_text meaning) ≡ skipped ++ items
+  pub passed : HaveCounted mode before (Open label meaning ∷ events_inside mode levels skipped) total
 
 -- one step at an item: skip it with its definition, enter the definition, or report the first fault
 abbrev pub StepsAtItem : CompileMode → ℕ → Item → List Label → KeyUses → ItemStep → Type 0

@@ -3,7 +3,7 @@ use Rattle.std.specs.Prelude.{◌≡◌, ◌<◌, ℕ, suc, List, Option, Some, 
 use Rattle.grok.specs.Tree.{Definitions, Fault, Label, Inline, Stored, Item, TextItem, FaultItem, PlaceholderItem, items_of, inside, first_structural}
 use Rattle.grok.specs.Sizes.{Size}
 use Rattle.grok.specs.Items.{fault_view}
-use Rattle.grok.specs.FaultPlaces.{StandsAt, IsOwnFault, fault_within}
+use Rattle.grok.specs.FaultLocations.{StandsAt, IsOwnFault, fault_within}
 use Rattle.grok.specs.declared.locate.Wrong.{Wrong}
 use Rattle.grok.specs.declared.locate.Wrong.TheVariants as wrong
 use Rattle.grok.specs.declared.locate.FirstWrong.{FirstWrong}

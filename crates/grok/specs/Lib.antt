@@ -35,8 +35,8 @@ pub mod CapturedSoFar
 pub mod FirstFault
 pub mod NumberedBases
 pub mod KeyUses
-pub mod Tallied
-pub mod Walks
+pub mod CountedDefinitions
+pub mod AssignedKeys
 pub mod FirstFaultSteps
 pub mod Writes
 pub mod Compiled
@@ -48,7 +48,7 @@ pub mod MeasuredOnce
 pub mod Measured
 pub mod MeasureCache
 pub mod CountedMeasures
-pub mod FaultPlaces
+pub mod FaultLocations
 pub mod FirstWrong
 pub mod ByteLocations
 pub mod ByteSteps
@@ -72,7 +72,7 @@ pub use Rattle.grok.specs.Measured.{measured_tree, reached_pieces, reached_texts
 pub use Rattle.grok.specs.MeasureCache.{measure_view}
 pub use Rattle.grok.specs.CountedMeasures.{IsCountedMeasure}
 -- where the first structural fault stands
-pub use Rattle.grok.specs.FaultPlaces.{IsFaultAt, path_view}
+pub use Rattle.grok.specs.FaultLocations.{IsFaultAt, path_view}
 -- which piece writes a byte of the expanded text
 pub use Rattle.grok.specs.ByteLocations.{HasByte, IsByteLocation, LocatesByte}
 -- where the two placeholders of a clash stand

@@ -21,8 +21,8 @@ known_result (HasSize size) levels = Some (if nat_lt size.height levels then Ok 
 known_result (HasFault fault height) levels = Some (if nat_lt height levels then Err fault else Err TooDeep)
 known_result (NeedsMoreThan most) levels = if nat_lt most levels then None else Some (Err TooDeep)
 
--- The nesting before the remembered fault, in levels, if `levels` levels are left. It is 0 if with so many levels the
--- result is a size, `TooDeep`, or not known.
+-- The nesting before the remembered fault, in levels, if `levels` levels are left. It is 0 if the result for
+-- these levels is a size, `TooDeep`, or not known.
 abbrev pub reach_within : Progress Size → ℕ → ℕ
 reach_within InProgress levels = 0
 reach_within (HasSize size) levels = 0
@@ -132,7 +132,7 @@ by_result None st fresh = fresh
 by_result (Some r) st fresh = (r, st)
 
 -- The result of a definition with this progress, if `levels` levels are left: the size or fault that is remembered
--- for so many levels, or if none is, `fresh`: the result of measuring now.
+-- for that many levels, or `fresh` if none is. `fresh` is the result of measuring now.
 abbrev pub by_progress : Option (Progress Size) → ℕ → State → Reading → Reading
 by_progress None levels st fresh = fresh
 by_progress (Some progress) levels st fresh = by_result (known_result progress levels)

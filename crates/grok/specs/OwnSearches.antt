@@ -11,8 +11,8 @@ use Rattle.regex_meta.specs.Programs.{leftmost}
 use Rattle.regex_meta.specs.declared.program.Program.{Program}
 use Rattle.regex_syntax.specs.Grammar.{Names}
 use Rattle.regex_syntax.specs.Verdict.{Reads, default_config}
-use Rattle.grok.specs.declared.engine.marks.Marks.{Marks}
-use Rattle.grok.specs.declared.engine.marks.Needles.{Needles}
+use Rattle.grok.specs.declared.engine.match_facts.MatchFacts.{MatchFacts}
+use Rattle.grok.specs.declared.engine.match_facts.Needles.{Needles}
 
 -- `hir` is the syntax tree of `regex` that its grammar reads in the text, without flags or limits
 abbrev pub IsTreeOf : List ℕ → Hir → Type 0
@@ -28,12 +28,12 @@ BeginsEach re needles = StartsFramed re needles.literals (Some needles.frame)
 abbrev pub IsInEach : Re → Needles → Type 0
 IsInEach re needles = ContainsFramed re needles.literals (Some needles.frame)
 
--- The marks are true of each match of `re`: that it starts where the line starts, and which literals it begins with
--- or contains, each as far as the marks state it.
-pub record AreMarksOf (re : Re) (marks : Marks) : Type 0 where
-  pub start : marks.at_start ≡ true → IsAnchored true re
-  pub first : IfSome marks.first (BeginsEach re)
-  pub inner : IfSome marks.inner (IsInEach re)
+-- The facts hold for each match of `re`: it starts where the line starts if `at_start` is true, it begins with one of the
+-- literals in `first` if there are any, and it contains one of those in `inner` if there are any.
+pub record AreMatchFactsOf (re : Re) (facts : MatchFacts) : Type 0 where
+  pub start : facts.at_start ≡ true → IsAnchored true re
+  pub first : IfSome facts.first (BeginsEach re)
+  pub inner : IfSome facts.inner (IsInEach re)
 
 -- one of the literals in `needles` is at this position of `hay`, and the frame allows the bytes around it
 abbrev pub StandsAt : Needles → List ℕ → ℕ → Type 0

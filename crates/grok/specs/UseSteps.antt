@@ -4,10 +4,10 @@ use Rattle.std.specs.FinMap as finite
 use Rattle.grok.specs.Tree.{Definitions, Label, Meaning, meaning_text, Stored, Item, PlaceholderItem, Event, Open, items_of, events, deepest}
 use Rattle.grok.specs.Pieces.{pieces}
 use Rattle.grok.specs.Keys.{base_key, how_often}
-use Rattle.grok.specs.Tallied.{resolve, opened_events, is_counted, counted}
-use Rattle.grok.specs.FaultPlaces.{path_view}
+use Rattle.grok.specs.CountedDefinitions.{resolve, opened_events, is_counted, counted}
+use Rattle.grok.specs.FaultLocations.{path_view}
 use Rattle.grok.specs.ByteLocations.{IsEventAt}
-use Rattle.grok.specs.declared.expand.tallies.CompileMode.{CompileMode}
+use Rattle.grok.specs.declared.expand.counted_definitions.CompileMode.{CompileMode}
 use Rattle.grok.specs.declared.locate_clash.PlaceholderLocation.{PlaceholderLocation}
 use Rattle.grok.specs.declared.locate_clash.SoughtKeys.{SoughtKeys}
 use Rattle.grok.specs.declared.locate_clash.UsesSoFar.{UsesSoFar}
@@ -20,7 +20,7 @@ abbrev pub is_some_use : ℕ → Bool
 is_some_use zero = false
 is_some_use (suc count) = true
 
--- The search passed over so many uses of the base key, and so many of the other one.
+-- The search passed over `uses` uses of the base key that is sought, and `others` uses of the other base key.
 pub record HasPassed (uses others : ℕ) (old new : UsesSoFar) : Type 0 where
   pub fewer : uses + new.left ≡ old.left
   pub seen : new.is_other_used ≡ (old.is_other_used || is_some_use others)

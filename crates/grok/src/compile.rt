@@ -9,7 +9,7 @@ ghost use Rattle.grok.specs.Tree.{tree as tree_of, first_structural, reached};
 ghost use Rattle.grok.specs.Keys.{Structural, first_fault};
 ghost use Rattle.grok.specs.NumberedBases.{opens_numbered_from, is_base_in};
 ghost use Rattle.grok.specs.Expanded.{expanded};
-ghost use Rattle.grok.specs.Walks.{tree_fault_view};
+ghost use Rattle.grok.specs.FirstFaultSteps.{tree_fault_view};
 ghost use Rattle.grok.specs.Errors.{error_value, Memory as memory};
 ghost use Rattle.grok.specs.Compiled.{IsErrorOf, IsFirstError, error_of_refusal, IsBuilt, IsRefusal, Compiles, expansion_of};
 ghost use Rattle.grok.specs.Expansions.{Expands};
@@ -23,9 +23,9 @@ use crate::engine::regex_engine::RegexEngine;
 use crate::engine::{Engine, Refusal};
 use crate::errors::Error;
 use crate::errors::fault::TreeFault;
+use crate::expand::counted_definitions::{CompileMode, CountedDefinitions};
 use crate::expand::first_fault::find_first_fault;
 use crate::expand::key_assigner::KeyAssigner;
-use crate::expand::tallies::{CompileMode, DefinitionTallies};
 use crate::expand::write::{ExpandedPattern, write};
 use crate::key_table::KeyTable;
 use crate::matches::PatternOf;
@@ -116,8 +116,8 @@ impl Grok {
             numbered: &found.numbered,
         };
         let names = found.read_names(self.alloc())?;
-        let tallies = DefinitionTallies::of_names(mode, &names)?;
-        match find_first_fault(mode, &tallies, pattern)? {
+        let definitions = CountedDefinitions::of_names(mode, &names)?;
+        match find_first_fault(mode, &definitions, pattern)? {
             None => Ok(None),
             Some(tree_fault) => Ok(Some(tree_fault.to_error(self.alloc())?)),
         }

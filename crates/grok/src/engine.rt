@@ -2,7 +2,7 @@
 ghost use Rattle.std.specs.Prelude.{◌≡◌, ℕ, List, Option, length, IfOk};
 ghost use Rattle.grok.specs.Captures.{name_texts, found_texts, IsMatchIn};
 
-mod marks;
+mod match_facts;
 pub(crate) mod matcher;
 mod own_search;
 pub(crate) mod regex_engine;

@@ -4,7 +4,7 @@ ghost use Rattle.std.specs.FinMap as finite;
 ghost use Rattle.grok.specs.Tree.{tree, deepest, first_structural};
 ghost use Rattle.grok.specs.Items.{fault_view, item_view};
 ghost use Rattle.grok.specs.MeasureCache.{IsIdle, HasCorrectCache};
-ghost use Rattle.grok.specs.FaultPlaces.{IsFaultAt, fault_within, path_view, end_of};
+ghost use Rattle.grok.specs.FaultLocations.{IsFaultAt, fault_within, path_view, end_of};
 ghost use Rattle.grok.specs.FirstWrong.{IsResolvedItem, IsWrong, IsFirstWrong};
 ghost use Rattle.grok.specs.Tree.{items_of};
 ghost use Rattle.grok.specs.Pieces.{Piece};
@@ -66,7 +66,7 @@ fn wrong_item<'a>(
         IsResolvedItem (finite.get measurer.old.mode.grok.now) (item_view item.entry) → MatchOption found
         (fault_within (finite.get measurer.old.mode.grok.now) levels (item_view item.entry ∷ []) ≡ None)
         (λ wrong. IsWrong (finite.get measurer.old.mode.grok.now) levels (item_view item.entry) wrong)) }
-    ensures keeps { IfOk result
+    ensures cache { IfOk result
         (λ found. HasCorrectCache measurer.old →
         HasCorrectCache measurer.new) }
     ensures idle { IfOk result (λ found. IsIdle measurer.new) }
@@ -120,7 +120,7 @@ fn first_wrong<'a>(
         (fault_within (finite.get measurer.old.mode.grok.now) levels
         (items_of (finite.get measurer.old.mode.grok.now) text.now) ≡ None)
         (λ first. IsFirstWrong (finite.get measurer.old.mode.grok.now) levels text.now first)) }
-    ensures keeps { IfOk result
+    ensures cache { IfOk result
         (λ found. HasCorrectCache measurer.old →
         HasCorrectCache measurer.new) }
     ensures idle { IfOk result (λ found. IsIdle measurer.new) }
@@ -155,7 +155,7 @@ impl Grok {
     pub fn locate<'a>(&'a self, pattern: &'a str) -> Result<Option<FaultLocation<'a>>, AllocError>
         ensures fault { IfOk result (λ found. option_map (λ location. fault_view location.fault) found
             ≡ first_structural (tree (finite.get self.now) pattern.now)) }
-        ensures place { IfOk result (λ found. IfSome found (λ location.
+        ensures location { IfOk result (λ found. IfSome found (λ location.
             IsFaultAt (finite.get self.now) deepest pattern.now (path_view location.path.items)
             location.text.now location.range.start location.range.end (fault_view location.fault))) }
     {

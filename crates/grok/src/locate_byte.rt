@@ -5,9 +5,9 @@ ghost use Rattle.grok.specs.Tree.{Definitions, Label as ItemLabel, Meaning as It
 ghost use Rattle.grok.specs.Keys.{is_capturing as captures};
 ghost use Rattle.grok.specs.Items.{item_view, label_view, meaning_view};
 ghost use Rattle.grok.specs.MeasureCache.{IsIdle, HasCorrectCache};
-ghost use Rattle.grok.specs.FaultPlaces.{fault_within};
+ghost use Rattle.grok.specs.FaultLocations.{fault_within};
 ghost use Rattle.grok.specs.ByteLocations.{LocatesByte};
-ghost use Rattle.grok.specs.ByteSteps.{IsLater, IsSizedItem, IsSizeOfDefinition, IsStep, IsStepAfter, FindsWritingPiece};
+ghost use Rattle.grok.specs.ByteSteps.{IsLater, IsSizedItem, IsSizeOfDefinition, IsByteStep, IsByteStepAfter, FindsWritingPiece};
 
 use crate::defs::Grok;
 use crate::defs::items::{Item, Label, Meaning};
@@ -67,7 +67,7 @@ enum Writer<'a> {
 /// The result of looking for a byte in one item (a piece whose placeholder is resolved to its
 /// definition). No item before it writes the byte.
 #[derive(Clone, Copy)]
-enum Step<'a> {
+enum ByteStep<'a> {
     /// The item writes the byte.
     Wrote(Writer<'a>),
     /// The byte comes after the item. All that is written up to the end of the item has this size.
@@ -84,16 +84,16 @@ struct WritingPiece<'a> {
 
 /// Looks for the byte at position `byte` in a piece of regular text. All that is written before the
 /// piece has the size `before`.
-fn step_at_text<'a>(text: &'a str, before: PartialSize, byte: usize) -> Step<'a>
+fn step_at_text<'a>(text: &'a str, before: PartialSize, byte: usize) -> ByteStep<'a>
     ensures { (stored : Definitions) (alias_only : Bool) (levels : ℕ) (events : List Event) →
         IsLater alias_only events byte before →
-        IsStep stored alias_only levels events byte (TextItem text.now) result }
+        IsByteStep stored alias_only levels events byte (TextItem text.now) result }
 {
     let after = add(before, size_of_text(text));
     if has_byte(after, byte) {
-        Step::Wrote(Writer::Piece(WrittenByte::Copied(offset_after(before, byte))))
+        ByteStep::Wrote(Writer::Piece(WrittenByte::Copied(offset_after(before, byte))))
     } else {
-        Step::Later(after)
+        ByteStep::Later(after)
     }
 }
 
@@ -106,29 +106,29 @@ fn step_at_group<'a>(
     size: PartialSize,
     before: PartialSize,
     byte: usize,
-) -> Step<'a>
+) -> ByteStep<'a>
     ensures { (stored : Definitions) (alias_only : Bool) (levels : ℕ) (events : List Event)
         (label : ItemLabel) (meaning : ItemMeaning) →
         captures alias_only label ≡ is_capturing → label.name ≡ name.now →
         meaning_text meaning ≡ definition.now →
         IsSizeOfDefinition stored alias_only levels definition.now size →
         IsLater alias_only events byte before →
-        IsStep stored alias_only levels events byte (PlaceholderItem label meaning) result }
+        IsByteStep stored alias_only levels events byte (PlaceholderItem label meaning) result }
 {
-    let own = Step::Wrote(Writer::Piece(WrittenByte::OfGroup { name, definition }));
+    let own = ByteStep::Wrote(Writer::Piece(WrittenByte::OfGroup { name, definition }));
     let head = add(before, size_of_head(is_capturing));
     if has_byte(head, byte) {
         return own;
     }
     let inner = add(head, size);
     if has_byte(inner, byte) {
-        return Step::Wrote(Writer::Definition(name, definition, head));
+        return ByteStep::Wrote(Writer::Definition(name, definition, head));
     }
     let after = add(inner, size_of_text(CLOSE));
     if has_byte(after, byte) {
         own
     } else {
-        Step::Later(after)
+        ByteStep::Later(after)
     }
 }
 
@@ -149,7 +149,7 @@ fn size_of_meaning<'a>(
         (PlaceholderItem (label_view label.entry) (meaning_view meaning.entry) ∷ []) ≡ None → ⊥)
         (λ size. IsSizeOfDefinition (finite.get measurer.old.mode.grok.now)
         measurer.old.mode.with_alias_only levels (meaning_text (meaning_view meaning.entry)) size)) }
-    ensures keeps { IfOk result
+    ensures cache { IfOk result
         (λ found. HasCorrectCache measurer.old →
         HasCorrectCache measurer.new) }
     ensures idle { IfOk result (λ found. IsIdle measurer.new) }
@@ -178,13 +178,13 @@ fn step_at_item<'a>(
     levels: usize,
     before: PartialSize,
     byte: usize,
-) -> Result<Step<'a>, AllocError>
+) -> Result<ByteStep<'a>, AllocError>
     requires few { levels < 2 ^ 31 }
     requires idle { IsIdle measurer.old }
     ensures step { IfOk result (λ step. HasCorrectCache measurer.old →
-        IsStepAfter (finite.get measurer.old.mode.grok.now) measurer.old.mode.with_alias_only levels
+        IsByteStepAfter (finite.get measurer.old.mode.grok.now) measurer.old.mode.with_alias_only levels
         before byte (item_view item.entry) step) }
-    ensures keeps { IfOk result
+    ensures cache { IfOk result
         (λ step. HasCorrectCache measurer.old →
         HasCorrectCache measurer.new) }
     ensures idle { IfOk result (λ step. IsIdle measurer.new) }
@@ -193,11 +193,11 @@ fn step_at_item<'a>(
     match item {
         Item::Text(text) => Ok(step_at_text(text, before, byte)),
         // This can't happen: `locate_byte` stops early if the pattern has a fault.
-        Item::Fault(_) => Ok(Step::Later(before)),
+        Item::Fault(_) => Ok(ByteStep::Later(before)),
         Item::Placeholder(label, meaning) => {
             let Some(size) = size_of_meaning(measurer, label, meaning, levels)? else {
                 // This can't happen either.
-                return Ok(Step::Later(before));
+                return Ok(ByteStep::Later(before));
             };
             let is_capturing = measurer.is_capturing(label);
             let definition = meaning.text();
@@ -221,7 +221,7 @@ fn writing_piece<'a>(
     ensures piece { IfOk result (λ found. HasCorrectCache measurer.old →
         FindsWritingPiece (finite.get measurer.old.mode.grok.now) measurer.old.mode.with_alias_only
         levels text.now before byte found) }
-    ensures keeps { IfOk result
+    ensures cache { IfOk result
         (λ found. HasCorrectCache measurer.old →
         HasCorrectCache measurer.new) }
     ensures idle { IfOk result (λ found. IsIdle measurer.new) }
@@ -234,13 +234,13 @@ fn writing_piece<'a>(
         let end = end_of(pieces.next(), text);
         let step = step_at_item(measurer, item, levels, before, byte)?;
         match step {
-            Step::Wrote(writer) => {
+            ByteStep::Wrote(writer) => {
                 return Ok(Some(WritingPiece {
                     writer,
                     range: begin..end,
                 }));
             }
-            Step::Later(after) => before = after,
+            ByteStep::Later(after) => before = after,
         }
         begin = end;
     }

@@ -8,7 +8,7 @@ ghost use Rattle.grok.specs.Tree.{tree as tree_of, reached};
 ghost use Rattle.grok.specs.Keys.{Clash, first_fault, base_key as base_key_of};
 ghost use Rattle.grok.specs.NumberedBases.{opens_numbered_from, is_base_in};
 ghost use Rattle.grok.specs.Items.{label_view, meaning_view, item_view};
-ghost use Rattle.grok.specs.Tallied.{AreTallied, IsSoundItem, opened_events, is_counted};
+ghost use Rattle.grok.specs.CountedDefinitions.{AreCounted, IsSoundItem, opened_events, is_counted};
 ghost use Rattle.grok.specs.FirstFaultSteps.{HasFittingNumber};
 ghost use Rattle.grok.specs.ClashLocations.{IsClashAt, IsFirstClash};
 ghost use Rattle.grok.specs.UseSteps.{HasPassed, HasPassedEvents, StepsAtUse, StepsAtMeaning, HasBegun, FindsUse};
@@ -18,10 +18,10 @@ use crate::defs::definition::Definition;
 use crate::defs::items::{Item, Items, Label, Meaning};
 use crate::defs::pieces::{Pieces, pieces_of};
 use crate::errors::fault::{LEVELS, TreeFault};
+use crate::expand::counted_definitions::{CompileMode, CountedDefinitions};
 use crate::expand::first_fault::find_first_fault;
 use crate::expand::key_assigner::base_key;
 use crate::expand::numbered::parts_of_numbered;
-use crate::expand::tallies::{CompileMode, DefinitionTallies};
 use crate::locate::end_of;
 use std::alloc::AllocError;
 use std::mem;
@@ -136,20 +136,20 @@ fn pass_label<'a>(
 /// Passes over a stored definition at once, if all of it is counted, `levels` levels are enough for
 /// it, and the use that is sought isn't in it.
 fn pass_definition<'a>(
-    tallies: &DefinitionTallies<'a>,
+    definitions: &CountedDefinitions<'a>,
     keys: SoughtKeys<'_>,
     name: &'a str,
     levels: usize,
     so_far: &mut UsesSoFar,
 ) -> bool
-    ensures passed { IsTrue result → (mode : CompileMode) (text : List ℕ) → AreTallied mode tallies.now
+    ensures passed { IsTrue result → (mode : CompileMode) (text : List ℕ) → AreCounted mode definitions.now
         → finite.get mode.grok.now name.now ≡ Some text →
         HasPassedEvents mode keys.entry (opened_events mode levels text) so_far.old so_far.new }
     ensures stopped { result ≡ false → so_far.new ≡ so_far.old }
 {
-    match tallies.of_name(name) {
-        Some(front) if front.uncounted.is_none() && front.tally.height < levels => {
-            let uses = &front.tally.uses;
+    match definitions.of_name(name) {
+        Some(part) if part.uncounted.is_none() && part.counted.height < levels => {
+            let uses = &part.counted.uses;
             let own = uses.times_of(keys.base);
             let others = uses.times_of(keys.other);
             so_far.pass(own, others)
@@ -160,14 +160,14 @@ fn pass_definition<'a>(
 
 /// Passes over what a placeholder stands for, or returns that it has to be read.
 fn step_at_meaning<'a>(
-    tallies: &DefinitionTallies<'a>,
+    definitions: &CountedDefinitions<'a>,
     keys: SoughtKeys<'_>,
     label: Label<'a>,
     meaning: Meaning<'a>,
     levels: usize,
     so_far: &mut UsesSoFar,
 ) -> UseStep<'a>
-    ensures { (mode : CompileMode) → AreTallied mode tallies.now
+    ensures { (mode : CompileMode) → AreCounted mode definitions.now
         → IsSoundItem mode (tree.PlaceholderItem (label_view label.entry) (meaning_view meaning.entry)) →
         StepsAtMeaning mode keys.entry levels (label_view label.entry) (meaning_view meaning.entry)
         result so_far.old so_far.new }
@@ -176,7 +176,7 @@ fn step_at_meaning<'a>(
         // An inline definition has no placeholders.
         Meaning::Inline(_) => UseStep::Later,
         Meaning::Stored(stored) => {
-            if levels == 0 || pass_definition(tallies, keys, label.name, levels, so_far) {
+            if levels == 0 || pass_definition(definitions, keys, label.name, levels, so_far) {
                 UseStep::Later
             } else {
                 UseStep::Inside(label.name, stored)
@@ -188,13 +188,13 @@ fn step_at_meaning<'a>(
 /// Passes over an item and its definition, or returns where to go on.
 fn step_at_item<'a>(
     mode: CompileMode<'a, '_>,
-    tallies: &DefinitionTallies<'a>,
+    definitions: &CountedDefinitions<'a>,
     keys: SoughtKeys<'_>,
     item: Item<'a>,
     levels: usize,
     so_far: &mut UsesSoFar,
 ) -> UseStep<'a>
-    requires { AreTallied mode tallies.now }
+    requires { AreCounted mode definitions.now }
     ensures { IsSoundItem mode.entry (item_view item.entry) →
         StepsAtUse mode.entry keys.entry levels (item_view item.entry) result so_far.old so_far.new }
 {
@@ -204,7 +204,7 @@ fn step_at_item<'a>(
             if !pass_label(mode, keys, label, so_far) {
                 return UseStep::Here;
             }
-            step_at_meaning(tallies, keys, label, meaning, levels, so_far)
+            step_at_meaning(definitions, keys, label, meaning, levels, so_far)
         }
     }
 }
@@ -226,12 +226,12 @@ impl<'a> SearchedText<'a> {
 /// Finds a use of a base key: the one before which `so_far.left` other uses of it come.
 fn find_use<'a>(
     mode: CompileMode<'a, '_>,
-    tallies: &DefinitionTallies<'a>,
+    definitions: &CountedDefinitions<'a>,
     keys: SoughtKeys<'_>,
     pattern: &'a str,
     so_far: &mut UsesSoFar,
 ) -> Result<Option<PlaceholderLocation<'a>>, AllocError>
-    requires { AreTallied mode tallies.now }
+    requires { AreCounted mode definitions.now }
     ensures { IfOk result (λ found.
         FindsUse mode.entry keys.entry pattern.now found so_far.old so_far.new) }
 {
@@ -250,7 +250,7 @@ fn find_use<'a>(
         };
         let begin = inner.begin;
         inner.begin = end_of(inner.pieces.next(), inner.text);
-        match step_at_item(mode, tallies, keys, item, LEVELS - around.len(), so_far) {
+        match step_at_item(mode, definitions, keys, item, LEVELS - around.len(), so_far) {
             UseStep::Later => {}
             UseStep::Here => {
                 return Ok(Some(PlaceholderLocation {
@@ -271,11 +271,11 @@ fn find_use<'a>(
 /// Finds both placeholders of a clash.
 fn locate_both<'a>(
     mode: CompileMode<'a, '_>,
-    tallies: &DefinitionTallies<'a>,
+    definitions: &CountedDefinitions<'a>,
     pattern: &'a str,
     key: String,
 ) -> Result<Option<ClashLocation<'a>>, AllocError>
-    requires tallied { AreTallied mode tallies.now }
+    requires counted { AreCounted mode definitions.now }
     requires known { (base : List ℕ) → is_base_in mode.numbered.now base ≡ opens_numbered_from base
         (reached (tree_of (finite.get mode.grok.now) pattern.now)) }
     requires clash { first_fault mode.with_alias_only
@@ -305,10 +305,10 @@ fn locate_both<'a>(
         left: number,
         is_other_used: false,
     };
-    let Some(own) = find_use(mode, tallies, own_keys, pattern, &mut none)? else {
+    let Some(own) = find_use(mode, definitions, own_keys, pattern, &mut none)? else {
         return Ok(None);
     };
-    let Some(numbered) = find_use(mode, tallies, numbered_keys, pattern, &mut so_far)? else {
+    let Some(numbered) = find_use(mode, definitions, numbered_keys, pattern, &mut so_far)? else {
         return Ok(None);
     };
     if so_far.is_other_used {
@@ -359,9 +359,9 @@ impl Grok {
             numbered: &found.numbered,
         };
         let names = found.read_names(self.alloc())?;
-        let tallies = DefinitionTallies::of_names(mode, &names)?;
-        match find_first_fault(mode, &tallies, pattern)? {
-            Some(TreeFault::Clash(key)) => locate_both(mode, &tallies, pattern, key),
+        let definitions = CountedDefinitions::of_names(mode, &names)?;
+        match find_first_fault(mode, &definitions, pattern)? {
+            Some(TreeFault::Clash(key)) => locate_both(mode, &definitions, pattern, key),
             _ => Ok(None),
         }
     }

@@ -59,7 +59,7 @@ fn by_map<'a>(alloc: Global, found: &'a Matches<'a>) -> Result<String, AllocErro
 }
 
 /// Returns the pairs of a match that is borrowed from a matcher.
-fn by_lent(alloc: Global, found: MatchesRef<'_>) -> Result<String, AllocError> {
+fn by_borrowed(alloc: Global, found: MatchesRef<'_>) -> Result<String, AllocError> {
     let mut all = String::new(alloc);
     for (key, value) in &found {
         push_pair(&mut all, key, value)?;
@@ -147,7 +147,7 @@ pub(crate) fn check_answer(
 
 /// Checks that the match that `find` returned for a line has the expected pairs, or that there is none if `expected`
 /// is `no match`.
-fn check_lent(
+fn check_borrowed(
     rt: &(impl Abort + AllocGlobal),
     name: &str,
     found: Option<MatchesRef<'_>>,
@@ -158,7 +158,7 @@ fn check_lent(
         assert_eq!(rt; "no match", expected, "{name}: at {line}");
         return Ok(());
     };
-    let pairs = by_lent(rt.alloc(), found)?;
+    let pairs = by_borrowed(rt.alloc(), found)?;
     assert_eq!(rt; pairs.as_str(), expected, "{name}: at {line}");
     Ok(())
 }
@@ -169,7 +169,7 @@ fn check_lines(rt: &(impl Abort + AllocGlobal), row: &Row, pattern: &Pattern) ->
     for (line, expected) in row.lines {
         check_answer(rt, row.name, pattern.match_against(line)?, line, expected)?;
         check_answer(rt, row.name, kept.match_against(line)?, line, expected)?;
-        check_lent(rt, row.name, kept.find(line)?, line, expected)?;
+        check_borrowed(rt, row.name, kept.find(line)?, line, expected)?;
     }
     Ok(())
 }

@@ -161,7 +161,7 @@ impl<'a> Expansion<'a> {
         }
     }
 
-    /// Records the key as the clash, if another placeholder has it already and no clash was recorded before.
+    /// Notes the key as that of the clash, if another placeholder has it already and no clash came before.
     fn note_clash(&mut self, key: &str) -> Result<(), AllocError> {
         if self.clash.is_none() && self.given.contains(key) {
             self.clash = Some(String::from_str(self.alloc, key)?);
@@ -169,7 +169,7 @@ impl<'a> Expansion<'a> {
         Ok(())
     }
 
-    /// Records the extract of a key, if it isn't empty.
+    /// Notes the extract of a key, if it isn't empty.
     fn note_extract(&mut self, key: &str, extract: &'a str) -> Result<(), AllocError> {
         if !extract.is_empty() {
             let key = String::from_str(self.alloc, key)?;
@@ -178,7 +178,7 @@ impl<'a> Expansion<'a> {
         Ok(())
     }
 
-    /// Records that the key was assigned.
+    /// Notes that the key was assigned.
     fn note_key(&mut self, key: String) -> Result<(), AllocError> {
         self.given.insert(key.clone()?)?;
         self.keys.push(key)?;
@@ -186,7 +186,7 @@ impl<'a> Expansion<'a> {
     }
 
     /// Assigns a capturing placeholder its number and its key, and writes the head of its group.
-    fn record(&mut self, base: &'a str, extract: &'a str) -> Result<(), AllocError> {
+    fn begin_capturing(&mut self, base: &'a str, extract: &'a str) -> Result<(), AllocError> {
         let number = self.keys.len();
         let key = self.next_key(base)?;
         self.note_clash(key.as_str())?;
@@ -198,11 +198,11 @@ impl<'a> Expansion<'a> {
     /// Writes the head of the group of a placeholder.
     fn begin(&mut self, name: &'a str, alias: &'a str, extract: &'a str) -> Result<(), AllocError> {
         if !alias.is_empty() {
-            self.record(alias, extract)
+            self.begin_capturing(alias, extract)
         } else if self.with_alias_only {
             self.text.push_str("(?:")
         } else {
-            self.record(name, extract)
+            self.begin_capturing(name, extract)
         }
     }
 
@@ -256,7 +256,7 @@ impl<'a> Expansion<'a> {
         }
     }
 
-    /// Records that the definition of a name is expanded, with `levels` more levels allowed.
+    /// Notes that the definition of a name is expanded, with `levels` more levels allowed.
     fn enter(&mut self, name: &'a str, is_stored: bool, levels: usize) -> Result<(), AllocError> {
         self.nesting = self.nesting.max((LEVELS + 1).saturating_sub(levels));
         if is_stored {

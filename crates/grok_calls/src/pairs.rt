@@ -21,7 +21,7 @@ struct Answers {
     kept: String,
     /// The same matcher, by its `find`.
     found: String,
-    /// A matcher that is made for this line alone.
+    /// A new matcher for each line.
     uncached: String,
 }
 

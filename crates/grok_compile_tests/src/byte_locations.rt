@@ -1,5 +1,5 @@
-//! Tests of `locate_byte`: which piece writes each byte of an expanded text. A plain walk over the pieces of a pattern
-//! and of its definitions, written for the tests, computes it for each byte of some patterns.
+//! Tests of `locate_byte`: which piece writes each byte of an expanded text. A plain expansion, written for the tests, reads the
+//! pieces of a pattern and of its definitions, and computes it for each byte of some patterns.
 
 use crate::libraries::add_doublings;
 use grok::parser::{GrokComponent, GrokSplit, grok_split};
@@ -286,7 +286,7 @@ const ROWS: &[Row] = &[
     },
 ];
 
-/// A text that the walk has entered and not yet left: the pattern, or a definition.
+/// An open text, which is read up to some piece: the pattern, or a definition.
 #[derive(Drop)]
 struct Frame<'a> {
     /// The name of the placeholder, and its range in the text around it. For the pattern they are empty.
@@ -310,9 +310,9 @@ impl<'a> Frame<'a> {
     }
 }
 
-/// A walk over a pattern, with the text that it has written so far and the location of each byte.
+/// A plain expansion of a pattern: the text that it has written so far, and the location of each byte.
 #[derive(Drop)]
-struct Walk<'a> {
+struct PlainExpansion<'a> {
     alloc: Global,
     definitions: &'a [(&'a str, &'a str)],
     with_alias_only: bool,
@@ -331,7 +331,7 @@ fn defined<'a>(definitions: &[(&'a str, &'a str)], name: &str) -> Option<&'a str
     }
 }
 
-impl<'a> Walk<'a> {
+impl<'a> PlainExpansion<'a> {
     /// Writes `part`, which the piece at `range` of the innermost text writes. It is a copy of that piece if `group`
     /// is `None`, and otherwise the head or the close of that group.
     fn write(
@@ -449,11 +449,15 @@ impl<'a> Walk<'a> {
     }
 }
 
-/// Returns the walk over the pattern of the row, with all that it has written.
-fn walked(alloc: Global, row: &'static Row, with_alias_only: bool) -> Result<Walk<'static>, Fail> {
+/// Expands the pattern of the row.
+fn expand_plainly(
+    alloc: Global,
+    row: &'static Row,
+    with_alias_only: bool,
+) -> Result<PlainExpansion<'static>, Fail> {
     let mut frames = Vec::new(alloc);
     frames.push(Frame::new(alloc, "", 0..0, row.pattern))?;
-    let mut walk = Walk {
+    let mut expansion = PlainExpansion {
         alloc,
         definitions: row.definitions,
         with_alias_only,
@@ -463,11 +467,11 @@ fn walked(alloc: Global, row: &'static Row, with_alias_only: bool) -> Result<Wal
         frames,
     };
     for _ in 0..1_000 {
-        if !walk.step()? {
+        if !expansion.step()? {
             break;
         }
     }
-    Ok(walk)
+    Ok(expansion)
 }
 
 /// Returns whether both are the same location. They may borrow from different texts.
@@ -479,18 +483,18 @@ fn is_same(found: &ByteLocation<'_>, expected: &ByteLocation<'_>) -> bool {
     has_path && has_text && has_range && has_part
 }
 
-/// Checks that each byte has the location that the walk has found, and that positions after the text have none.
+/// Checks that each byte has the location that the plain expansion has found, and that positions after the text have none.
 fn check_row(
     rt: &(impl Abort + AllocGlobal),
     row: &'static Row,
     with_alias_only: bool,
 ) -> Result<(), Fail> {
     let grok = Grok::from_iter(rt.alloc(), row.definitions)?;
-    let walk = walked(rt.alloc(), row, with_alias_only)?;
+    let expansion = expand_plainly(rt.alloc(), row, with_alias_only)?;
     if !with_alias_only {
-        assert_eq!(rt; walk.text.as_str(), row.expanded, "{}", row.name);
+        assert_eq!(rt; expansion.text.as_str(), row.expanded, "{}", row.name);
     }
-    for (byte, location) in walk.locations.iter().enumerate() {
+    for (byte, location) in expansion.locations.iter().enumerate() {
         let found = grok.locate_byte(row.pattern, with_alias_only, byte)?;
         let is_right = match &found {
             Some(found) => is_same(found, location),
@@ -499,8 +503,8 @@ fn check_row(
         assert!(rt; is_right, "{}: byte {byte}, not at {location:?}", row.name);
     }
     for byte in [
-        walk.text.len(),
-        walk.text.len().saturating_add(1),
+        expansion.text.len(),
+        expansion.text.len().saturating_add(1),
         usize::MAX,
     ] {
         let is_none = grok

@@ -310,7 +310,7 @@ const DEEP: &[Deep] = &[
         range: (0, 6),
     },
     Deep {
-        name: "behind doublings",
+        name: "after doublings",
         chain: (1, "%{D70}%{nope}"),
         pattern: "%{D70}%{C1}",
         fault: Missing("nope"),

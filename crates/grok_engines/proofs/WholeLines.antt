@@ -14,5 +14,5 @@ whole line = (0, length line, omega arith, omega arith, all_of line)
 pub whole_text : (line : List ℕ) → located_text line (0, length line) ≡ line
 whole_text line = sym (all_of line)
 
-pub whole_place : (line : List ℕ) → IsUtf8 line → IsLocationIn line (0, length line)
-whole_place line utf8 = record { ordered = omega arith; begins = IsCharBoundary-start line utf8; ends = IsCharBoundary-end line }
+pub whole_location : (line : List ℕ) → IsUtf8 line → IsLocationIn line (0, length line)
+whole_location line utf8 = record { ordered = omega arith; begins = IsCharBoundary-start line utf8; ends = IsCharBoundary-end line }

@@ -71,7 +71,7 @@ fn whole_at(line: &str, group: usize) -> Option<&str>
 
 /// Returns the byte range that group number `group` captures: that of the whole line for 0 and for
 /// each odd number, and `None` for the others.
-#[tactic(auto, using(crate::proofs::WholeLines::whole_place, crate::proofs::WholeLines::whole_text))]
+#[tactic(auto, using(crate::proofs::WholeLines::whole_location, crate::proofs::WholeLines::whole_text))]
 fn location_at(line: &str, group: usize) -> Option<(usize, usize)>
     ensures text { option_map (located_text line.now) result ≡ line_at line.now group }
     ensures inside { ForSome result (IsLocationIn line.now) }

@@ -31,9 +31,9 @@ use Rattle.regex.proofs.SearchLemmas.{leftmost_none, leftmost_here}
 use Rattle.regex.proofs.ForCallers.{span_alike, found_alike}
 use Rattle.regex.proofs.Utf8Lemmas.{test_of_IsCharBoundary}
 use Rattle.grok.specs.RegexFinds.{IsReadByDefault, texts_at, span_of_group, captures_in}
-use Rattle.grok.specs.OwnSearches.{IsTreeOf, BeginsEach, IsInEach, AreMarksOf, IsNextOf, IsPositionOf, span_of_pair, span_of_cells}
-use Rattle.grok.specs.declared.engine.marks.Marks.{Marks}
-use Rattle.grok.specs.declared.engine.marks.Needles.{Needles}
+use Rattle.grok.specs.OwnSearches.{IsTreeOf, BeginsEach, IsInEach, AreMatchFactsOf, IsNextOf, IsPositionOf, span_of_pair, span_of_cells}
+use Rattle.grok.specs.declared.engine.match_facts.MatchFacts.{MatchFacts}
+use Rattle.grok.specs.declared.engine.match_facts.Needles.{Needles}
 use Rattle.grok.proofs.Trees.CompileResults.{no_bytes}
 
 -- ---- the same text
@@ -170,11 +170,11 @@ no_cells cells o e = rw (no_bytes cells e) (no_groups o)
 
 -- ---- where a match can lie
 
-pub of_first : (re : Re) (marks : Marks) (n : Needles) → ∥ AreMarksOf re marks ∥₁ → marks.first ≡ Some n → ∥ BeginsEach re n ∥₁
-of_first re marks n h is = ∥∥₁_elim h ∥∥₁_prop (λ m. ∣ subst (λ o. IfSome o (BeginsEach re)) is m.first ∣₁)
+pub of_first : (re : Re) (facts : MatchFacts) (n : Needles) → ∥ AreMatchFactsOf re facts ∥₁ → facts.first ≡ Some n → ∥ BeginsEach re n ∥₁
+of_first re facts n h is = ∥∥₁_elim h ∥∥₁_prop (λ m. ∣ subst (λ o. IfSome o (BeginsEach re)) is m.first ∣₁)
 
-pub of_inner : (re : Re) (marks : Marks) (n : Needles) → ∥ AreMarksOf re marks ∥₁ → marks.inner ≡ Some n → ∥ IsInEach re n ∥₁
-of_inner re marks n h is = ∥∥₁_elim h ∥∥₁_prop (λ m. ∣ subst (λ o. IfSome o (IsInEach re)) is m.inner ∣₁)
+pub of_inner : (re : Re) (facts : MatchFacts) (n : Needles) → ∥ AreMatchFactsOf re facts ∥₁ → facts.inner ≡ Some n → ∥ IsInEach re n ∥₁
+of_inner re facts n h is = ∥∥₁_elim h ∥∥₁_prop (λ m. ∣ subst (λ o. IfSome o (IsInEach re)) is m.inner ∣₁)
 
 module _ (p : Program) (hay : List ℕ) (n : Needles) (bytes : All (λ b. b < 256) hay) where
   -- no match starts at a position without one of the literals that matches begin with

@@ -10,12 +10,12 @@ use Rattle.grok.specs.Tree.{Definitions, Label, Meaning, PlaceholderItem, Event,
 use Rattle.grok.specs.Keys.{is_capturing, capturing, base_key, how_often, numbered, key_after, TreeFault, Clash, first_fault}
 use Rattle.grok.specs.CapturedSoFar.{onto}
 use Rattle.grok.specs.NumberedBases.{opens_numbered_from, is_base_in, can_clash}
-use Rattle.grok.specs.FaultPlaces.{path_view}
-use Rattle.grok.specs.FirstFault.{IsFaultAfter, Breaks, Meets}
+use Rattle.grok.specs.FaultLocations.{path_view}
+use Rattle.grok.specs.FirstFault.{IsFaultAfter, StructuralEvent, ClashingOpen}
 use Rattle.grok.specs.ByteLocations.{IsEventAt}
 use Rattle.grok.specs.ClashLocations.{HasKeyAt, IsClashAt}
 use Rattle.grok.specs.UseSteps.{is_some_use, IsUseAt, FindsUse}
-use Rattle.grok.specs.declared.expand.tallies.CompileMode.{CompileMode}
+use Rattle.grok.specs.declared.expand.counted_definitions.CompileMode.{CompileMode}
 use Rattle.grok.specs.declared.locate_clash.SoughtKeys.{SoughtKeys}
 use Rattle.grok.specs.declared.locate_clash.UsesSoFar.{UsesSoFar}
 use Rattle.grok.specs.declared.locate_clash.PlaceholderLocation.{PlaceholderLocation}
@@ -109,8 +109,8 @@ module _ (alias_only : Bool) (key base : List ℕ) (count : ℕ) (key_is : key �
 
   clash_of : (es before : List Event) (event : Event) (after : List Event) (tree_fault : TreeFault) → es ≡ before ++ event ∷ after → first_fault alias_only before ≡ None → IsFaultAfter alias_only before event tree_fault
       → tree_fault ≡ Clash key → IsClash alias_only es key base (suc count)
-  clash_of es before event after tree_fault cut none (Breaks fault) is = cc
-  clash_of es before event after tree_fault cut none (Meets label meaning captures among) is =
+  clash_of es before event after tree_fault cut none (StructuralEvent fault) is = cc
+  clash_of es before event after tree_fault cut none (ClashingOpen label meaning captures among) is =
       let opens = capturing alias_only before in
       let own : key_after opens label ≡ key = cc in
       let (other, number, low, other_is) = taken_is (onto [] opens) (key_after opens label) (sym (among_keys (key_after opens label) opens) ∙ among) in

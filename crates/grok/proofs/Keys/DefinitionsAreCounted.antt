@@ -1,4 +1,4 @@
--- Counting a definition item by item gives the right tally: how many levels it needs, and how often it uses each base
+-- Counting a definition item by item gives the right counts: how many levels it needs, and how often it uses each base
 -- key that can clash.
 use Rattle.std.proofs.Common.{◌≡◌, ℕ, zero, suc, ◌+◌, ◌<◌, ◌≤◌, Bool, true, false, cond, List, [], ◌∷◌, ◌++◌, Option, Some, None, Result, Ok, Err, IfOk, not, refl, sym, ◌∙◌, ap, subst, arith, inl, inr, append_assoc, append-nil, length, length-append, drop, MatchOption, ◌&&◌}
 use Rattle.std.specs.Str.{bytes_eq}
@@ -8,13 +8,13 @@ use Rattle.grok.specs.Keys.{is_capturing, capturing, how_often, base_key}
 use Rattle.grok.specs.NumberedBases.{can_clash, only_clashing}
 use Rattle.grok.specs.KeyUses.{CountsUses}
 use Rattle.grok.specs.Items.{item_view}
-use Rattle.grok.specs.Tallied.{resolve, opened_events, OpensNothing, IsSoundItem, IsTallyOf, HasTallied, IsCountedPartOf, with_item, counted_part_of, AreTallied, is_counted, counted}
+use Rattle.grok.specs.CountedDefinitions.{resolve, opened_events, OpensNothing, IsSoundItem, IsCountOfText, IsCountOfItems, IsCountedPartOf, with_item, counted_part_of, AreCounted, is_counted, counted}
 use Rattle.grok.specs.declared.defs.items.Item as code
 use Rattle.grok.specs.declared.expand.key_uses.KeyUses.{KeyUses}
-use Rattle.grok.specs.declared.expand.tallies.CompileMode.{CompileMode}
-use Rattle.grok.specs.declared.expand.tallies.KeyTally.{KeyTally}
-use Rattle.grok.specs.declared.expand.tallies.CountedPart.{CountedPart}
-use Rattle.grok.specs.declared.expand.tallies.DefinitionTallies.{DefinitionTallies}
+use Rattle.grok.specs.declared.expand.counted_definitions.CompileMode.{CompileMode}
+use Rattle.grok.specs.declared.expand.counted_definitions.CountedItems.{CountedItems}
+use Rattle.grok.specs.declared.expand.counted_definitions.CountedPart.{CountedPart}
+use Rattle.grok.specs.declared.expand.counted_definitions.CountedDefinitions.{CountedDefinitions}
 use Rattle.std.specs.Option.{is_some}
 use Rattle.std.proofs.lemmas.Bool.{cases_Bool, true≢false}
 use Rattle.std.proofs.Math.Seq.{drop-append_seam}
@@ -51,8 +51,8 @@ sound_first mode (PlaceholderItem label (Stored text)) items h = h.0
 
 -- ---- counts
 
-pub counts_same : (counts : KeyUses) (wants others : List ℕ → ℕ) → ((key : List ℕ) → wants key ≡ others key) → CountsUses counts wants → CountsUses counts others
-counts_same counts wants others same = subst (CountsUses counts) (λ i key. same key i)
+pub counts_same : (counts : KeyUses) (uses others : List ℕ → ℕ) → ((key : List ℕ) → uses key ≡ others key) → CountsUses counts uses → CountsUses counts others
+counts_same counts uses others same = subst (CountsUses counts) (λ i key. same key i)
 
 -- how often the open of this label uses the key, if its uses are counted
 abbrev pub own : CompileMode → Label → List ℕ → ℕ
@@ -89,8 +89,8 @@ module _ (mode : CompileMode) where
 
   -- ---- one item more
 
-  pub nothing_tallied : (tally : KeyTally) → CountsUses tally.uses (λ key. 0) → HasTallied mode [] tally
-  nothing_tallied tally counts = record {
+  pub no_items_counted : (count : CountedItems) → CountsUses count.uses (λ key. 0) → IsCountOfItems mode [] count
+  no_items_counted count counts = record {
     uses = λ key. 0;
     counts = counts;
     clean = λ levels high. refl;
@@ -105,14 +105,14 @@ module _ (mode : CompileMode) where
       ap (λ es. Open label meaning ∷ inner (meaning_text meaning) ++ es) (events_both inner xs ys)
       ∙ ap (λ es. Open label meaning ∷ es) (sym (append_assoc (inner (meaning_text meaning)) (events inner xs) (events inner ys)))
 
-  module _ (items : List Item) (old new : KeyTally) (h : HasTallied mode items old) (above : old.height ≤ new.height) where
+  module _ (items : List Item) (old new : CountedItems) (h : IsCountOfItems mode items old) (above : old.height ≤ new.height) where
     -- one more item, which has no fault and uses each key `more key` times
-    more_tallied : (item : Item) (more : List ℕ → ℕ)
+    one_more_counted : (item : Item) (more : List ℕ → ℕ)
         → ((levels : ℕ) → new.height ≤ levels → first_structural (events (opened_events mode levels) (item ∷ [])) ≡ None)
         → ((levels : ℕ) → new.height ≤ levels → (key : List ℕ) → how_often (counted mode (events (opened_events mode levels) (item ∷ []))) key ≡ more key)
         → CountsUses new.uses (λ key. more key + h.uses key)
-        → HasTallied mode (items ++ item ∷ []) new
-    more_tallied item more clean often counts = record {
+        → IsCountOfItems mode (items ++ item ∷ []) new
+    one_more_counted item more clean often counts = record {
       uses = λ key. more key + h.uses key;
       counts = counts;
       clean = λ levels high.
@@ -131,11 +131,11 @@ module _ (mode : CompileMode) where
           omega (arith, both, h.often levels enough key, often levels high key);
     }
 
-    pub opened_tallied : (label : Label) (meaning : Meaning) (inner : KeyTally) → IsTallyOf mode (meaning_text meaning) inner → inner.height < new.height
-        → ((others wants : List ℕ → ℕ) → CountsUses inner.uses others → CountsUses old.uses wants → CountsUses new.uses (λ key. own mode label key + (others key + wants key)))
-        → HasTallied mode (items ++ PlaceholderItem label meaning ∷ []) new
-    opened_tallied label meaning inner t high counts =
-        more_tallied (PlaceholderItem label meaning) (λ key. own mode label key + t.uses key)
+    pub meaning_counted : (label : Label) (meaning : Meaning) (inner : CountedItems) → IsCountOfText mode (meaning_text meaning) inner → inner.height < new.height
+        → ((others uses : List ℕ → ℕ) → CountsUses inner.uses others → CountsUses old.uses uses → CountsUses new.uses (λ key. own mode label key + (others key + uses key)))
+        → IsCountOfItems mode (items ++ PlaceholderItem label meaning ∷ []) new
+    meaning_counted label meaning inner t high counts =
+        one_more_counted (PlaceholderItem label meaning) (λ key. own mode label key + t.uses key)
         (λ levels le.
         let deep : inner.height < levels = omega arith in
         ap first_structural (append-nil (opened_events mode levels (meaning_text meaning))) ∙ t.clean levels deep)
@@ -146,106 +146,106 @@ module _ (mode : CompileMode) where
         (counts_same new.uses (λ key. own mode label key + (t.uses key + h.uses key)) (λ key. own mode label key + t.uses key + h.uses key) (λ key. omega arith)
         (counts t.uses h.uses t.counts h.counts))
 
-  pub text_tallied : (items : List Item) (text : List ℕ) (tally : KeyTally) → HasTallied mode items tally → HasTallied mode (items ++ TextItem text ∷ []) tally
-  text_tallied items text tally h =
-      more_tallied items tally tally h (omega arith) (TextItem text) (λ key. 0) (λ levels high. refl) (λ levels high key. refl)
-      (counts_same tally.uses h.uses (λ key. 0 + h.uses key) (λ key. omega arith) h.counts)
+  pub text_counted : (items : List Item) (text : List ℕ) (count : CountedItems) → IsCountOfItems mode items count → IsCountOfItems mode (items ++ TextItem text ∷ []) count
+  text_counted items text count h =
+      one_more_counted items count count h (omega arith) (TextItem text) (λ key. 0) (λ levels high. refl) (λ levels high key. refl)
+      (counts_same count.uses h.uses (λ key. 0 + h.uses key) (λ key. omega arith) h.counts)
 
   -- a placeholder, by what counting it returned
-  pub placeholder_tallied : {E : Type 0} (item : Item) (label : Label) (meaning : Meaning) (old new inner : KeyTally) (r : Result Bool E) → item ≡ PlaceholderItem label meaning
-      → (IsSoundItem mode (PlaceholderItem label meaning) → IsTallyOf mode (meaning_text meaning) inner)
-      → IfOk r (λ added. (meaning : Meaning) (items : List Item) → IsTallyOf mode (meaning_text meaning) inner → HasTallied mode items old
-      → HasTallied mode (with_item added items (PlaceholderItem label meaning)) new)
-      → IfOk r (λ known. IsSoundItem mode item → (items : List Item) → HasTallied mode items old → HasTallied mode (with_item known items item) new)
-  placeholder_tallied item label meaning old new inner (Err e) is within h = tt
-  placeholder_tallied item label meaning old new inner (Ok added) is within h = λ sound items t.
-      subst (λ i. HasTallied mode (with_item added items i) new) (sym is) (h meaning items (within (subst (IsSoundItem mode) is sound)) t)
+  pub placeholder_counted : {E : Type 0} (item : Item) (label : Label) (meaning : Meaning) (old new inner : CountedItems) (r : Result Bool E) → item ≡ PlaceholderItem label meaning
+      → (IsSoundItem mode (PlaceholderItem label meaning) → IsCountOfText mode (meaning_text meaning) inner)
+      → IfOk r (λ added. (meaning : Meaning) (items : List Item) → IsCountOfText mode (meaning_text meaning) inner → IsCountOfItems mode items old
+      → IsCountOfItems mode (with_item added items (PlaceholderItem label meaning)) new)
+      → IfOk r (λ known. IsSoundItem mode item → (items : List Item) → IsCountOfItems mode items old → IsCountOfItems mode (with_item known items item) new)
+  placeholder_counted item label meaning old new inner (Err e) is within h = tt
+  placeholder_counted item label meaning old new inner (Ok added) is within h = λ sound items t.
+      subst (λ i. IsCountOfItems mode (with_item added items i) new) (sym is) (h meaning items (within (subst (IsSoundItem mode) is sound)) t)
 
   -- ---- whole texts
 
   -- the first `counted` items of a text were counted, and `left` has the others
-  pub record IsCounting (text : List ℕ) (left : List Item) (counted : ℕ) (tally : KeyTally) : Type 0 where
+  pub record IsCounting (text : List ℕ) (left : List Item) (counted : ℕ) (count : CountedItems) : Type 0 where
     pub items : List Item
     pub cut : resolve mode text ≡ items ++ left
     pub many : length items ≡ counted
-    pub tallied : HasTallied mode items tally
+    pub is_count : IsCountOfItems mode items count
 
-  pub counting_starts : (text : List ℕ) (left : List Item) (tally : KeyTally) → left ≡ resolve mode text → CountsUses tally.uses (λ key. 0) → IsCounting text left 0 tally
-  counting_starts text left tally is counts = record { items = []; cut = sym is; many = refl; tallied = nothing_tallied tally counts }
+  pub counting_starts : (text : List ℕ) (left : List Item) (count : CountedItems) → left ≡ resolve mode text → CountsUses count.uses (λ key. 0) → IsCounting text left 0 count
+  counting_starts text left count is counts = record { items = []; cut = sym is; many = refl; is_count = no_items_counted count counts }
 
   -- the search goes on with the item at which counting stops, and after it with the items that weren't read
-  pub counted_in_part : (text : List ℕ) (left rest : List Item) (item : code.Item) (counted : ℕ) (front : CountedPart) → left ≡ item_view item ∷ rest → front.read ≡ counted + 1 → front.uncounted ≡ Some item
-      → IsCounting text left counted front.tally → IsCountedPartOf mode text front
-  counted_in_part text left rest item counted front is one part h =
+  pub counted_in_part : (text : List ℕ) (left rest : List Item) (item : code.Item) (counted : ℕ) (part : CountedPart) → left ≡ item_view item ∷ rest → part.read ≡ counted + 1 → part.uncounted ≡ Some item
+      → IsCounting text left counted part.counted → IsCountedPartOf mode text part
+  counted_in_part text left rest item counted part is one stops h =
       let whole : resolve mode text ≡ h.items ++ item_view item ∷ rest = h.cut ∙ ap (λ left. h.items ++ left) is in
-      let read : length (h.items ++ item_view item ∷ []) ≡ front.read = omega (arith, length-append h.items (item_view item ∷ []), h.many, one) in
-      let later : drop front.read (resolve mode text) ≡ rest =
+      let read : length (h.items ++ item_view item ∷ []) ≡ part.read = omega (arith, length-append h.items (item_view item ∷ []), h.many, one) in
+      let later : drop part.read (resolve mode text) ≡ rest =
       ap (λ n. drop n (resolve mode text)) (sym read)
       ∙ ap (drop (length (h.items ++ item_view item ∷ []))) (whole ∙ sym (append_assoc h.items (item_view item ∷ []) rest))
       ∙ drop-append_seam (h.items ++ item_view item ∷ []) rest in
       record {
         items = h.items;
-        cut = subst (λ o. MatchOption o (resolve mode text ≡ h.items) (λ item. resolve mode text ≡ h.items ++ item_view item ∷ drop front.read (resolve mode text))) (sym part)
+        cut = subst (λ o. MatchOption o (resolve mode text ≡ h.items) (λ item. resolve mode text ≡ h.items ++ item_view item ∷ drop part.read (resolve mode text))) (sym stops)
             (whole ∙ ap (λ rest. h.items ++ item_view item ∷ rest) (sym later));
-        tallied = h.tallied;
+        is_count = h.is_count;
       }
 
-  pub counted_wholly : (text : List ℕ) (left : List Item) (counted : ℕ) (front : CountedPart) → left ≡ [] → front.uncounted ≡ None → IsCounting text left counted front.tally → IsCountedPartOf mode text front
-  counted_wholly text left counted front over part h = record {
+  pub counted_wholly : (text : List ℕ) (left : List Item) (counted : ℕ) (part : CountedPart) → left ≡ [] → part.uncounted ≡ None → IsCounting text left counted part.counted → IsCountedPartOf mode text part
+  counted_wholly text left counted part over none h = record {
     items = h.items;
-    cut = subst (λ o. MatchOption o (resolve mode text ≡ h.items) (λ item. resolve mode text ≡ h.items ++ item_view item ∷ drop front.read (resolve mode text))) (sym part)
+    cut = subst (λ o. MatchOption o (resolve mode text ≡ h.items) (λ item. resolve mode text ≡ h.items ++ item_view item ∷ drop part.read (resolve mode text))) (sym none)
         (h.cut ∙ ap (λ left. h.items ++ left) over ∙ append-nil h.items);
-    tallied = h.tallied;
+    is_count = h.is_count;
   }
 
-  pub counting_goes_on : (text : List ℕ) (left rest : List Item) (item : Item) (counted more : ℕ) (old new : KeyTally) → left ≡ item ∷ rest → more ≡ counted + 1
-      → IsCounting text left counted old → ((items : List Item) → HasTallied mode items old → HasTallied mode (items ++ item ∷ []) new) → IsCounting text rest more new
-  counting_goes_on text left rest item counted more old new cut one h tallies = record {
+  pub counting_goes_on : (text : List ℕ) (left rest : List Item) (item : Item) (counted more : ℕ) (old new : CountedItems) → left ≡ item ∷ rest → more ≡ counted + 1
+      → IsCounting text left counted old → ((items : List Item) → IsCountOfItems mode items old → IsCountOfItems mode (items ++ item ∷ []) new) → IsCounting text rest more new
+  counting_goes_on text left rest item counted more old new cut one h counts_item = record {
     items = h.items ++ item ∷ [];
     cut = h.cut ∙ ap (λ left. h.items ++ left) cut ∙ sym (append_assoc h.items (item ∷ []) rest);
     many = omega (arith, length-append h.items (item ∷ []), h.many, one);
-    tallied = tallies h.items h.tallied;
+    is_count = counts_item h.items h.is_count;
   }
 
-  pub whole_tallied : (text : List ℕ) (front : CountedPart) → IsCountedPartOf mode text front → front.uncounted ≡ None → IsTallyOf mode text front.tally
-  whole_tallied text front f whole = record {
-    uses = f.tallied.uses;
-    counts = f.tallied.counts;
+  pub whole_text_counted : (text : List ℕ) (part : CountedPart) → IsCountedPartOf mode text part → part.uncounted ≡ None → IsCountOfText mode text part.counted
+  whole_text_counted text part f whole = record {
+    uses = f.is_count.uses;
+    counts = f.is_count.counts;
     clean = clean;
     often = often;
   }
     where
       all : resolve mode text ≡ f.items
-      all = subst (λ o. MatchOption o (resolve mode text ≡ f.items) (λ item. resolve mode text ≡ f.items ++ item_view item ∷ drop front.read (resolve mode text))) whole f.cut
+      all = subst (λ o. MatchOption o (resolve mode text ≡ f.items) (λ item. resolve mode text ≡ f.items ++ item_view item ∷ drop part.read (resolve mode text))) whole f.cut
 
-      clean : (levels : ℕ) → front.tally.height < levels → first_structural (opened_events mode levels text) ≡ None
+      clean : (levels : ℕ) → part.counted.height < levels → first_structural (opened_events mode levels text) ≡ None
       clean zero high = absurd (omega arith)
       clean (suc levels) high =
           first_structural-append (events (opened_events mode levels) (resolve mode text)) (Close ∷ [])
-          ∙ ap (λ o. or_else o None) (ap (λ items. first_structural (events (opened_events mode levels) items)) all ∙ f.tallied.clean levels (omega arith))
+          ∙ ap (λ o. or_else o None) (ap (λ items. first_structural (events (opened_events mode levels) items)) all ∙ f.is_count.clean levels (omega arith))
 
-      often : (levels : ℕ) → front.tally.height < levels → (key : List ℕ) → how_often (counted mode (opened_events mode levels text)) key ≡ f.tallied.uses key
+      often : (levels : ℕ) → part.counted.height < levels → (key : List ℕ) → how_often (counted mode (opened_events mode levels text)) key ≡ f.is_count.uses key
       often zero high key = absurd (omega arith)
       often (suc levels) high key =
           let es = events (opened_events mode levels) (resolve mode text) in
-          let same : how_often (counted mode es) key ≡ f.tallied.uses key =
-          ap (λ items. how_often (counted mode (events (opened_events mode levels) items)) key) all ∙ f.tallied.often levels (omega arith) key in
+          let same : how_often (counted mode es) key ≡ f.is_count.uses key =
+          ap (λ items. how_often (counted mode (events (opened_events mode levels) items)) key) all ∙ f.is_count.often levels (omega arith) key in
           omega (arith, often_both es (Close ∷ []) key, same)
 
   -- a definition that is written in a text
-  pub nothing_counted : (text : List ℕ) (tally : KeyTally) → OpensNothing mode text → CountsUses tally.uses (λ key. 0) → IsTallyOf mode text tally
-  nothing_counted text tally nothing counts = record {
+  pub nothing_counted : (text : List ℕ) (count : CountedItems) → OpensNothing mode text → CountsUses count.uses (λ key. 0) → IsCountOfText mode text count
+  nothing_counted text count nothing counts = record {
     uses = λ key. 0;
     counts = counts;
     clean = clean;
     often = often;
   }
     where
-      clean : (levels : ℕ) → tally.height < levels → first_structural (opened_events mode levels text) ≡ None
+      clean : (levels : ℕ) → count.height < levels → first_structural (opened_events mode levels text) ≡ None
       clean zero high = absurd (omega arith)
       clean (suc levels) high = nothing.clean levels
 
-      often : (levels : ℕ) → tally.height < levels → (key : List ℕ) → how_often (counted mode (opened_events mode levels text)) key ≡ 0
+      often : (levels : ℕ) → count.height < levels → (key : List ℕ) → how_often (counted mode (opened_events mode levels text)) key ≡ 0
       often zero high key = absurd (omega arith)
       often (suc levels) high key = ap (λ labels. how_often labels key) (nothing.none levels)
 
@@ -255,17 +255,17 @@ none_left None b answer is = refl
 none_left (Some x) b answer is = absurd (true≢false (answer ∙ ap not is))
 
 -- one name more
-pub name_tallied : (mode : CompileMode) (old new : DefinitionTallies) (name text : List ℕ) (front : CountedPart) → AreTallied mode old → finite.get mode.grok.now name ≡ Some text → IsCountedPartOf mode text front
-    → ((other : List ℕ) → counted_part_of new.by_name other ≡ cond (bytes_eq name other) (Some front) (counted_part_of old.by_name other)) → AreTallied mode new
-name_tallied mode old new name text front tallied defined is updates other its found at defines = elim (cases_Bool (bytes_eq name other)) [
+pub name_counted : (mode : CompileMode) (old new : CountedDefinitions) (name text : List ℕ) (part : CountedPart) → AreCounted mode old → finite.get mode.grok.now name ≡ Some text → IsCountedPartOf mode text part
+    → ((other : List ℕ) → counted_part_of new.by_name other ≡ cond (bytes_eq name other) (Some part) (counted_part_of old.by_name other)) → AreCounted mode new
+name_counted mode old new name text part are_counted defined is updates other its found at defines = elim (cases_Bool (bytes_eq name other)) [
   | inl same ↦
       let e : name ≡ other = same_text name other same in
-      let now : counted_part_of new.by_name other ≡ Some front = updates other ∙ ap (λ b. cond b (Some front) (counted_part_of old.by_name other)) same in
-      let this : Some front ≡ Some found = sym now ∙ at in
+      let now : counted_part_of new.by_name other ≡ Some part = updates other ∙ ap (λ b. cond b (Some part) (counted_part_of old.by_name other)) same in
+      let this : Some part ≡ Some found = sym now ∙ at in
       let text_is : Some text ≡ Some its = sym defined ∙ ap (λ n. finite.get mode.grok.now n) e ∙ defines in
-      let one : front ≡ found = cc in
+      let one : part ≡ found = cc in
       let two : text ≡ its = cc in
-      subst (IsCountedPartOf mode its) one (subst (λ t. IsCountedPartOf mode t front) two is)
+      subst (IsCountedPartOf mode its) one (subst (λ t. IsCountedPartOf mode t part) two is)
   | inr apart ↦
-      tallied other its found (sym (updates other ∙ ap (λ b. cond b (Some front) (counted_part_of old.by_name other)) apart) ∙ at) defines
+      are_counted other its found (sym (updates other ∙ ap (λ b. cond b (Some part) (counted_part_of old.by_name other)) apart) ∙ at) defines
 ]

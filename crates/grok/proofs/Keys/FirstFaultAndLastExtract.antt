@@ -7,7 +7,7 @@ use Rattle.std.proofs.lemmas.Bool.{true≢false, cases_Bool}
 use Rattle.grok.specs.Tree.{Label, is_absent, Event, Text, Open, Close, FaultEvent}
 use Rattle.grok.specs.Keys.{is_capturing, capturing, base_key, numbered, how_often, key_after, keys_after, keys, is_among, TreeFault, Structural, Clash, extract_after}
 use Rattle.grok.specs.CapturedSoFar.{onto, taken_of, in_order, extract_before, faults, after}
-use Rattle.grok.specs.FirstFault.{IsFaultAfter, Breaks, Meets, HasNoFault, HasFirstFault, FirstFaultIsFirst, HasNoExtract, HasLastExtract, ExtractIsLast}
+use Rattle.grok.specs.FirstFault.{IsFaultAfter, StructuralEvent, ClashingOpen, HasNoFault, HasFirstFault, FirstFaultIsFirst, HasNoExtract, HasLastExtract, ExtractIsLast}
 use Rattle.grok.proofs.Keys.KeysAreDistinct.{how_often_more}
 use Rattle.grok.proofs.Texts.EqualBytesAreSameText.{same_text, text_same}
 
@@ -109,8 +109,8 @@ module _ (alias_only : Bool) where
 
   fault_of : (before : List Event) (event : Event) (tree_fault : TreeFault) → IsFaultAfter alias_only before event tree_fault → one before event ≡ Some tree_fault
   unfolding one
-  fault_of before (FaultEvent fault) (Structural fault') (Breaks f) = refl
-  fault_of before event tree_fault (Meets label meaning is clash) =
+  fault_of before (FaultEvent fault) (Structural fault') (StructuralEvent f) = refl
+  fault_of before event tree_fault (ClashingOpen label meaning is clash) =
       let opens = capturing alias_only before in
       let key = key_onto opens label in
       let there : is_among (key_after (onto [] opens) label) (taken_of (onto [] opens)) ≡ true = ap (λ k. is_among k (taken_of (onto [] opens))) key ∙ (sym (among_keys (key_after opens label) opens) ∙ clash) in
@@ -120,13 +120,13 @@ module _ (alias_only : Bool) where
   unfolding one
   is_fault_after before (Text text) tree_fault e = cc
   is_fault_after before Close tree_fault e = cc
-  is_fault_after before (FaultEvent fault) tree_fault e = let same : Structural fault ≡ tree_fault = cc in subst (IsFaultAfter alias_only before (FaultEvent fault)) same (Breaks fault)
+  is_fault_after before (FaultEvent fault) tree_fault e = let same : Structural fault ≡ tree_fault = cc in subst (IsFaultAfter alias_only before (FaultEvent fault)) same (StructuralEvent fault)
   is_fault_after before (Open label meaning) tree_fault e =
       let opens = capturing alias_only before in
       let key = key_after (onto [] opens) label in
       let same = key_onto opens label in
       elim (cases_Bool (is_capturing alias_only label)) [
-        | inr unrecorded ↦ let bad : None ≡ Some tree_fault = sym (ap (λ b. cond b (cond (is_among key (taken_of (onto [] opens))) (Some (Clash key)) None) None) unrecorded) ∙ e in cc
+        | inr not_capturing ↦ let bad : None ≡ Some tree_fault = sym (ap (λ b. cond b (cond (is_among key (taken_of (onto [] opens))) (Some (Clash key)) None) None) not_capturing) ∙ e in cc
         | inl is ↦
             let e₁ : cond (is_among key (taken_of (onto [] opens))) (Some (Clash key)) None ≡ Some tree_fault = sym (ap (λ b. cond b (cond (is_among key (taken_of (onto [] opens))) (Some (Clash key)) None) None) is) ∙ e in
             elim (cases_Bool (is_among key (taken_of (onto [] opens)))) [
@@ -135,7 +135,7 @@ module _ (alias_only : Bool) where
                   let named : Some (Clash key) ≡ Some tree_fault = sym (ap (λ b. cond b (Some (Clash key)) None) there) ∙ e₁ in
                   let finding_is : Clash (key_after opens label) ≡ tree_fault = let n : Clash key ≡ tree_fault = cc in sym (ap Clash same) ∙ n in
                   subst (IsFaultAfter alias_only before (Open label meaning)) finding_is
-                  (Meets label meaning is (among_keys (key_after opens label) opens ∙ (ap (λ k. is_among k (taken_of (onto [] opens))) (sym same) ∙ there)))
+                  (ClashingOpen label meaning is (among_keys (key_after opens label) opens ∙ (ap (λ k. is_among k (taken_of (onto [] opens))) (sym same) ∙ there)))
             ]
       ]
 

@@ -14,15 +14,14 @@ use Rattle.grok.specs.CapturedSoFar.{taken_of, faults, after}
 use Rattle.grok.specs.Events.{events_left}
 use Rattle.grok.specs.KeyUses.{CountsUses, IsFree}
 use Rattle.grok.specs.NumberedBases.{opens_numbered_from, is_base_in, only_clashing}
-use Rattle.grok.specs.Walks.{Clashes, tree_fault_view}
 use Rattle.grok.specs.Items.{item_view}
-use Rattle.grok.specs.Tallied.{resolve, opened_events, IsSoundItem, HasTallied, IsCountedPartOf}
-use Rattle.grok.specs.FirstFaultSteps.{IsCountOf, CountedUse, HaveCounted, events_inside, EntersText, EntersPlaceholder, StepsAtItem, counted_fault, counted_after, HasFittingNumber}
+use Rattle.grok.specs.CountedDefinitions.{resolve, opened_events, IsSoundItem, IsCountOfItems, IsCountedPartOf}
+use Rattle.grok.specs.FirstFaultSteps.{tree_fault_view, Clashes, IsCountOf, CountedUse, HaveCounted, events_inside, EntersText, EntersPlaceholder, StepsAtItem, counted_fault, counted_after, HasFittingNumber}
 use Rattle.grok.specs.declared.defs.items.Item as code
 use Rattle.grok.specs.declared.expand.key_uses.KeyUses.{KeyUses}
-use Rattle.grok.specs.declared.expand.tallies.CompileMode.{CompileMode}
-use Rattle.grok.specs.declared.expand.tallies.KeyTally.{KeyTally}
-use Rattle.grok.specs.declared.expand.tallies.CountedPart.{CountedPart}
+use Rattle.grok.specs.declared.expand.counted_definitions.CompileMode.{CompileMode}
+use Rattle.grok.specs.declared.expand.counted_definitions.CountedItems.{CountedItems}
+use Rattle.grok.specs.declared.expand.counted_definitions.CountedPart.{CountedPart}
 use Rattle.grok.specs.declared.errors.fault.TreeFault.{TreeFault}
 use Rattle.grok.specs.declared.expand.first_fault.ItemStep.{ItemStep}
 use Rattle.grok.proofs.Keys.KeysAreDistinct.{how_often_more}
@@ -36,14 +35,14 @@ use Rattle.grok.proofs.Keys.DefinitionsAreCounted.{counts_same, sound_first}
 
 -- ---- one open
 
-module _ (before : List Label) (label : Label) (want : List ℕ) (is : want ≡ base_key label) where
+module _ (before : List Label) (label : Label) (base : List ℕ) (is : base ≡ base_key label) where
   -- how often each base key is used, with this placeholder
   abbrev pub with_own : List ℕ → ℕ
-  with_own key = (cond {A = ℕ} (bytes_eq want key) 1 0 + 0) + how_often before key
+  with_own key = (cond {A = ℕ} (bytes_eq base key) 1 0 + 0) + how_often before key
 
   own_is : (key : List ℕ) → with_own key ≡ how_often (label ∷ before) key
   own_is key =
-      let one : cond {A = ℕ} (bytes_eq want key) 1 0 ≡ cond (bytes_eq (base_key label) key) 1 0 = ap (λ w. cond {A = ℕ} (bytes_eq w key) 1 0) is in
+      let one : cond {A = ℕ} (bytes_eq base key) 1 0 ≡ cond (bytes_eq (base_key label) key) 1 0 = ap (λ w. cond {A = ℕ} (bytes_eq w key) 1 0) is in
       omega (arith, one, how_often_more label before key)
 
   free_is : IsFree with_own ≡ IsFree (how_often (label ∷ before))
@@ -57,33 +56,33 @@ module _ (before : List Label) (label : Label) (want : List ℕ) (is : want ≡ 
           | inl taken ↦ absurd (clash_is_not_free before label taken is_free)
           | inr untaken ↦ untaken
         ];
-        keeps = record { counts = counts_same total with_own (how_often (label ∷ before)) own_is counts; free = is_free };
+        is_count = record { counts = counts_same total with_own (how_often (label ∷ before)) own_is counts; free = is_free };
       }
 
-  pub clash_counted : (key : String Global) (free : Bool) (count : ℕ) → IsFree (how_often before) → free ≡ false → Decides free (IsFree with_own) → count ≡ how_often before want → string_bytes key ≡ numbered want count → Clashes before label key
+  pub clash_counted : (key : String Global) (free : Bool) (count : ℕ) → IsFree (how_often before) → free ≡ false → Decides free (IsFree with_own) → count ≡ how_often before base → string_bytes key ≡ numbered base count → Clashes before label key
   clash_counted key free count apart not_so decides often named = record {
     taken = elim (cases_Bool (is_among (key_after before label) (taken_of before))) [
       | inl taken ↦ taken
       | inr untaken ↦ absurd (true≢false (sym (decides.1 (subst (λ (P : Type 0). P) (sym free_is) (stays_free before label apart untaken))) ∙ not_so))
     ];
-    named = named ∙ ap (numbered want) often ∙ ap (λ w. numbered w (how_often before w)) is;
+    named = named ∙ ap (numbered base) often ∙ ap (λ w. numbered w (how_often before w)) is;
   }
 
 -- ---- the number of a clash
 
-module _ (total : KeyUses) (before : List Label) (label : Label) (key : String Global) (keeps : IsCountOf total before) (clash : Clashes before label key) where
+module _ (total : KeyUses) (before : List Label) (label : Label) (key : String Global) (is_count : IsCountOf total before) (clash : Clashes before label key) where
   number_of : (own number : ℕ) (base : List ℕ) → own ≡ how_often before (base_key label) → number < how_often before base → numbered (base_key label) own ≡ numbered base number → HasFittingNumber (string_bytes key)
   number_of zero zero base often low same = absurd (omega (arith, often, low, ap (how_often before) same))
   number_of zero (suc count) base often low same = record {
     base = base;
     count = count;
-    fits = let most : how_often before base < 2 ^ 64 = keeps.counts.fits base in omega arith;
+    fits = let most : how_often before base < 2 ^ 64 = is_count.counts.fits base in omega arith;
     is = clash.named ∙ ap (numbered (base_key label)) (sym often) ∙ same;
   }
   number_of (suc count) number base often low same = record {
     base = base_key label;
     count = count;
-    fits = let most : how_often before (base_key label) < 2 ^ 64 = keeps.counts.fits (base_key label) in omega arith;
+    fits = let most : how_often before (base_key label) < 2 ^ 64 = is_count.counts.fits (base_key label) in omega arith;
     is = clash.named ∙ ap (numbered (base_key label)) (sym often);
   }
 
@@ -95,11 +94,11 @@ module _ (total : KeyUses) (before : List Label) (label : Label) (key : String G
 
 -- ---- what an open holds
 
-module _ (mode : CompileMode) (items : List Item) (levels : ℕ) (before : List Label) (tally : KeyTally) (t : HasTallied mode items tally) (high : tally.height < levels) where
+module _ (mode : CompileMode) (items : List Item) (levels : ℕ) (before : List Label) (count : CountedItems) (t : IsCountOfItems mode items count) (high : count.height < levels) where
   abbrev held : List Event
   held = events_inside mode levels items
 
-  enough : tally.height ≤ levels - 1
+  enough : count.height ≤ levels - 1
   enough = omega arith
 
   -- how often each base key is used, with the uses of the items
@@ -114,7 +113,7 @@ module _ (mode : CompileMode) (items : List Item) (levels : ℕ) (before : List 
       let later : IsFree (how_often (counted_after mode before held)) = subst (λ (P : Type 0). P) (ap IsFree (λ i key. text_is key i)) (decides.0 is_so) in
       record {
         none = free_events mode.with_alias_only before (only_clashing mode.numbered.now held) (only_structural mode.numbered.now held ∙ t.clean (levels - 1) enough) later;
-        keeps = record { counts = counts_same total with_text (how_often (counted_after mode before held)) text_is counts; free = later };
+        is_count = record { counts = counts_same total with_text (how_often (counted_after mode before held)) text_is counts; free = later };
       }
 
 -- ---- one list of events after the other
@@ -133,7 +132,7 @@ module _ (mode : CompileMode) (before : List Label) (xs : List Event) (mid : Key
   pub passed-append : (total : KeyUses) → HaveCounted mode (counted_after mode before xs) ys total → HaveCounted mode before (xs ++ ys) total
   passed-append total q = record {
     none = counted_fault-append mode before xs ys ∙ ap (λ o. or_then o (counted_fault mode (counted_after mode before xs) ys)) p.none ∙ q.none;
-    keeps = subst (IsCountOf total) (sym (counted_after-append mode before xs ys)) q.keeps;
+    is_count = subst (IsCountOf total) (sym (counted_after-append mode before xs ys)) q.is_count;
   }
 
   pub stopped-append : (tree_fault : keys.TreeFault) → counted_fault mode (counted_after mode before xs) ys ≡ Some tree_fault → counted_fault mode before (xs ++ ys) ≡ Some tree_fault
@@ -141,33 +140,33 @@ module _ (mode : CompileMode) (before : List Label) (xs : List Event) (mid : Key
 
 -- ---- after the counted part
 
-module _ (mode : CompileMode) (text : List ℕ) (front : CountedPart) (f : IsCountedPartOf mode text front) (levels : ℕ) (room : 0 < levels) (before : List Label) where
+module _ (mode : CompileMode) (text : List ℕ) (part : CountedPart) (f : IsCountedPartOf mode text part) (levels : ℕ) (room : 0 < levels) (before : List Label) where
   -- nothing of the text was counted
   pub opens_all : (items : List Item) (total : KeyUses) → items ≡ resolve mode text → IsCountOf total before → EntersText mode levels text items before total
-  opens_all items total is keeps = record { room = room; front = []; cut = sym is; passed = record { none = refl; keeps = keeps } }
+  opens_all items total is is_count = record { room = room; skipped = []; cut = sym is; passed = record { none = refl; is_count = is_count } }
 
   -- where the text is cut, by the item at which counting stopped
   abbrev split : Option code.Item → Type 0
-  split o = MatchOption o (resolve mode text ≡ f.items) (λ item. resolve mode text ≡ f.items ++ item_view item ∷ drop front.read (resolve mode text))
+  split o = MatchOption o (resolve mode text ≡ f.items) (λ item. resolve mode text ≡ f.items ++ item_view item ∷ drop part.read (resolve mode text))
 
   module _ (total : KeyUses) (passed : HaveCounted mode before (events_inside mode levels f.items) total) where
-    pub enters_after_counted : (item : code.Item) (items : List Item) → front.uncounted ≡ Some item → items ≡ item_view item ∷ drop front.read (resolve mode text) → EntersText mode levels text items before total
-    enters_after_counted item items part is =
-        record { room = room; front = f.items; cut = subst split part f.cut ∙ ap (λ left. f.items ++ left) (sym is); passed = passed }
+    pub enters_after_counted : (item : code.Item) (items : List Item) → part.uncounted ≡ Some item → items ≡ item_view item ∷ drop part.read (resolve mode text) → EntersText mode levels text items before total
+    enters_after_counted item items stops is =
+        record { room = room; skipped = f.items; cut = subst split stops f.cut ∙ ap (λ left. f.items ++ left) (sym is); passed = passed }
 
-    pub passes_whole : front.uncounted ≡ None → HaveCounted mode before (opened_events mode levels text) total
+    pub passes_whole : part.uncounted ≡ None → HaveCounted mode before (opened_events mode levels text) total
     passes_whole whole =
         let all : f.items ≡ resolve mode text = sym (subst split whole f.cut) in
         let same : events_inside mode levels f.items ++ Close ∷ [] ≡ opened_events mode levels text =
         ap (λ items. events_inside mode levels items ++ Close ∷ []) all ∙ inside_is levels room in
         subst (λ es. HaveCounted mode before es total) same
-        (passed-append mode before (events_inside mode levels f.items) total passed (Close ∷ []) total (record { none = refl; keeps = passed.keeps }))
+        (passed-append mode before (events_inside mode levels f.items) total passed (Close ∷ []) total (record { none = refl; is_count = passed.is_count }))
       where
         inside_is : (levels : ℕ) → 0 < levels → events_inside mode levels (resolve mode text) ++ Close ∷ [] ≡ opened_events mode levels text
         inside_is zero none = absurd (omega arith)
         inside_is (suc n) some = let same : suc n - 1 ≡ n = omega arith in ap (λ k. events (opened_events mode k) (resolve mode text) ++ Close ∷ []) same
 
--- ---- the whole walk
+-- ---- the whole search
 
 -- no event that was read is a fault, and these are left
 pub record HasCountedUpTo (mode : CompileMode) (all left : List Event) (total : KeyUses) : Type 0 where
@@ -230,7 +229,7 @@ module _ (mode : CompileMode) (all : List Event) (total : KeyUses) where
   start_passed counts = record {
     read = [];
     cut = refl;
-    passed = record { none = refl; keeps = record { counts = counts; free = λ key count some. absurd (omega (arith, some)) } };
+    passed = record { none = refl; is_count = record { counts = counts; free = λ key count some. absurd (omega (arith, some)) } };
   }
 
   module _ (left : List Event) (h : HasCountedUpTo mode all left total) where
@@ -254,8 +253,9 @@ module _ (mode : CompileMode) (all : List Event) (total : KeyUses) where
     pub all_passed : left ≡ [] → counted_fault mode [] all ≡ None
     all_passed over = ap (counted_fault mode []) (h.cut ∙ ap (λ ls. h.read ++ ls) over ∙ append-nil h.read) ∙ h.passed.none
 
--- what the walk keeps, where these texts are open around the items that are left of the innermost one
-pub record IsWalking (mode : CompileMode) (all : List Event) (around : List (List Item)) (items : List Item) (total : KeyUses) : Type 0 where
+-- What is true during the search. In `around` are the items that remain of each open text, and in `items` those of the
+-- innermost one. `all` has the events of the whole tree.
+pub record IsSearching (mode : CompileMode) (all : List Event) (around : List (List Item)) (items : List Item) (total : KeyUses) : Type 0 where
   pub room : length around ≤ deepest
   pub sound : AreSound (resolve mode) (finite.get mode.grok.now) items
   pub all_sound : AreAllSound mode around
@@ -267,41 +267,41 @@ some_event inner (FaultItem fault) = omega arith
 some_event inner (PlaceholderItem label meaning) = omega arith
 
 module _ (mode : CompileMode) (all : List Event) where
-  pub walk_starts : (text : List ℕ) (around : List (List Item)) (items : List Item) (total : KeyUses) → around ≡ [] → items ≡ resolve mode text → all ≡ left_of mode [] (resolve mode text) → CountsUses total (λ key. 0) → IsWalking mode all around items total
-  walk_starts text around items total none is whole counts = record {
+  pub search_starts : (text : List ℕ) (around : List (List Item)) (items : List Item) (total : KeyUses) → around ≡ [] → items ≡ resolve mode text → all ≡ left_of mode [] (resolve mode text) → CountsUses total (λ key. 0) → IsSearching mode all around items total
+  search_starts text around items total none is whole counts = record {
     room = let e : length around ≡ 0 = ap length none in omega arith;
     sound = subst (AreSound (resolve mode) (finite.get mode.grok.now)) (sym is) ((sound_texts (finite.get mode.grok.now)).sound text);
     all_sound = subst (AreAllSound mode) (sym none) tt;
     passed = subst (λ left. HasCountedUpTo mode all left total) (whole ∙ ap (λ items. left_of mode [] items) (sym is) ∙ ap (λ around. left_of mode around items) (sym none)) (start_passed mode all total counts);
   }
 
-  module _ (around : List (List Item)) (items : List Item) (total : KeyUses) (w : IsWalking mode all around items total) where
-    abbrev pub walked : List Label
-    walked = so_far mode all total (left_of mode around items) w.passed
+  module _ (around : List (List Item)) (items : List Item) (total : KeyUses) (w : IsSearching mode all around items total) where
+    abbrev pub counted_so_far : List Label
+    counted_so_far = so_far mode all total (left_of mode around items) w.passed
 
-    pub walked_keeps : IsCountOf total walked
-    walked_keeps = w.passed.passed.keeps
+    pub so_far_is_counted : IsCountOf total counted_so_far
+    so_far_is_counted = w.passed.passed.is_count
 
-    pub walk_ends : items ≡ [] → around ≡ [] → counted_fault mode [] all ≡ None
-    walk_ends over none = all_passed mode all total (left_of mode around items) w.passed (ap (λ items. left_of mode around items) over ∙ ap (λ around. left_of mode around []) none)
+    pub search_ends : items ≡ [] → around ≡ [] → counted_fault mode [] all ≡ None
+    search_ends over none = all_passed mode all total (left_of mode around items) w.passed (ap (λ items. left_of mode around items) over ∙ ap (λ around. left_of mode around []) none)
 
     module _ (outer : List Item) (outside : List (List Item)) (over : items ≡ []) (is : around ≡ outside ++ outer ∷ []) where
-      closes : left_of mode around items ≡ Close ∷ left_of mode outside outer
-      closes = ap (λ items. left_of mode around items) over ∙ ap (λ around. left_of mode around []) is ∙ left_close (resolve mode) deepest outside outer
+      close_then_outer : left_of mode around items ≡ Close ∷ left_of mode outside outer
+      close_then_outer = ap (λ items. left_of mode around items) over ∙ ap (λ around. left_of mode around []) is ∙ left_close (resolve mode) deepest outside outer
 
-      pub walk_closes : IsWalking mode all outside outer total
-      walk_closes =
+      pub search_closes : IsSearching mode all outside outer total
+      search_closes =
           let sound = all_sound-pop mode outside outer (subst (AreAllSound mode) is w.all_sound) in
           let long : length around ≡ length outside + 1 = ap length is ∙ length-append outside (outer ∷ []) in
           record {
             room = omega (arith, w.room);
             sound = sound.0;
             all_sound = sound.1;
-            passed = more_passed mode all total (left_of mode around items) w.passed (Close ∷ []) (left_of mode outside outer) closes total (record { none = refl; keeps = walked_keeps });
+            passed = more_passed mode all total (left_of mode around items) w.passed (Close ∷ []) (left_of mode outside outer) close_then_outer total (record { none = refl; is_count = so_far_is_counted });
           }
 
       pub close_smaller : length (left_of mode outside outer) < length (left_of mode around items)
-      close_smaller = omega (arith, ap length closes)
+      close_smaller = omega (arith, ap length close_then_outer)
 
     module _ (item : Item) (rest : List Item) (cut : items ≡ item ∷ rest) where
       pub item_sound : IsSoundItem mode item
@@ -310,61 +310,61 @@ module _ (mode : CompileMode) (all : List Event) where
       rest_sound : AreSound (resolve mode) (finite.get mode.grok.now) rest
       rest_sound = sound_rest (resolve mode) (finite.get mode.grok.now) item rest (subst (AreSound (resolve mode) (finite.get mode.grok.now)) cut w.sound)
 
-      -- what reading the item does to the walk
-      pub walk_steps : (levels : ℕ) → levels ≡ deepest - length around → (later : KeyUses) (step : ItemStep) → (IsSoundItem mode item → (before : List Label) → IsCountOf total before → StepsAtItem mode levels item before later step)
-          → StepsAtItem mode (deepest - length around) item walked later step
-      walk_steps levels same later step enters = subst (λ n. StepsAtItem mode n item walked later step) same (enters item_sound walked walked_keeps)
+      -- the step at the item, after all placeholders that were counted so far
+      pub search_steps : (levels : ℕ) → levels ≡ deepest - length around → (later : KeyUses) (step : ItemStep) → (IsSoundItem mode item → (before : List Label) → IsCountOf total before → StepsAtItem mode levels item before later step)
+          → StepsAtItem mode (deepest - length around) item counted_so_far later step
+      search_steps levels same later step steps = subst (λ n. StepsAtItem mode n item counted_so_far later step) same (steps item_sound counted_so_far so_far_is_counted)
 
       abbrev pub its_events : List Event
       its_events = events (opened_events mode (deepest - length around)) (item ∷ [])
 
-      goes : left_of mode around items ≡ its_events ++ left_of mode around rest
-      goes = ap (λ items. left_of mode around items) cut ∙ left_item (resolve mode) deepest around item rest
+      item_then_rest : left_of mode around items ≡ its_events ++ left_of mode around rest
+      item_then_rest = ap (λ items. left_of mode around items) cut ∙ left_item (resolve mode) deepest around item rest
 
-      pub walk_passes : (later : KeyUses) → HaveCounted mode walked its_events later → IsWalking mode all around rest later
-      walk_passes later passed = record {
+      pub search_passes : (later : KeyUses) → HaveCounted mode counted_so_far its_events later → IsSearching mode all around rest later
+      search_passes later passed = record {
         room = w.room;
         sound = rest_sound;
         all_sound = w.all_sound;
-        passed = more_passed mode all total (left_of mode around items) w.passed its_events (left_of mode around rest) goes later passed;
+        passed = more_passed mode all total (left_of mode around items) w.passed its_events (left_of mode around rest) item_then_rest later passed;
       }
 
       pub pass_smaller : length (left_of mode around rest) < length (left_of mode around items)
-      pass_smaller = omega (arith, ap length goes, length-append its_events (left_of mode around rest), some_event (opened_events mode (deepest - length around)) item)
+      pass_smaller = omega (arith, ap length item_then_rest, length-append its_events (left_of mode around rest), some_event (opened_events mode (deepest - length around)) item)
 
-      pub walk_finds : (tree_fault : TreeFault) → counted_fault mode walked its_events ≡ Some (tree_fault_view tree_fault) → counted_fault mode [] all ≡ Some (tree_fault_view tree_fault)
-      walk_finds tree_fault stops = fault_found mode all total (left_of mode around items) w.passed its_events (left_of mode around rest) goes (tree_fault_view tree_fault) stops
+      pub search_finds : (tree_fault : TreeFault) → counted_fault mode counted_so_far its_events ≡ Some (tree_fault_view tree_fault) → counted_fault mode [] all ≡ Some (tree_fault_view tree_fault)
+      search_finds tree_fault stops = fault_found mode all total (left_of mode around items) w.passed its_events (left_of mode around rest) item_then_rest (tree_fault_view tree_fault) stops
 
-      module _ (inner : List Item) (later : KeyUses) (e : EntersPlaceholder mode (deepest - length around) item inner walked later) (deeper : List (List Item)) (is : deeper ≡ around ++ rest ∷ []) where
-        abbrev its_front : List Event
-        its_front = Open e.label e.meaning ∷ events_inside mode (deepest - length around) e.front
+      module _ (inner : List Item) (later : KeyUses) (e : EntersPlaceholder mode (deepest - length around) item inner counted_so_far later) (deeper : List (List Item)) (is : deeper ≡ around ++ rest ∷ []) where
+        abbrev its_skipped : List Event
+        its_skipped = Open e.label e.meaning ∷ events_inside mode (deepest - length around) e.skipped
 
-        enters : left_of mode around items ≡ its_front ++ left_of mode deeper inner
-        enters =
+        skipped_then_inner : left_of mode around items ≡ its_skipped ++ left_of mode deeper inner
+        skipped_then_inner =
             let long : length (around ++ rest ∷ []) ≡ length around + 1 = length-append around (rest ∷ []) in
             let same : deepest - length (around ++ rest ∷ []) ≡ deepest - length around - 1 = omega (arith, long) in
             ap (λ items. left_of mode around items) (cut ∙ ap (λ i. i ∷ rest) e.is)
             ∙ left_step (resolve mode) deepest around (PlaceholderItem e.label e.meaning ∷ rest) rest (Some e.meaning) (Open e.label e.meaning) (λ n. refl)
             ∙ ap (λ es. Open e.label e.meaning ∷ es) (left_open (resolve mode) deepest around rest e.meaning (omega (arith, e.room))
             ∙ ap (λ items. left_of mode (around ++ rest ∷ []) items) e.cut
-            ∙ left_items (resolve mode) deepest (around ++ rest ∷ []) e.front inner
-            ∙ ap (λ n. events (opened_events mode n) e.front ++ left_of mode (around ++ rest ∷ []) inner) same
-            ∙ ap (λ around'. events_inside mode (deepest - length around) e.front ++ left_of mode around' inner) (sym is))
+            ∙ left_items (resolve mode) deepest (around ++ rest ∷ []) e.skipped inner
+            ∙ ap (λ n. events (opened_events mode n) e.skipped ++ left_of mode (around ++ rest ∷ []) inner) same
+            ∙ ap (λ around'. events_inside mode (deepest - length around) e.skipped ++ left_of mode around' inner) (sym is))
 
-        pub walk_enters : IsWalking mode all deeper inner later
-        walk_enters =
+        pub search_enters : IsSearching mode all deeper inner later
+        search_enters =
             let long : length deeper ≡ length around + 1 = ap length is ∙ length-append around (rest ∷ []) in
             record {
               room = omega (arith, e.room);
-              sound = sound_after_front mode e.front inner (subst (AreSound (resolve mode) (finite.get mode.grok.now)) e.cut ((sound_texts (finite.get mode.grok.now)).sound (meaning_text e.meaning)));
+              sound = sound_after_front mode e.skipped inner (subst (AreSound (resolve mode) (finite.get mode.grok.now)) e.cut ((sound_texts (finite.get mode.grok.now)).sound (meaning_text e.meaning)));
               all_sound = subst (AreAllSound mode) (sym is) (all_sound-push mode around rest w.all_sound rest_sound);
-              passed = more_passed mode all total (left_of mode around items) w.passed its_front (left_of mode deeper inner) enters later e.passed;
+              passed = more_passed mode all total (left_of mode around items) w.passed its_skipped (left_of mode deeper inner) skipped_then_inner later e.passed;
             }
 
         pub enter_smaller : length (left_of mode deeper inner) < length (left_of mode around items)
-        enter_smaller = omega (arith, ap length enters, length-append its_front (left_of mode deeper inner))
+        enter_smaller = omega (arith, ap length skipped_then_inner, length-append its_skipped (left_of mode deeper inner))
 
--- what the walk finds is the first fault of the whole tree, if all bases of numbered aliases are known
+-- what the search finds is the first fault of the whole tree, if all bases of numbered aliases are known
 pub is_first_fault : (mode : CompileMode) (pattern : List ℕ)
     → ((base : List ℕ) → is_base_in mode.numbered.now base ≡ opens_numbered_from base (reached (tree (finite.get mode.grok.now) pattern)))
     → counted_fault mode [] (left_of mode [] (resolve mode pattern)) ≡ first_fault mode.with_alias_only (tree (finite.get mode.grok.now) pattern)

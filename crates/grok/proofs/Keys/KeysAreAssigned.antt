@@ -10,34 +10,34 @@ use Rattle.grok.specs.Tree.{is_absent, Label, Event}
 use Rattle.grok.specs.Keys.{base_key, numbered, how_often, key_after, capturing}
 use Rattle.grok.specs.CapturedSoFar.{onto, in_order, extract_before, after}
 use Rattle.grok.specs.declared.expand.key_assigner.KeyAssigner.{KeyAssigner}
-use Rattle.grok.specs.Walks.{HasAssigned, CanAssign, HasKeys}
+use Rattle.grok.specs.AssignedKeys.{HasAssigned, CanAssign, HasKeys}
 use Rattle.grok.proofs.Keys.KeysAreDistinct.{how_often_more}
 use Rattle.grok.proofs.Keys.FirstFaultAndLastExtract.{in_order_onto, extract_onto}
 
 -- ---- one more capturing placeholder
 
 module _ (before : List Label) (label : Label) (old : KeyAssigner) (shows : HasAssigned old before) where
-  pub key_named : (want name : List ℕ) (count : ℕ) → want ≡ base_key label → count ≡ unwrap_or (get_by_text old.uses want) 0 → name ≡ numbered want count → name ≡ key_after before label
-  key_named want name count wants counted named =
-      let often : count ≡ how_often before want = counted ∙ shows.uses want in
-      named ∙ ap (numbered want) often ∙ ap (λ w. numbered w (how_often before w)) wants
+  pub key_named : (base name : List ℕ) (count : ℕ) → base ≡ base_key label → count ≡ unwrap_or (get_by_text old.uses base) 0 → name ≡ numbered base count → name ≡ key_after before label
+  key_named base name count asks counted named =
+      let often : count ≡ how_often before base = counted ∙ shows.uses base in
+      named ∙ ap (numbered base) often ∙ ap (λ w. numbered w (how_often before w)) asks
 
-  pub recorded_now : (new : KeyAssigner) (want name : List ℕ) → want ≡ base_key label → name ≡ key_after before label
-      → ((key : List ℕ) → unwrap_or (get_by_text new.uses key) 0 ≡ cond (bytes_eq want key) 1 0 + unwrap_or (get_by_text old.uses key) 0)
+  pub assigned_now : (new : KeyAssigner) (base name : List ℕ) → base ≡ base_key label → name ≡ key_after before label
+      → ((key : List ℕ) → unwrap_or (get_by_text new.uses key) 0 ≡ cond (bytes_eq base key) 1 0 + unwrap_or (get_by_text old.uses key) 0)
       → map string_bytes new.keys.items ≡ map string_bytes old.keys.items ++ name ∷ []
       → ((key : List ℕ) → option_map string_bytes (get_by_text new.extracts key) ≡ cond (bytes_eq name key && not (is_absent label.extract)) (Some label.extract) (option_map string_bytes (get_by_text old.extracts key)))
       → HasAssigned new (label ∷ before)
-  recorded_now new want name wants is counts keys extracts = record {
-    uses = λ key. counts key ∙ ap (λ n. cond {A = ℕ} (bytes_eq want key) 1 0 + n) (shows.uses key) ∙ ap (λ w. cond {A = ℕ} (bytes_eq w key) 1 0 + how_often before key) wants ∙ sym (how_often_more label before key);
+  assigned_now new base name asks is counts keys extracts = record {
+    uses = λ key. counts key ∙ ap (λ n. cond {A = ℕ} (bytes_eq base key) 1 0 + n) (shows.uses key) ∙ ap (λ w. cond {A = ℕ} (bytes_eq w key) 1 0 + how_often before key) asks ∙ sym (how_often_more label before key);
     keys = keys ∙ ap (λ ks. ks ++ name ∷ []) shows.keys ∙ ap (λ k. in_order before ++ k ∷ []) is;
     extracts = λ key. extracts key ∙ ap (λ o. cond (bytes_eq name key && not (is_absent label.extract)) (Some label.extract) o) (shows.extracts key)
         ∙ ap (λ k. cond (bytes_eq k key && not (is_absent label.extract)) (Some label.extract) (extract_before before key)) is;
   }
 
 -- the uses of a base key are no more than the placeholders
-pub can_count : (assigner : KeyAssigner) (want : List ℕ) (count : ℕ) → CanAssign assigner 1 → count ≡ unwrap_or (get_by_text assigner.uses want) 0 → count + 1 < 2 ^ 64
-can_count assigner want count can counted =
-    omega (arith, counted, can.shows.uses want, can.fits, count_by-le-length (λ earlier. bytes_eq (base_key earlier) want) can.before)
+pub can_count : (assigner : KeyAssigner) (base : List ℕ) (count : ℕ) → CanAssign assigner 1 → count ≡ unwrap_or (get_by_text assigner.uses base) 0 → count + 1 < 2 ^ 64
+can_count assigner base count can counted =
+    omega (arith, counted, can.shows.uses base, can.fits, count_by-le-length (λ earlier. bytes_eq (base_key earlier) base) can.before)
 
 -- ---- a whole tree
 

@@ -113,9 +113,9 @@ name_ends (c ∷ cs) h = elim (cases_eq c 91) [
   | inr ne ↦ rw (ne_eqb c 91 ne) (name_ends cs h.1)
 ]
 
-wants_plainly : (alias name : List ℕ) → AllPass is_name_byte name → ends_in_number alias ≡ false → ends_in_number (cond (is_absent alias) name alias) ≡ false
-wants_plainly [] name named plain = name_ends name named
-wants_plainly (c ∷ cs) name named plain = plain
+plain_base_key : (alias name : List ℕ) → AllPass is_name_byte name → ends_in_number alias ≡ false → ends_in_number (cond (is_absent alias) name alias) ≡ false
+plain_base_key [] name named plain = name_ends name named
+plain_base_key (c ∷ cs) name named plain = plain
 
 -- each placeholder has a name of these characters
 abbrev pub AreNamed : List Event → Type 0
@@ -140,10 +140,10 @@ no_clash alias_only before (FaultEvent fault ∷ es) plain named quiet = refl
 no_clash alias_only before (Open label meaning ∷ es) plain named quiet =
     let split : (b : Bool) → cond b true (has_numbered_alias (reached es)) ≡ false → (b ≡ false) × (has_numbered_alias (reached es) ≡ false) = λ b. elim b as (λ v. cond v true (has_numbered_alias (reached es)) ≡ false → (v ≡ false) × (has_numbered_alias (reached es) ≡ false)) [ true ↦ λ h. cc | false ↦ λ h. (refl, h) ] in
     let parts = split (ends_in_number label.alias) quiet in
-    let wants : ends_in_number (base_key label) ≡ false = wants_plainly label.alias label.name named.0 parts.0 in
+    let base_is_plain : ends_in_number (base_key label) ≡ false = plain_base_key label.alias label.name named.0 parts.0 in
     let free : is_among (key_after before label) (taken_of before) ≡ false =
-    not_taken before (base_key label) (how_often before (base_key label)) plain wants (omega arith) in
-    let one = no_clash alias_only (label ∷ before) es (wants, plain) named.1 parts.1 in
+    not_taken before (base_key label) (how_often before (base_key label)) plain base_is_plain (omega arith) in
+    let one = no_clash alias_only (label ∷ before) es (base_is_plain, plain) named.1 parts.1 in
     let none = no_clash alias_only before es plain named.1 parts.1 in
     elim (is_capturing alias_only label) as (λ b. cond b (cond (is_among (key_after before label) (taken_of before)) (Some (Clash (key_after before label))) (first_fault_after alias_only (label ∷ before) (key_after before label ∷ taken_of before) es)) (first_fault_after alias_only before (taken_of before) es) ≡ option_map Structural (first_structural es)) [
       | true ↦ rw free one

@@ -63,8 +63,8 @@ module _ (key base : List ℕ) (count : ℕ) (is : key ≡ numbered base (suc co
 
 -- what it is read back as
 pub is_numbered : (key inside front digits : List ℕ) (number : ℕ) → key ≡ inside ++ 93 ∷ [] → inside ≡ front ++ 91 ∷ digits → digits ≡ numeral number → 0 < number → key ≡ numbered front number
-is_numbered key inside front digits zero ends cut said some = absurd (omega arith)
-is_numbered key inside front digits (suc count) ends cut said some = ends ∙ ap (λ xs. xs ++ 93 ∷ []) (cut ∙ ap (λ ds. front ++ 91 ∷ ds) said) ∙ sym (closed front count)
+is_numbered key inside front digits zero ends cut is_numeral some = absurd (omega arith)
+is_numbered key inside front digits (suc count) ends cut is_numeral some = ends ∙ ap (λ xs. xs ++ 93 ∷ []) (cut ∙ ap (λ ds. front ++ 91 ∷ ds) is_numeral) ∙ sym (closed front count)
 
 -- ---- its base key
 

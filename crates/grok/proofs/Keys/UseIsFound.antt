@@ -9,11 +9,11 @@ use Rattle.std.specs.Iterator.{YieldsFirstBy}
 use Rattle.grok.specs.Pieces.{Piece, pieces}
 use Rattle.grok.specs.Views.{piece_view}
 use Rattle.grok.specs.Tree.{Definitions, Stored, Item, PlaceholderItem, Event, Open, Close, events, deepest}
-use Rattle.grok.specs.Tallied.{resolve, opened_events, IsSoundItem}
-use Rattle.grok.specs.FaultPlaces.{StandsAt, end_of, path_view}
+use Rattle.grok.specs.CountedDefinitions.{resolve, opened_events, IsSoundItem}
+use Rattle.grok.specs.FaultLocations.{StandsAt, end_of, path_view}
 use Rattle.grok.specs.ByteLocations.{IsEventAt, Opening, Here, Inside}
 use Rattle.grok.specs.UseSteps.{HasPassedEvents, IsSoughtUse, LeadsInside, IsUseAt, HasBegun}
-use Rattle.grok.specs.declared.expand.tallies.CompileMode.{CompileMode}
+use Rattle.grok.specs.declared.expand.counted_definitions.CompileMode.{CompileMode}
 use Rattle.grok.specs.declared.parser.GrokComponent.{GrokComponent}
 use Rattle.grok.specs.declared.locate_clash.SearchedText.{SearchedText}
 use Rattle.grok.specs.declared.locate_clash.SoughtKeys.{SoughtKeys}

@@ -214,11 +214,11 @@ module _ (before more : KeyUses) (uses others : List ℕ → ℕ) (shows : Count
       → (later.times ≡ others key + uses key) × ((times : ℕ) → times < 2 ^ 64 → (times ≤ later.most) ↔ MayBeUsed (together others uses) key times)
   summed_count key None found later is =
       let none : count_of more.counts key ≡ no_count = ap (λ o. unwrap_or o no_count) found in
-      let unwanted : 0 ≡ others key = sym (ap (λ (n : UseCount). n.times) none) ∙ shows_more.times key in
+      let unused : 0 ≡ others key = sym (ap (λ (n : UseCount). n.times) none) ∙ shows_more.times key in
       let own : later.times ≡ (count_of before.counts key).times = ap (λ (n : UseCount). n.times) is in
       let most : later.most ≡ (count_of before.counts key).most = ap (λ (n : UseCount). n.most) is in
       let greatest : (count_of more.counts key).most ≡ 2 ^ 64 - 1 = ap (λ (n : UseCount). n.most) none in (
-        omega (arith, unwanted, own, shows.times key),
+        omega (arith, unused, own, shows.times key),
         λ times low.
             let both = both_bound others uses key times in
             let any = (shows_more.most key times low).0 (omega (arith, low, greatest)) in
@@ -300,9 +300,9 @@ module _ (before more : KeyUses) (uses others : List ℕ → ℕ) (shows : Count
   free_key : AreFree (together others uses) more.counts.entries → (key : List ℕ) (o : Option UseCount) → count_in key more.counts.entries ≡ o → MayBeUsed (together others uses) key (others key + uses key)
   free_key all key None found =
       let none : count_of more.counts key ≡ no_count = ap (λ o. unwrap_or o no_count) found in
-      let unwanted : 0 ≡ others key = sym (ap (λ (n : UseCount). n.times) none) ∙ shows_more.times key in
+      let unused : 0 ≡ others key = sym (ap (λ (n : UseCount). n.times) none) ∙ shows_more.times key in
       let greatest : (count_of more.counts key).most ≡ 2 ^ 64 - 1 = ap (λ (n : UseCount). n.most) none in
-      let own : uses key ≡ others key + uses key = omega (arith, unwanted) in
+      let own : uses key ≡ others key + uses key = omega (arith, unused) in
       let low = shows.fits key in
       let may : MayBeUsed others key (uses key) = (shows_more.most key (uses key) low).0 (omega (arith, low, greatest)) in
       subst (MayBeUsed (together others uses) key) own ((both_bound others uses key (uses key)).1 (may, free key))

@@ -2,10 +2,10 @@
 use Rattle.std.proofs.Common.{◌≡◌, ℕ, zero, suc, ◌+◌, ◌<◌, Bool, true, false, ◌||◌, List, [], ◌∷◌, ◌++◌, refl, sym, ◌∙◌, ap, subst, arith, append-nil}
 use Rattle.grok.specs.Tree.{Label, Meaning, meaning_text, Item, PlaceholderItem, Event, Open, events}
 use Rattle.grok.specs.Keys.{how_often}
-use Rattle.grok.specs.Tallied.{opened_events, counted, IsTallyOf}
+use Rattle.grok.specs.CountedDefinitions.{opened_events, counted, IsCountOfText}
 use Rattle.grok.specs.UseSteps.{is_some_use, HasPassed, HasPassedEvents, StepsAtUse, StepsAtMeaning}
-use Rattle.grok.specs.declared.expand.tallies.CompileMode.{CompileMode}
-use Rattle.grok.specs.declared.expand.tallies.KeyTally.{KeyTally}
+use Rattle.grok.specs.declared.expand.counted_definitions.CompileMode.{CompileMode}
+use Rattle.grok.specs.declared.expand.counted_definitions.CountedItems.{CountedItems}
 use Rattle.grok.specs.declared.locate_clash.SoughtKeys.{SoughtKeys}
 use Rattle.grok.specs.declared.locate_clash.UsesSoFar.{UsesSoFar}
 use Rattle.grok.specs.declared.locate_clash.UseStep.{UseStep}
@@ -61,9 +61,9 @@ module _ (mode : CompileMode) (keys : SoughtKeys) where
       (passed_events (Open label meaning ∷ []) (opened_events mode levels (meaning_text meaning)) old mid new h g)
 
   -- a counted definition
-  pub passed_tallied : (levels : ℕ) (text : List ℕ) (tally : KeyTally) (uses others : ℕ) (old new : UsesSoFar) → (t : IsTallyOf mode text tally) → tally.height < levels
+  pub passed_counted : (levels : ℕ) (text : List ℕ) (count : CountedItems) (uses others : ℕ) (old new : UsesSoFar) → (t : IsCountOfText mode text count) → count.height < levels
       → uses ≡ t.uses base → others ≡ t.uses other → HasPassed uses others old new → HasPassedEvents mode keys (opened_events mode levels text) old new
-  passed_tallied levels text tally uses others old new t high one two =
+  passed_counted levels text count uses others old new t high one two =
       passed_same uses others (how_often (counted mode (opened_events mode levels text)) base) (how_often (counted mode (opened_events mode levels text)) other) old new
       (one ∙ sym (t.often levels high base)) (two ∙ sym (t.often levels high other))
 

@@ -106,16 +106,16 @@ last_shallow levels (Ok done, st) size e deep is = cc
 last_shallow levels (Err fault, st) size e deep is = cc
 
 -- a counter of pieces and ends, and what it counts for items that are read to their end
-pub record IsCounter (tally : ℕ → ℕ → ℕ) (own : List Item → ℕ) : Type 0 where
-  pub piece : (looks ends : ℕ) (item : Item) (items : List Item) → tally (looks + 1) ends + own items ≡ tally looks ends + own (item ∷ items)
-  pub end : (looks ends : ℕ) → tally looks (ends + 1) ≡ tally looks ends + own []
+pub record IsCounter (number : ℕ → ℕ → ℕ) (own : List Item → ℕ) : Type 0 where
+  pub piece : (looks ends : ℕ) (item : Item) (items : List Item) → number (looks + 1) ends + own items ≡ number looks ends + own (item ∷ items)
+  pub end : (looks ends : ℕ) → number looks (ends + 1) ≡ number looks ends + own []
 
-module _ (alias_only : Bool) (resolve : List ℕ → List Item) (definitions : Definitions) (entries : List (List ℕ × List ℕ)) (table : IsTable definitions entries) (tally : ℕ → ℕ → ℕ) (own : List Item → ℕ) (counter : IsCounter tally own) where
+module _ (alias_only : Bool) (resolve : List ℕ → List Item) (definitions : Definitions) (entries : List (List ℕ × List ℕ)) (table : IsTable definitions entries) (number : ℕ → ℕ → ℕ) (own : List Item → ℕ) (counter : IsCounter number own) where
   abbrev weight : List ℕ → ℕ
   weight text = own (resolve text)
 
   abbrev count : State → ℕ
-  count st = tally st.looks st.ends
+  count st = number st.looks st.ends
 
   -- the total weight of the definitions that were used
   abbrev cache : State → ℕ
@@ -195,7 +195,7 @@ module _ (alias_only : Bool) (resolve : List ℕ → List Item) (definitions : D
   -- THE COUNT for a pattern: its own weight and that of each definition that is used, or less after a fault
   pub record CountsUses (pattern : List ℕ) (answer : Reading) : Type 0 where
     pub left : ℕ
-    pub adds : count answer.1 + left ≡ tally 0 0 + weight pattern + cache answer.1
+    pub adds : count answer.1 + left ≡ number 0 0 + weight pattern + cache answer.1
     pub all : (size : Size) → answer.0 ≡ Ok size → left ≡ 0
 
   pub measure_counts : IsSound resolve definitions → (levels : ℕ) (pattern : List ℕ) → CountsUses pattern (measure_within levels alias_only resolve pattern)

@@ -86,15 +86,15 @@ digits_above k (suc n) low =
     none n = omega arith
 
 -- each number has at least one digit
-one_place : (n : ℕ) → 1 ≤ length (numeral n)
-one_place n = elim (cases_lt n 10) [
+one_digit_at_least : (n : ℕ) → 1 ≤ length (numeral n)
+one_digit_at_least n = elim (cases_lt n 10) [
   | inl small ↦ omega (arith, ap length (numeral_digit n small))
   | inr big ↦ omega (arith, ap length (numeral_step n big), length-append (numeral (n / 10)) ((48 + n % 10) ∷ []))
 ]
 
 pub digits_least : (first n : ℕ) → n ≤ digits_from first n
 digits_least first zero = omega arith
-digits_least first (suc n) = omega (arith, one_place first, digits_least (suc first) n)
+digits_least first (suc n) = omega (arith, one_digit_at_least first, digits_least (suc first) n)
 
 pub tens_fit : (k : ℕ) → k ≤ 19 → tens k ≤ 10 ^ 19
 tens_fit k low = up (19 - k) k (omega arith)

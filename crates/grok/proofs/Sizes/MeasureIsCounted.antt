@@ -56,26 +56,26 @@ module _ (texts : Texts) (alias_only : Bool) (pattern : List ℕ) where
     given = stops
 
     -- what the calls report is what was counted at the end
-    tallies : HasSameCounters answer.1 given.now
-    tallies = stopped_counters deepest r frames cache answer given
+    counters : HasSameCounters answer.1 given.now
+    counters = stopped_counters deepest r frames cache answer given
 
     pub pieces_most : cache.looks.pieces ≤ counted (reached_pieces texts pattern)
-    pieces_most = omega (arith, given.shows.pieces, tallies.looks, theorem.looks, weight_same)
+    pieces_most = omega (arith, given.shows.pieces, counters.looks, theorem.looks, weight_same)
 
     pub ends_most : cache.looks.ends ≤ counted (reached_texts texts pattern)
-    ends_most = omega (arith, given.shows.ends, tallies.ends, theorem.ends)
+    ends_most = omega (arith, given.shows.ends, counters.ends, theorem.ends)
 
     pub pieces_all : first_structural whole ≡ None → cache.looks.pieces ≡ counted (reached_pieces texts pattern)
-    pieces_all clean = given.shows.pieces ∙ ap counted (sym tallies.looks ∙ theorem.looks_exact clean ∙ weight_same)
+    pieces_all clean = given.shows.pieces ∙ ap counted (sym counters.looks ∙ theorem.looks_exact clean ∙ weight_same)
 
     pub ends_all : first_structural whole ≡ None → cache.looks.ends ≡ counted (reached_texts texts pattern)
-    ends_all clean = given.shows.ends ∙ ap counted (sym tallies.ends ∙ theorem.ends_exact clean)
+    ends_all clean = given.shows.ends ∙ ap counted (sym counters.ends ∙ theorem.ends_exact clean)
 
     pub pieces_read : cache.looks.pieces ≡ counted (reading_of texts alias_only pattern).looks
-    pieces_read = given.shows.pieces ∙ ap counted (sym tallies.looks)
+    pieces_read = given.shows.pieces ∙ ap counted (sym counters.looks)
 
     pub ends_read : cache.looks.ends ≡ counted (reading_of texts alias_only pattern).ends
-    ends_read = given.shows.ends ∙ ap counted (sym tallies.ends)
+    ends_read = given.shows.ends ∙ ap counted (sym counters.ends)
 
     pub numbered_is : (base : List ℕ) → is_base_in cache.numbered base ≡ opens_numbered_from base (reached whole)
-    numbered_is base = given.shows.numbered base ∙ ap (λ (numbered : List ℕ → Bool). numbered base) (sym tallies.numbered) ∙ theorem.numbered base
+    numbered_is base = given.shows.numbered base ∙ ap (λ (numbered : List ℕ → Bool). numbered base) (sym counters.numbered) ∙ theorem.numbered base

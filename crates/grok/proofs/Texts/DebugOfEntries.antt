@@ -22,19 +22,19 @@ then_assoc (Some a) (Some b) (Some c) = ap Some (append_assoc a b c)
 
 module _ {W : Type 0} (took : W → List ℕ → W → Type 0) where
   -- g is f after the text in o was written; if o has no text, g may be anything
-  abbrev pub Shows : Formatter W → Option (List ℕ) → Formatter W → Type 0
-  Shows f o g = IfSome o (λ bs. HasWritten took f bs g)
+  abbrev pub HasShown : Formatter W → Option (List ℕ) → Formatter W → Type 0
+  HasShown f o g = IfSome o (λ bs. HasWritten took f bs g)
 
-  shows_then : (f g h : Formatter W) (o p : Option (List ℕ)) → Shows f o g → (IsPlainFormatter g → Shows g p h) → Shows f (o ++? p) h
+  shows_then : (f g h : Formatter W) (o p : Option (List ℕ)) → HasShown f o g → (IsPlainFormatter g → HasShown g p h) → HasShown f (o ++? p) h
   shows_then f g h None p x y = tt
   shows_then f g h (Some a) None x y = tt
   shows_then f g h (Some a) (Some b) x y = put_two took f g h a b (a ++ b) x (y x.plain) refl
 
-  shows_from : (f g : Formatter W) (r : Result (Unit {0}) Error) (o : Option (List ℕ)) → DisplaysOnOk took f r o g → IsPlainFormatter f → IsOk r → Shows f o g
+  shows_from : (f g : Formatter W) (r : Result (Unit {0}) Error) (o : Option (List ℕ)) → DisplaysOnOk took f r o g → IsPlainFormatter f → IsOk r → HasShown f o g
   shows_from f g r None x plain ok = tt
   shows_from f g r (Some a) x plain ok = x plain ok
 
-  displays_from : (f g : Formatter W) (r : Result (Unit {0}) Error) (o : Option (List ℕ)) → (IsPlainFormatter f → IsOk r → Shows f o g) → DisplaysOnOk took f r o g
+  displays_from : (f g : Formatter W) (r : Result (Unit {0}) Error) (o : Option (List ℕ)) → (IsPlainFormatter f → IsOk r → HasShown f o g) → DisplaysOnOk took f r o g
   displays_from f g r None k = tt
   displays_from f g r (Some a) k = k
 
@@ -46,13 +46,13 @@ module _ {W : Type 0} (took : W → List ℕ → W → Type 0) where
 
   -- the same text in other words
   pub displays_same : (f g : Formatter W) (r : Result (Unit {0}) Error) (o p : Option (List ℕ)) → DisplaysOnOk took f r o g → (IsOk r → o ≡ p) → DisplaysOnOk took f r p g
-  displays_same f g r o p x same = displays_from f g r p (λ plain ok. subst (λ (q : Option (List ℕ)). Shows f q g) (same ok) (shows_from f g r o x plain ok))
+  displays_same f g r o p x same = displays_from f g r p (λ plain ok. subst (λ (q : Option (List ℕ)). HasShown f q g) (same ok) (shows_from f g r o x plain ok))
 
   module _ {X : Type 0} (text : X → Option (List ℕ)) where
     -- what was written and what is still to be written are together the output after the first brace
     pub record IsWriting (start : Formatter W) (whole : List X) (f : Formatter W) (lead : List ℕ) (left : List X) : Type 0 where
       pub done : Option (List ℕ)
-      pub shows : Shows start done f
+      pub shows : HasShown start done f
       pub makes : done ++? debug_items text lead left ≡ Some (codes "{") ++? debug_items text [] whole
 
     pub begins : (start f : Formatter W) (whole : List X) → HasWritten took start (codes "{") f → IsWriting start whole f [] whole
@@ -74,11 +74,11 @@ module _ {W : Type 0} (took : W → List ℕ → W → Type 0) where
         let last : so_far.done ++? Some (codes "}") ≡ debug_braces text whole =
         sym (then_assoc so_far.done (Some []) (Some (codes "}"))) ∙ ap (λ o. o ++? Some (codes "}")) so_far.makes
         ∙ then_assoc (Some (codes "{")) (debug_items text [] whole) (Some (codes "}")) in
-        subst (λ (o : Option (List ℕ)). Shows start o g) last (shows_then start f g so_far.done (Some (codes "}")) so_far.shows (λ still. wrote still ok)))
+        subst (λ (o : Option (List ℕ)). HasShown start o g) last (shows_then start f g so_far.done (Some (codes "}")) so_far.shows (λ still. wrote still ok)))
 
-pub told : (r : Result (Unit {0}) Error) (P : Type 0) → OnOk r P → IsOk r → P
-told (Ok x) P h ok = h
-told (Err e) P h ok = cc
+pub true_on_ok : (r : Result (Unit {0}) Error) (P : Type 0) → OnOk r P → IsOk r → P
+true_on_ok (Ok x) P h ok = h
+true_on_ok (Err e) P h ok = cc
 
 -- ---- maps
 

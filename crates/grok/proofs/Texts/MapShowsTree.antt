@@ -44,8 +44,8 @@ is_equal Equal e = refl
 is_equal Greater e = cc
 
 -- a name compares equal to two names only if these compare equal
-tied : (q k e : List ℕ) → bytes_cmp k e ≡ Greater → ¬ ((is_eq (bytes_cmp q e) ≡ true) × (is_eq (bytes_cmp q k) ≡ true))
-tied q k e g h =
+not_equal_to_both : (q k e : List ℕ) → bytes_cmp k e ≡ Greater → ¬ ((is_eq (bytes_cmp q e) ≡ true) × (is_eq (bytes_cmp q k) ≡ true))
+not_equal_to_both q k e g h =
     let x : q ≡ e = same_bytes q e (is_equal _ h.0) in
     let y : q ≡ k = same_bytes q k (is_equal _ h.1) in
     let z : bytes_cmp k e ≡ Equal = ap (λ s. bytes_cmp k s) (sym x ∙ y) ∙ tied_itself nat_list_cmp_total k in
@@ -60,7 +60,7 @@ module _ {A : Type 0} (key : String A) (text : List ℕ) (q : List ℕ) where
       (r : Ordering) → bytes_cmp b (string_bytes e.0) ≡ r → finite.find bytes_cmp q (entry_texts (insert_entry string_cmp (e ∷ es) key text)) ≡ cond (is_eq (bytes_cmp q b)) (Some text) (finite.find bytes_cmp q (entry_texts (e ∷ es)))
   found_by e es h Less o = rw o refl
   found_by e es h Equal o = let same : b ≡ string_bytes e.0 = same_bytes _ _ o in rw o (rw same (twice (is_eq (bytes_cmp q (string_bytes e.0))) (Some text) (Some e.1) (finite.find bytes_cmp q (entry_texts es))))
-  found_by e es h Greater o = rw o (ap (cond (is_eq (bytes_cmp q (string_bytes e.0))) (Some e.1)) h ∙ apart (is_eq (bytes_cmp q (string_bytes e.0))) (is_eq (bytes_cmp q b)) (Some text) (Some e.1) (finite.find bytes_cmp q (entry_texts es)) (tied q b (string_bytes e.0) o))
+  found_by e es h Greater o = rw o (ap (cond (is_eq (bytes_cmp q (string_bytes e.0))) (Some e.1)) h ∙ apart (is_eq (bytes_cmp q (string_bytes e.0))) (is_eq (bytes_cmp q b)) (Some text) (Some e.1) (finite.find bytes_cmp q (entry_texts es)) (not_equal_to_both q b (string_bytes e.0) o))
 
   found_after : (entries : List (String A × List ℕ)) →
       finite.find bytes_cmp q (entry_texts (insert_entry string_cmp entries key text)) ≡ cond (is_eq (bytes_cmp q b)) (Some text) (finite.find bytes_cmp q (entry_texts entries))

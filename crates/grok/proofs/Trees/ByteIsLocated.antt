@@ -12,7 +12,7 @@ use Rattle.grok.specs.MeasureCache.{shown, shown_result, measure_view}
 use Rattle.grok.specs.Pieces.{Piece}
 use Rattle.grok.specs.Views.{piece_view}
 use Rattle.grok.specs.Measured.{Measured, Faulty, Sized, TooLong, size_within, fault_or, measured_tree}
-use Rattle.grok.specs.FaultPlaces.{StandsAt, end_of, fault_within}
+use Rattle.grok.specs.FaultLocations.{StandsAt, end_of, fault_within}
 use Rattle.grok.specs.ByteLocations.{IsOwnEvent, Regular, Opening, Closing, IsEventAt, Here, Inside, IsByteLocation}
 use Rattle.grok.specs.ByteSteps.{IsLater, IsSizedItem, IsSizeOfDefinition, IsWrittenByItem, IsWrittenInside}
 use Rattle.grok.specs.declared.measure.partial_size.PartialSize.{PartialSize}

@@ -14,7 +14,7 @@ use Rattle.grok.specs.KeyTable.{IsKeyTable}
 use Rattle.grok.specs.declared.engine.Refusal.{Refusal}
 use Rattle.grok.specs.declared.engine.Refusal.TheVariants as refusal
 use Rattle.grok.specs.declared.expand.key_assigner.KeyAssigner.{KeyAssigner}
-use Rattle.grok.specs.Walks.{HasKeys}
+use Rattle.grok.specs.AssignedKeys.{HasKeys}
 use Rattle.grok.specs.declared.errors.error.Error.{Error}
 use Rattle.grok.specs.declared.errors.error.Error.TheVariants as rust
 use Rattle.grok.specs.Errors.{ErrorValue, Memory, error_value}

@@ -19,7 +19,7 @@ use Rattle.grok.specs.declared.locate.Wrong.TheVariants as wrong
 use Rattle.grok.specs.declared.locate.FirstWrong.{FirstWrong}
 use Rattle.grok.specs.Items.{fault_view}
 use Rattle.grok.specs.Views.{piece_view}
-use Rattle.grok.specs.FaultPlaces.{fault_within, end_of, StandsAt, IsOwnFault, Broken, Deep, IsFaultAt, Here, Inside}
+use Rattle.grok.specs.FaultLocations.{fault_within, end_of, StandsAt, IsOwnFault, Broken, Deep, IsFaultAt, Here, Inside}
 use Rattle.grok.specs.FirstWrong.{fault_in, IsResolvedItem, IsFaultInside, IsWrong, IsFirstWrong}
 use Rattle.grok.proofs.Sizes.SizeIsThatOfTree.{first_structural-append, or_else, fits_inside}
 use Rattle.grok.proofs.Sizes.TextsWithoutPlaceholders.{flat_measured, AreSound}
@@ -93,30 +93,30 @@ sound_item stored (PlaceholderItem label (Inline text)) items h = λ levels. sym
 
 -- These pieces and items of the text remain, those before them have no fault, and the next piece begins at this
 -- byte.
-pub record IsPlacing (stored : Definitions) (levels : ℕ) (text : List ℕ) (left : List Piece) (items : List Item) (begin : ℕ) : Type 0 where
+pub record IsLocating (stored : Definitions) (levels : ℕ) (text : List ℕ) (left : List Piece) (items : List Item) (begin : ℕ) : Type 0 where
   pub reading : IsReading stored text left items begin
   pub clean : fault_within stored levels reading.before ≡ None
 
-pub placing_starts : (stored : Definitions) (levels : ℕ) (text : List ℕ) (left : List Piece) (items : List Item) → left ≡ pieces text → items ≡ items_of stored text → IsPlacing stored levels text left items 0
-placing_starts stored levels text left items left_is items_is = record {
+pub locating_starts : (stored : Definitions) (levels : ℕ) (text : List ℕ) (left : List Piece) (items : List Item) → left ≡ pieces text → items ≡ items_of stored text → IsLocating stored levels text left items 0
+locating_starts stored levels text left items left_is items_is = record {
   reading = reading_starts stored text left items left_is items_is;
   clean = ap (fault_within stored levels) (nothing_before stored text left items left_is items_is);
 }
 
-module _ (stored : Definitions) (levels : ℕ) (text : List ℕ) (left : List Piece) (items : List Item) (begin : ℕ) (p : IsPlacing stored levels text left items begin)
+module _ (stored : Definitions) (levels : ℕ) (text : List ℕ) (left : List Piece) (items : List Item) (begin : ℕ) (p : IsLocating stored levels text left items begin)
     (item : Item) (rest : List Item) (cut : items ≡ item ∷ rest) where
   pub next_resolved : IsResolvedItem stored item
   next_resolved = sound_item stored item rest (subst (AreSound (items_of stored) stored) cut p.reading.sound)
 
-  pub placing_goes : (found : Option GrokComponent) (later : List Piece) → YieldsFirstBy piece_view (λ ps. ps) left found later
+  pub locating_goes_on : (found : Option GrokComponent) (later : List Piece) → YieldsFirstBy piece_view (λ ps. ps) left found later
       → (end : ℕ) → ((known : Piece) → option_map piece_view found ≡ Some known → end ≡ end_of text known)
-      → fault_within stored levels (item ∷ []) ≡ None → IsPlacing stored levels text later rest end
-  placing_goes found later yields end ends one = record {
+      → fault_within stored levels (item ∷ []) ≡ None → IsLocating stored levels text later rest end
+  locating_goes_on found later yields end ends one = record {
     reading = reading_goes stored text left items begin p.reading item rest cut found later yields end ends;
     clean = ap (fault_within stored levels) (one_more_before stored text left items begin p.reading item rest cut found later yields end ends) ∙ clean_more stored levels p.reading.before item p.clean one;
   }
 
--- ---- the fault at a place
+-- ---- the fault at a location
 
 own_first : (stored : Definitions) (levels : ℕ) (item : Item) (fault : Fault) (after : List Item) → IsOwnFault levels item fault → fault_within stored levels (item ∷ after) ≡ Some fault
 own_first stored levels item fault after (Broken _ _) = refl
@@ -130,7 +130,7 @@ opened_first stored levels label definition fault after below =
     first_structural-append (front ++ Close ∷ []) back
     ∙ ap (λ o. or_else o (first_structural back)) (first_structural-append front (Close ∷ []) ∙ ap (λ o. or_else o None) below)
 
--- the fault at the place of a text's first fault is that first fault
+-- the fault at the location of a text's first fault is that first fault
 pub fault_at : (stored : Definitions) (levels : ℕ) (text : List ℕ) (path : List (List ℕ)) (faulty : List ℕ) (from to : ℕ) (fault : Fault) → IsFaultAt stored levels text path faulty from to fault
     → fault_within stored levels (items_of stored text) ≡ Some fault
 fault_at stored levels text path faulty from to fault (Here _ _ before _ _ item _ stands clean own) =
@@ -141,7 +141,7 @@ fault_at stored levels text path faulty from to fault (Inside n _ before begin e
 
 -- ---- the way down
 
--- this path leads from the pattern to the text, and each place of the text's first fault is one of the pattern's
+-- this path leads from the pattern to the text, and each location of the text's first fault is also one of the pattern's
 pub record IsWayDown (stored : Definitions) (pattern : List ℕ) (path : List (List ℕ)) (levels : ℕ) (text : List ℕ) : Type 0 where
   pub leads : (rest : List (List ℕ)) (faulty : List ℕ) (from to : ℕ) (fault : Fault) → IsFaultAt stored levels text rest faulty from to fault → IsFaultAt stored deepest pattern (path ++ rest) faulty from to fault
   pub clean : fault_within stored levels (items_of stored text) ≡ None → fault_within stored deepest (items_of stored pattern) ≡ None

@@ -5,7 +5,7 @@ use Rattle.std.specs.Iterator.{YieldsFirstBy}
 use Rattle.grok.specs.Pieces.{Piece, pieces}
 use Rattle.grok.specs.Tree.{Definitions, Item, items_of}
 use Rattle.grok.specs.Views.{piece_view}
-use Rattle.grok.specs.FaultPlaces.{end_of, end_of_all, StandsAt}
+use Rattle.grok.specs.FaultLocations.{end_of, end_of_all, StandsAt}
 use Rattle.grok.specs.declared.parser.GrokComponent.{GrokComponent}
 use Rattle.grok.proofs.Sizes.TextsWithoutPlaceholders.{AreSound, sound_rest}
 use Rattle.grok.proofs.Sizes.ItemsAreSound.{length-items_of, sound_texts}

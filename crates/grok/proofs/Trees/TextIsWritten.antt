@@ -11,7 +11,7 @@ use Rattle.grok.specs.Numeral.{numeral}
 use Rattle.grok.specs.GeneratedNames.{named_head, unnamed_head}
 use Rattle.grok.specs.Expanded.{text_after, expanded}
 use Rattle.grok.specs.CapturedSoFar.{after}
-use Rattle.grok.specs.Walks.{HasAssigned, CanAssign, HasKeys}
+use Rattle.grok.specs.AssignedKeys.{HasAssigned, CanAssign, HasKeys}
 use Rattle.grok.specs.Writes.{IsReady, Wrote}
 use Rattle.grok.specs.declared.expand.key_assigner.KeyAssigner.{KeyAssigner}
 use Rattle.grok.specs.declared.expand.write.Output.{Output}

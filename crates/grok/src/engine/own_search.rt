@@ -9,9 +9,9 @@ ghost use Rattle.regex_tagged.specs.Valid.{IsFor};
 ghost use Rattle.regex_vm.specs.Found.{group_cells};
 ghost use Rattle.grok.specs.Captures.{text_of, capture_texts, found_texts, IsSliceOf, AreSlicesOf, IsMatchIn};
 ghost use Rattle.grok.specs.RegexFinds.{IsReadByDefault, captures_by, text_at, texts_at};
-ghost use Rattle.grok.specs.OwnSearches.{IsTreeOf, AreMarksOf, span_of_cells};
+ghost use Rattle.grok.specs.OwnSearches.{IsTreeOf, AreMatchFactsOf, span_of_cells};
 
-use crate::engine::marks::{Marks, Needles};
+use crate::engine::match_facts::{MatchFacts, Needles};
 use regex::Regex;
 use regex_dfa::{End, Forward, Reverse, Start};
 use regex_meta::Program;
@@ -28,7 +28,7 @@ const LIMIT: usize = 10 << 20;
 pub(crate) struct OwnSearch {
     source: String,
     program: Program,
-    marks: Marks,
+    facts: MatchFacts,
     tagged: Tagged,
     forward: Forward,
     reverse: Reverse,
@@ -37,7 +37,7 @@ pub(crate) struct OwnSearch {
     /// From group 1 on, a start and an end for each group: a position plus one, or 0 for none.
     cells: Vec<usize>,
     ghost read: { ∥ IsTreeOf (string_bytes source) program.hir ∥₁ },
-    ghost marked: { ∥ AreMarksOf (pattern_of program) marks ∥₁ },
+    ghost facts_hold: { ∥ AreMatchFactsOf (pattern_of program) facts ∥₁ },
     ghost own: { IsFor tagged program.dfa },
     ghost ahead: { IsForwardFor forward program.dfa },
     ghost back: { IsReverseFor reverse program.dfa },
@@ -55,7 +55,7 @@ impl OwnSearch {
     {
         let source = String::from_str(alloc, text)?;
         let program = program_of(alloc, text)?;
-        let marks = Marks::of(alloc, &program)?;
+        let facts = MatchFacts::of(alloc, &program)?;
         let tagged = Tagged::new(alloc, &program.dfa)?;
         let forward = Forward::new(alloc, &program.dfa, false)?;
         let reverse = Reverse::new(alloc, &program.dfa)?;
@@ -64,7 +64,7 @@ impl OwnSearch {
         Ok(OwnSearch {
             source,
             program,
-            marks,
+            facts,
             tagged,
             forward,
             reverse,
@@ -132,7 +132,7 @@ impl OwnSearch {
     {
         let by_automata = leftmost_by_automata(
             &self.program,
-            &self.marks,
+            &self.facts,
             &mut self.tagged,
             &mut self.forward,
             &mut self.reverse,
@@ -151,14 +151,14 @@ impl OwnSearch {
 /// up. The lazy automata find the span, and inside it the tagged one finds the groups.
 fn leftmost_by_automata(
     program: &Program,
-    marks: &Marks,
+    facts: &MatchFacts,
     tagged: &mut Tagged,
     forward: &mut Forward,
     reverse: &mut Reverse,
     hay: &[u8],
     cells: &mut [usize],
 ) -> Result<Option<(usize, usize)>, Declined>
-    requires marked { ∥ AreMarksOf (pattern_of program.now) marks.now ∥₁ }
+    requires facts_hold { ∥ AreMatchFactsOf (pattern_of program.now) facts.now ∥₁ }
     requires own { IsFor tagged.old program.now.dfa }
     requires ahead { IsForwardFor forward.old program.now.dfa }
     requires back { IsReverseFor reverse.old program.now.dfa }
@@ -170,7 +170,7 @@ fn leftmost_by_automata(
     ensures ahead { IsForwardFor forward.new program.now.dfa }
     ensures back { IsReverseFor reverse.new program.now.dfa }
 {
-    let Some(whole) = first_span(program, marks, forward, reverse, hay)? else {
+    let Some(whole) = first_span(program, facts, forward, reverse, hay)? else {
         return Ok(None);
     };
     groups_within(program, tagged, hay, whole, cells)
@@ -237,12 +237,12 @@ fn program_of(alloc: Global, text: &str) -> Result<Program, Declined>
 /// where one can start is tried before all others, because its start is known.
 fn first_span(
     program: &Program,
-    marks: &Marks,
+    facts: &MatchFacts,
     forward: &mut Forward,
     reverse: &mut Reverse,
     hay: &[u8],
 ) -> Result<Option<(usize, usize)>, Declined>
-    requires marked { ∥ AreMarksOf (pattern_of program.now) marks.now ∥₁ }
+    requires facts_hold { ∥ AreMatchFactsOf (pattern_of program.now) facts.now ∥₁ }
     requires ahead { IsForwardFor forward.old program.now.dfa }
     requires back { IsReverseFor reverse.old program.now.dfa }
     ensures span { IfOk result (λ found. found
@@ -250,15 +250,15 @@ fn first_span(
     ensures ahead { IsForwardFor forward.new program.now.dfa }
     ensures back { IsReverseFor reverse.new program.now.dfa }
 {
-    if program.at_end && !marks.at_start {
+    if program.at_end && !facts.at_start {
         return span_at_end(program, reverse, hay);
     }
-    let Some(position) = marks.next_position(program, hay, 0) else {
+    let Some(position) = facts.next_position(program, hay, 0) else {
         return Ok(None);
     };
     match forward.find_end(&program.dfa, hay, position, hay.len(), true, false) {
         End::At(end) => Ok(Some((position, end))),
-        End::NoMatch => Ok(span_after(program, marks, forward, reverse, hay, position)?),
+        End::NoMatch => Ok(span_after(program, facts, forward, reverse, hay, position)?),
         End::Idle(_) | End::GaveUp => Err(Declined),
     }
 }
@@ -266,13 +266,13 @@ fn first_span(
 /// Finds the span of the first match that starts after this position, unless an automaton gives up.
 fn span_after(
     program: &Program,
-    marks: &Marks,
+    facts: &MatchFacts,
     forward: &mut Forward,
     reverse: &mut Reverse,
     hay: &[u8],
     position: usize,
 ) -> Result<Option<(usize, usize)>, Declined>
-    requires marked { ∥ AreMarksOf (pattern_of program.now) marks.now ∥₁ }
+    requires facts_hold { ∥ AreMatchFactsOf (pattern_of program.now) facts.now ∥₁ }
     requires inside { position ≤ length hay.now }
     requires ahead { IsForwardFor forward.old program.now.dfa }
     requires back { IsReverseFor reverse.old program.now.dfa }
@@ -281,17 +281,17 @@ fn span_after(
     ensures ahead { IsForwardFor forward.new program.now.dfa }
     ensures back { IsReverseFor reverse.new program.now.dfa }
 {
-    if marks.at_start {
+    if facts.at_start {
         return Ok(None);
     }
     if position == hay.len() {
         return Ok(None);
     }
-    let Some(from) = marks.next_position(program, hay, position + 1) else {
+    let Some(from) = facts.next_position(program, hay, position + 1) else {
         return Ok(None);
     };
-    match &marks.inner {
-        Some(inner) => Ok(span_by_needles(program, marks, inner, forward, reverse, hay, from)?),
+    match &facts.inner {
+        Some(inner) => Ok(span_by_needles(program, facts, inner, forward, reverse, hay, from)?),
         None => Ok(span_from(program, forward, reverse, hay, from)?),
     }
 }
@@ -301,14 +301,14 @@ fn span_after(
 /// second literal either, then the rest of the line isn't read.
 fn span_by_needles(
     program: &Program,
-    marks: &Marks,
+    facts: &MatchFacts,
     inner: &Needles,
     forward: &mut Forward,
     reverse: &mut Reverse,
     hay: &[u8],
     from: usize,
 ) -> Result<Option<(usize, usize)>, Declined>
-    requires marked { ∥ AreMarksOf (pattern_of program.now) marks.now ∥₁ }
+    requires facts_hold { ∥ AreMatchFactsOf (pattern_of program.now) facts.now ∥₁ }
     requires inside { from ≤ length hay.now }
     requires ahead { IsForwardFor forward.old program.now.dfa }
     requires back { IsReverseFor reverse.old program.now.dfa }
@@ -321,7 +321,7 @@ fn span_by_needles(
     match forward.find_end_within(&program.dfa, hay, from, last, hay.len(), false) {
         End::At(end) => Ok(Some(span_to(program, reverse, hay, from, end)?)),
         End::NoMatch if last == hay.len() => Ok(None),
-        End::NoMatch => match marks.next_position(program, hay, last + 1) {
+        End::NoMatch => match facts.next_position(program, hay, last + 1) {
             Some(next) => Ok(span_from(program, forward, reverse, hay, next)?),
             None => Ok(None),
         },

@@ -8,16 +8,17 @@ ghost use Rattle.grok.specs.Tree.{tree as tree_of, reached};
 ghost use Rattle.grok.specs.NumberedBases.{opens_numbered_from, is_base_in};
 ghost use Rattle.grok.specs.Keys.{first_fault};
 ghost use Rattle.grok.specs.Items.{label_view, meaning_view, item_view};
-ghost use Rattle.grok.specs.Walks.{tree_fault_view};
-ghost use Rattle.grok.specs.Tallied.{AreTallied, HasTallied, IsCountedPartOf, IsSoundItem, resolve};
-ghost use Rattle.grok.specs.FirstFaultSteps.{IsCountOf, CountsUse, SkipsCounted, StepsAtText, StepsAtItem, IsCountableFault, ReportsCountable};
+ghost use Rattle.grok.specs.CountedDefinitions.{AreCounted, IsCountOfItems, IsCountedPartOf, IsSoundItem, resolve};
+ghost use Rattle.grok.specs.FirstFaultSteps.{tree_fault_view, IsCountOf, CountsUse, SkipsCounted, StepsAtText, StepsAtItem, IsCountableFault, ReportsCountable};
 
 use crate::defs::deferred_items::DeferredItems;
 use crate::defs::items::{Item, Items, Label, Meaning};
 use crate::errors::fault::{Fault, LEVELS, TreeFault};
+use crate::expand::counted_definitions::{
+    CompileMode, CountedDefinitions, CountedItems, CountedPart,
+};
 use crate::expand::key_assigner::{base_key, numbered_key};
 use crate::expand::key_uses::KeyUses;
-use crate::expand::tallies::{CompileMode, CountedPart, DefinitionTallies, KeyTally};
 use std::alloc::AllocError;
 use std::mem;
 
@@ -61,26 +62,26 @@ fn count_use<'a>(
     Ok(Some(key))
 }
 
-/// Adds all uses of base keys in `tally`, the tally of a definition, to `total`, and returns
-/// `true`. Returns `false` and adds nothing if the definition and its placeholder need more than
+/// Adds all uses of base keys that were counted of a definition to `total`, and returns `true`.
+/// Returns `false` and adds nothing if the definition and its placeholder need more than
 /// `levels` levels, if two keys would clash, or if a base key would be used more than `usize::MAX`
 /// times: then the first fault may come before the last of these uses.
 fn skip_counted<'a>(
     total: &mut KeyUses<'a>,
-    tally: &KeyTally<'a>,
+    counted: &CountedItems<'a>,
     levels: usize,
 ) -> Result<bool, AllocError>
     ensures { IfOk result (λ passed. (mode : CompileMode) (items : List tree.Item)
-        → HasTallied mode items tally.now → (before : List tree.Label) → IsCountOf total.old before →
+        → IsCountOfItems mode items counted.now → (before : List tree.Label) → IsCountOf total.old before →
         SkipsCounted mode items levels before total.old total.new passed) }
 {
-    if tally.height >= levels {
+    if counted.height >= levels {
         return Ok(false);
     }
-    let Some(true) = total.is_free_with(&tally.uses) else {
+    let Some(true) = total.is_free_with(&counted.uses) else {
         return Ok(false);
     };
-    total.add_all(&tally.uses)?;
+    total.add_all(&counted.uses)?;
     Ok(true)
 }
 
@@ -88,23 +89,23 @@ fn skip_counted<'a>(
 /// of it. If the counted part can't be skipped, all of the definition is entered.
 fn open_after_counted<'a>(
     total: &mut KeyUses<'a>,
-    front: &CountedPart<'a>,
+    part: &CountedPart<'a>,
     items: Items<'a>,
     levels: usize,
 ) -> Result<ItemStep<'a>, AllocError>
     requires { 0 < levels }
-    ensures step { IfOk result (λ step. (mode : CompileMode) (text : List ℕ) → IsCountedPartOf mode text front.now
+    ensures step { IfOk result (λ step. (mode : CompileMode) (text : List ℕ) → IsCountedPartOf mode text part.now
         → items.entry ≡ resolve mode text → (before : List tree.Label) → IsCountOf total.old before →
         StepsAtText mode levels text before total.new step) }
     ensures number { IfOk result (λ step. ReportsCountable step) }
 {
-    if !skip_counted(total, &front.tally, levels)? {
+    if !skip_counted(total, &part.counted, levels)? {
         return Ok(ItemStep::Enter(DeferredItems::of_items(items)));
     }
-    match front.uncounted {
+    match part.uncounted {
         None => Ok(ItemStep::Skip),
         Some(item) => {
-            let rest = DeferredItems::known_first(item, front.read, items);
+            let rest = DeferredItems::known_first(item, part.read, items);
             Ok(ItemStep::Enter(rest))
         }
     }
@@ -114,13 +115,13 @@ fn open_after_counted<'a>(
 /// is nested too deeply. The placeholder and what it uses may be nested up to `levels` levels deep.
 fn open_placeholder<'a>(
     mode: CompileMode<'a, '_>,
-    tallies: &DefinitionTallies<'a>,
+    definitions: &CountedDefinitions<'a>,
     total: &mut KeyUses<'a>,
     label: Label<'a>,
     meaning: Meaning<'a>,
     levels: usize,
 ) -> Result<ItemStep<'a>, AllocError>
-    requires { AreTallied mode tallies.now }
+    requires { AreCounted mode definitions.now }
     ensures step { IfOk result (λ step. IsSoundItem mode.entry (tree.PlaceholderItem
         (label_view label.entry) (meaning_view meaning.entry)) → (before : List tree.Label) →
         IsCountOf total.old before → StepsAtText mode.entry levels
@@ -138,8 +139,8 @@ fn open_placeholder<'a>(
         }
         Meaning::Stored(stored) => {
             let items = Items::of_stored(alloc, mode.grok, stored);
-            match tallies.of_name(label.name) {
-                Some(front) => open_after_counted(total, front, items, levels),
+            match definitions.of_name(label.name) {
+                Some(part) => open_after_counted(total, part, items, levels),
                 None => Ok(ItemStep::Enter(DeferredItems::of_items(items))),
             }
         }
@@ -150,12 +151,12 @@ fn open_placeholder<'a>(
 /// search skips the item, enters its definition, or reports its fault.
 fn read_item<'a>(
     mode: CompileMode<'a, '_>,
-    tallies: &DefinitionTallies<'a>,
+    definitions: &CountedDefinitions<'a>,
     total: &mut KeyUses<'a>,
     item: Item<'a>,
     levels: usize,
 ) -> Result<ItemStep<'a>, AllocError>
-    requires { AreTallied mode tallies.now }
+    requires { AreCounted mode definitions.now }
     ensures step { IfOk result (λ step. IsSoundItem mode.entry (item_view item.entry) →
         (before : List tree.Label) → IsCountOf total.old before →
         StepsAtItem mode.entry levels (item_view item.entry) before total.new step) }
@@ -171,7 +172,7 @@ fn read_item<'a>(
                     return Ok(ItemStep::Report(TreeFault::Clash(key)));
                 }
             }
-            open_placeholder(mode, tallies, total, label, meaning, levels)
+            open_placeholder(mode, definitions, total, label, meaning, levels)
         }
     }
 }
@@ -180,10 +181,10 @@ fn read_item<'a>(
 /// one.
 pub(crate) fn find_first_fault<'a>(
     mode: CompileMode<'a, '_>,
-    tallies: &DefinitionTallies<'a>,
+    definitions: &CountedDefinitions<'a>,
     pattern: &'a str,
 ) -> Result<Option<TreeFault<'a>>, AllocError>
-    requires tallied { AreTallied mode tallies.now }
+    requires counted { AreCounted mode definitions.now }
     requires known { (base : List ℕ) → is_base_in mode.numbered.now base ≡ opens_numbered_from base
         (reached (tree_of (finite.get mode.grok.now) pattern.now)) }
     ensures fault { IfOk result (λ found. option_map tree_fault_view found ≡ first_fault
@@ -196,7 +197,13 @@ pub(crate) fn find_first_fault<'a>(
     let mut items = DeferredItems::of_items(Items::of_text(alloc, mode.grok, pattern));
     'items: loop {
         match items.next()? {
-            Some(item) => match read_item(mode, tallies, &mut total, item, LEVELS - around.len())? {
+            Some(item) => match read_item(
+                mode,
+                definitions,
+                &mut total,
+                item,
+                LEVELS - around.len(),
+            )? {
                 ItemStep::Skip => {}
                 ItemStep::Enter(inner) => around.push(mem::replace(&mut items, inner))?,
                 ItemStep::Report(tree_fault) => return Ok(Some(tree_fault)),

@@ -8,7 +8,7 @@ ghost use Rattle.grok.specs.Tree as tree;
 ghost use Rattle.grok.specs.Tree.{is_absent};
 ghost use Rattle.grok.specs.Keys.{numbered, base_key as base_key_of};
 ghost use Rattle.grok.specs.Items.{label_view};
-ghost use Rattle.grok.specs.Walks.{HasAssigned, CanAssign};
+ghost use Rattle.grok.specs.AssignedKeys.{HasAssigned, CanAssign};
 
 use crate::defs::items::Label;
 use std::alloc::{AllocError, Global};

@@ -7,7 +7,7 @@ ghost use Rattle.grok.specs.Keys.{capturing};
 ghost use Rattle.grok.specs.CapturedSoFar.{after};
 ghost use Rattle.grok.specs.Events.{event_view};
 ghost use Rattle.grok.specs.Expanded.{expanded};
-ghost use Rattle.grok.specs.Walks.{HasAssigned, CanAssign, HasKeys};
+ghost use Rattle.grok.specs.AssignedKeys.{HasAssigned, CanAssign, HasKeys};
 ghost use Rattle.grok.specs.Writes.{head_of, IsReady, Wrote};
 
 use crate::defs::Grok;

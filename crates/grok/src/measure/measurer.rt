@@ -195,7 +195,7 @@ impl<'a> Measurer<'a> {
             result_view r ≡ shown_result (sizes self.old.mode.with_alias_only
             (size_or_fault self.old.mode.with_alias_only (items_in self.old.mode.grok.now) levels)
             (items_in self.old.mode.grok.now text.now))) }
-        ensures keeps { IfOk result
+        ensures cache { IfOk result
             (λ r. HasCorrectCache self.old →
             HasCorrectCache self.new) }
         ensures idle { IfOk result (λ r. IsIdle self.new) }
@@ -222,7 +222,7 @@ impl<'a> Measurer<'a> {
             (λ measure. HasCorrectCache self.old →
             measure_view measure ≡ measured_tree self.old.mode.with_alias_only
             (tree_of self.old.mode.grok.now pattern.now)) }
-        ensures keeps { IfOk result
+        ensures cache { IfOk result
             (λ measure. HasCorrectCache self.old →
             HasCorrectCache self.new) }
         ensures idle { IfOk result (λ measure. IsIdle self.new) }
@@ -252,7 +252,7 @@ impl<'a> Measurer<'a> {
             finite.get self.old.mode.grok.now name.now ≡ Some stored.now →
             result_view r ≡ shown_result (size_or_fault self.old.mode.with_alias_only
             (items_in self.old.mode.grok.now) levels stored.now)) }
-        ensures keeps { IfOk result
+        ensures cache { IfOk result
             (λ r. HasCorrectCache self.old →
             HasCorrectCache self.new) }
         ensures idle { IfOk result (λ r. IsIdle self.new) }
@@ -284,7 +284,7 @@ impl<'a> Measurer<'a> {
             finite.get self.old.mode.grok.now name.now ≡ Some stored.now →
             option_map fault_view fault ≡ first_structural
             (inside (items_in self.old.mode.grok.now) levels stored.now)) }
-        ensures keeps { IfOk result
+        ensures cache { IfOk result
             (λ fault. HasCorrectCache self.old →
             HasCorrectCache self.new) }
         ensures idle { IfOk result (λ fault. IsIdle self.new) }

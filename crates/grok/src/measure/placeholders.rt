@@ -25,7 +25,7 @@ pub(super) enum PlaceholderSize<'a> {
 /// Returns the size of an inline definition, which has no placeholders, or the fault `TooDeep` if
 /// no level is left.
 fn measure_inline<'a>(text: &'a str, levels: usize) -> Result<PartialSize, Failure<'a>>
-    ensures gives { result_view result ≡ shown_result (inlined levels text.now) }
+    ensures reading { result_view result ≡ shown_result (inlined levels text.now) }
     ensures low { IfOk result (λ sum. sum.height < levels) }
     ensures reach { IfErr result (λ failure. failure.height ≡ 0) }
 {
@@ -43,7 +43,7 @@ fn size_of_placeholder<'a>(
 ) -> Result<PartialSize, Failure<'a>>
     requires low { IfOk inner (λ sum. sum.height < 2 ^ 32) }
     requires reach { IfErr inner (λ failure. failure.height < 2 ^ 32) }
-    ensures gives { (st : State) (r : Result Size ItemFault) → result_view inner.entry
+    ensures reading { (st : State) (r : Result Size ItemFault) → result_view inner.entry
         ≡ shown_result r → HasReach inner.entry st →
         ReturnsSize result (wrapped mode.entry.with_alias_only (label_view label.entry) r) (deeper st) }
     ensures low { (most : ℕ) → IfOk inner.entry (λ sum. sum.height < most) →
@@ -70,7 +70,7 @@ fn measure_stored<'a>(
     levels: usize,
 ) -> Result<PlaceholderSize<'a>, AllocError>
     requires { levels < 2 ^ 31 }
-    ensures gives { IfOk result (λ entry. MatchPlaceholderSize entry
+    ensures reading { IfOk result (λ entry. MatchPlaceholderSize entry
         (λ r. (st : State) → ShowsState cache.old st → ReturnsReading r cache.new
         (stored_within mode.entry.with_alias_only (items_in mode.entry.grok.now) levels
         (label_view label.entry) stored.now st))
@@ -106,7 +106,7 @@ pub(super) fn measure_placeholder<'a>(
     levels: usize,
 ) -> Result<PlaceholderSize<'a>, AllocError>
     requires { levels < 2 ^ 31 }
-    ensures gives { IfOk result (λ entry. MatchPlaceholderSize entry
+    ensures reading { IfOk result (λ entry. MatchPlaceholderSize entry
         (λ r. (st : State) → ShowsState cache.old st → ReturnsReading r cache.new
         (item_within mode.entry.with_alias_only (items_in mode.entry.grok.now) levels
         (PlaceholderItem (label_view label.entry) (meaning_view meaning.entry)) st))

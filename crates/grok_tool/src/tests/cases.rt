@@ -41,13 +41,13 @@ pub struct Case {
 impl Case {
     /// Returns the expected number of reads of a run that made `reads` of them. If the command reads, any number from
     /// 1 up is right, so this is `reads`, or 1 if that is 0. Otherwise it is 0.
-    pub(crate) fn wanted_reads(&self, reads: usize) -> usize {
+    pub(crate) fn expected_reads(&self, reads: usize) -> usize {
         if self.reads { reads.max(1) } else { 0 }
     }
 
     /// Returns how many writes a run makes if its devices move as many bytes as they are asked for: one before the
     /// second read if the command reads, and one at the end.
-    pub(crate) fn wanted_writes(&self) -> usize {
+    pub(crate) fn expected_writes(&self) -> usize {
         if self.reads { 2 } else { 1 }
     }
 }
@@ -103,7 +103,7 @@ pub(crate) fn check_run<'a>(
         Outcome {
             ending: Ending::Well,
             left,
-            reads: case.wanted_reads(outcome.reads),
+            reads: case.expected_reads(outcome.reads),
             taken: case.output.len(),
             flushes: outcome.flushes.max(1),
             ..outcome

@@ -97,7 +97,7 @@ fn one_write_before_each_read(rt: HostRuntime) -> Result<(), Fail> {
     for case in CASES {
         let reader = FakeReader::new(LINES);
         let outcome = check_run(&rt, &case, reader, FakeWriter::new(rt.alloc()));
-        check_calls(&rt, outcome, &case, 2, case.wanted_writes());
+        check_calls(&rt, outcome, &case, 2, case.expected_writes());
     }
     Ok(())
 }
@@ -115,7 +115,7 @@ fn interrupted_calls_are_made_again(rt: HostRuntime) -> Result<(), Fail> {
             outcome,
             &case,
             4,
-            case.wanted_writes().saturating_mul(2),
+            case.expected_writes().saturating_mul(2),
         );
     }
     Ok(())

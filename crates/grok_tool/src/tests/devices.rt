@@ -155,7 +155,7 @@ impl Write for SharedWriter<'_> {
     }
 }
 
-/// A reader that returns one byte in each call, and records how many bytes a fake writer has accepted by then.
+/// A reader that returns one byte in each call, and notes in `seen` how many bytes a fake writer has accepted by then.
 #[derive(Drop)]
 pub struct WatchingReader<'a> {
     left: &'a [u8],
@@ -164,7 +164,7 @@ pub struct WatchingReader<'a> {
 }
 
 impl<'a> WatchingReader<'a> {
-    /// Makes a reader of these bytes, which has recorded nothing yet.
+    /// Makes a reader of these bytes. Nothing was read from it yet, so `seen` is empty.
     pub(crate) fn new(
         alloc: Global,
         left: &'a [u8],

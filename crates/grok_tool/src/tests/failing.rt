@@ -219,7 +219,7 @@ fn check_failed_write(
         outcome,
         Outcome {
             ending: Ending::Write,
-            reads: case.wanted_reads(outcome.reads),
+            reads: case.expected_reads(outcome.reads),
             taken: count,
             writes,
             ..outcome
@@ -255,7 +255,7 @@ fn a_failed_write(rt: HostRuntime) -> Result<(), Fail> {
 /// Runs a case on writers that accept all bytes of a call and fail from one call on, for each call in turn. Checks that
 /// no call is made after the first one that fails.
 fn check_failed_answers(rt: &(impl Abort + AllocGlobal), case: &Case) {
-    for bad in 0..case.wanted_writes() {
+    for bad in 0..case.expected_writes() {
         let mut writer = FakeWriter::new(rt.alloc());
         writer.failing = Failing::since(bad);
         let outcome = outcome_of(rt, case.words, FakeReader::new(LINES), writer, case.output);
@@ -384,7 +384,7 @@ fn check_each_write(rt: &(impl Abort + AllocGlobal), words: &[&str], input: &[u8
 #[test]
 fn a_failed_write_of_what_was_held(rt: HostRuntime) -> Result<(), Fail> {
     for case in CASES {
-        check_each_write(&rt, case.words, LINES, case.wanted_writes());
+        check_each_write(&rt, case.words, LINES, case.expected_writes());
     }
     Ok(())
 }

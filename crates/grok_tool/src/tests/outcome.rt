@@ -115,8 +115,8 @@ pub(crate) fn check_pattern_fault(
 ) -> Result<(), AllocError> {
     let mut reader = FakeReader::new(row.input);
     let mut writer = FakeWriter::new(rt.alloc());
-    let said = words_of_pattern(rt.alloc(), row.words, &mut reader, &mut writer)?;
-    assert_eq!(rt; said.as_str(), row.output, "{}", row.name);
+    let printed = words_of_pattern(rt.alloc(), row.words, &mut reader, &mut writer)?;
+    assert_eq!(rt; printed.as_str(), row.output, "{}", row.name);
     let outcome = outcome_at(Ending::Pattern, &reader, &writer);
     check_untouched(rt, row, outcome, Ending::Pattern);
     Ok(())
@@ -127,9 +127,9 @@ pub(crate) fn check_outcome(
     rt: &(impl Abort + AllocGlobal),
     name: &str,
     outcome: Outcome<'_>,
-    wanted: Outcome<'_>,
+    expected: Outcome<'_>,
 ) {
-    assert_eq!(rt; outcome, wanted, "{name}");
+    assert_eq!(rt; outcome, expected, "{name}");
 }
 
 /// Checks that `outcome` is that of a run of the row which ended as `ending` says, and which called no device.
@@ -139,7 +139,7 @@ pub(crate) fn check_untouched(
     outcome: Outcome<'_>,
     ending: Ending,
 ) {
-    let wanted = Outcome {
+    let expected = Outcome {
         ending,
         left: row.input,
         reads: 0,
@@ -147,5 +147,5 @@ pub(crate) fn check_untouched(
         writes: 0,
         flushes: 0,
     };
-    check_outcome(rt, row.name, outcome, wanted);
+    check_outcome(rt, row.name, outcome, expected);
 }

@@ -2,9 +2,9 @@ use Rattle.std.proofs.Common.{◌≡◌, ◌∷◌, [], None, ◌∙◌, refl, s
 use Rattle.std.specs.FinMap as finite
 use Rattle.grok.specs.declared.measure.mode.MeasureMode.{MeasureMode}
 use Rattle.grok.specs.Items.{item_view}
-use Rattle.grok.specs.FaultPlaces.{fault_within}
+use Rattle.grok.specs.FaultLocations.{fault_within}
 use Rattle.grok.specs.FirstWrong.{IsResolvedItem, IsWrong}
-use Rattle.grok.proofs.Trees.FirstFaultIsLocated.{placing_starts, next_resolved, placing_goes}
+use Rattle.grok.proofs.Trees.FirstFaultIsLocated.{locating_starts, next_resolved, locating_goes_on}
 use Rattle.grok.proofs.Trees.ItemsStandAtPieces.{reading_stands}
 use Rattle.grok.proofs.locate.first_wrong.Goals as goal
 
@@ -13,7 +13,7 @@ items-init c = record {
   idle = c.requires.idle;
   mode = refl;
   known = λ known. known;
-  placing = λ known. placing_starts (finite.get c.args.measurer.now.mode.grok.now) c.args.levels c.args.text.now c.pieces_of-pieces.result c.items_of-items.result c.pieces_of-pieces.ensures c.items_of-items.ensures;
+  locating = λ known. locating_starts (finite.get c.args.measurer.now.mode.grok.now) c.args.levels c.args.text.now c.pieces_of-pieces.result c.items_of-items.result c.pieces_of-pieces.ensures c.items_of-items.ensures;
 }
 
 pub items-preserved : goal.items-preserved
@@ -26,12 +26,12 @@ items-preserved c =
     record {
       idle = c.in_ok-wrong.ensures.idle;
       mode = c.in_ok-wrong.ensures.mode ∙ mode;
-      known = λ known. c.in_ok-wrong.ensures.keeps (c.items.invariant.known known);
-      placing = λ known.
-          let p = c.items.invariant.placing known in
+      known = λ known. c.in_ok-wrong.ensures.cache (c.items.invariant.known known);
+      locating = λ known.
+          let p = c.items.invariant.locating known in
           let resolved = subst (λ (mode : MeasureMode). IsResolvedItem (finite.get mode.grok.now) item) (sym mode) (next_resolved stored c.args.levels c.args.text.now c.items.pieces c.items.items c.items.begin p item rest cut) in
           let one = subst (λ (mode : MeasureMode). fault_within (finite.get mode.grok.now) c.args.levels (item ∷ []) ≡ None) mode (rw c.in_default-2.is at (c.in_ok-wrong.ensures.wrong (c.items.invariant.known known) resolved)) in
-          placing_goes stored c.args.levels c.args.text.now c.items.pieces c.items.items c.items.begin p item rest cut c.next-in-Some.result c.next-in-Some.new.self c.next-in-Some.ensures.steps c.end_of-end.result c.end_of-end.ensures one;
+          locating_goes_on stored c.args.levels c.args.text.now c.items.pieces c.items.items c.items.begin p item rest cut c.next-in-Some.result c.next-in-Some.new.self c.next-in-Some.ensures.steps c.end_of-end.result c.end_of-end.ensures one;
     }
 
 pub returns-in-Some-2-clause-wrong : goal.returns-in-Some-2-clause-wrong
@@ -41,7 +41,7 @@ returns-in-Some-2-clause-wrong c known =
     let rest = c.next.new.self in
     let cut : c.items.items ≡ item ∷ rest = rw c.in-Some.is at c.in_ok-item.ensures in
     let mode = c.items.invariant.mode in
-    let p = c.items.invariant.placing known in
+    let p = c.items.invariant.locating known in
     let resolved = subst (λ (mode : MeasureMode). IsResolvedItem (finite.get mode.grok.now) item) (sym mode) (next_resolved stored c.args.levels c.args.text.now c.items.pieces c.items.items c.items.begin p item rest cut) in
     record {
       before = p.reading.before;

@@ -1,7 +1,7 @@
 use Rattle.std.proofs.Common.{◌≡◌, length}
 use Rattle.std.specs.FinMap as finite
 use Rattle.grok.specs.MeasureCache.{IsIdle, HasCorrectCache}
-use Rattle.grok.proofs.Trees.FirstFaultIsLocated.{IsPlacing}
+use Rattle.grok.proofs.Trees.FirstFaultIsLocated.{IsLocating}
 use Rattle.grok.proofs.locate.first_wrong.Given as goal
 
 abbrev pub invariant-items : goal.invariant-items
@@ -9,7 +9,7 @@ invariant-items l = record {
   idle : IsIdle l.measurer;
   mode : l.measurer.mode ≡ l.fn.measurer.mode;
   known : HasCorrectCache l.fn.measurer → HasCorrectCache l.measurer;
-  placing : HasCorrectCache l.fn.measurer → IsPlacing (finite.get l.fn.measurer.mode.grok.now) l.levels l.text l.pieces l.items l.begin;
+  locating : HasCorrectCache l.fn.measurer → IsLocating (finite.get l.fn.measurer.mode.grok.now) l.levels l.text l.pieces l.items l.begin;
 }
 
 abbrev pub decreases-items : goal.decreases-items

@@ -2,7 +2,7 @@ use Rattle.std.proofs.Common.{◌≡◌, ◌<◌, None, [], ◌∷◌, sym, ◌�
 use Rattle.std.specs.FinMap as finite
 use Rattle.grok.specs.Tree.{Inline, Stored, TooDeep, PlaceholderItem}
 use Rattle.grok.specs.Items.{fault_view, label_view, meaning_view, item_view}
-use Rattle.grok.specs.FaultPlaces.{IsOwnFault, Broken, Deep, fault_within}
+use Rattle.grok.specs.FaultLocations.{IsOwnFault, Broken, Deep, fault_within}
 use Rattle.grok.specs.FirstWrong.{IsResolvedItem}
 use Rattle.grok.proofs.Trees.FirstFaultIsLocated.{one_clean, inline_clean}
 use Rattle.grok.proofs.locate.wrong_item.Goals as goal

@@ -3,7 +3,7 @@ use Rattle.std.specs.FinMap as finite
 use Rattle.grok.specs.Tree.{meaning_text, Inline, Stored, PlaceholderItem, items_of}
 use Rattle.grok.specs.Sizes.{size_or_fault}
 use Rattle.grok.specs.Items.{fault_view, label_view, meaning_view}
-use Rattle.grok.specs.FaultPlaces.{fault_within}
+use Rattle.grok.specs.FaultLocations.{fault_within}
 use Rattle.grok.specs.ByteSteps.{IsSizedItem, IsSizeOfDefinition}
 use Rattle.grok.proofs.Trees.ByteIsLocated.{inline_is_sized, fault_is_shown}
 use Rattle.grok.proofs.locate_byte.size_of_meaning.Goals as goal

@@ -3,7 +3,7 @@ use Rattle.std.specs.FinMap as finite
 use Rattle.grok.specs.Tree.{PlaceholderItem, meaning_text}
 use Rattle.grok.specs.Keys.{is_capturing}
 use Rattle.grok.specs.Items.{item_view, label_view, meaning_view}
-use Rattle.grok.specs.ByteSteps.{IsSizedItem, IsSizeOfDefinition, IsStep}
+use Rattle.grok.specs.ByteSteps.{IsSizedItem, IsSizeOfDefinition, IsByteStep}
 use Rattle.grok.specs.declared.measure.mode.MeasureMode.{MeasureMode}
 use Rattle.grok.proofs.locate_byte.step_at_item.Goals as goal
 
@@ -11,7 +11,7 @@ pub returns-in-Text-clause-step : goal.returns-in-Text-clause-step
 returns-in-Text-clause-step c true_before before later clean sized =
     let mode = c.args.measurer.now.mode in
     let stored = finite.get mode.grok.now in
-    subst (λ item. IsStep stored mode.with_alias_only c.args.levels before c.args.byte item c.step_at_text.result) (sym (ap item_view c.in-Text.is))
+    subst (λ item. IsByteStep stored mode.with_alias_only c.args.levels before c.args.byte item c.step_at_text.result) (sym (ap item_view c.in-Text.is))
     (c.step_at_text.ensures stored mode.with_alias_only c.args.levels before later)
 
 pub returns-in-Some-clause-step : goal.returns-in-Some-clause-step
@@ -26,6 +26,6 @@ returns-in-Some-clause-step c true_before before later clean sized =
     sym (c.is_capturing-is_capturing.ensures ∙ ap (λ (mode : MeasureMode). is_capturing mode.with_alias_only label) c.in_ok-size-in-Placeholder.ensures.mode) in
     let means : meaning_text meaning ≡ c.text-definition.result.now = sym c.text-definition.ensures in
     let given = rw c.in-Some.is at (c.in_ok-size-in-Placeholder.ensures.size true_before (subst (IsSizedItem stored alias_only) whole sized)) in
-    subst (λ item. IsStep stored alias_only c.args.levels before c.args.byte item c.step_at_group.result) (sym whole)
+    subst (λ item. IsByteStep stored alias_only c.args.levels before c.args.byte item c.step_at_group.result) (sym whole)
     (c.step_at_group.ensures stored alias_only c.args.levels before label meaning captures refl means
     (subst (λ text. IsSizeOfDefinition stored alias_only c.args.levels text c.in-Some.size) means given) later)

@@ -3,7 +3,7 @@ use Rattle.std.specs.FinMap as finite
 use Rattle.grok.specs.declared.measure.mode.MeasureMode.{MeasureMode}
 use Rattle.grok.specs.Tree.{events, inside, items_of}
 use Rattle.grok.specs.Items.{item_view}
-use Rattle.grok.specs.ByteSteps.{IsStepAfter}
+use Rattle.grok.specs.ByteSteps.{IsByteStepAfter}
 use Rattle.grok.proofs.Trees.ItemsStandAtPieces.{reading_starts, reading_stands}
 use Rattle.grok.proofs.Trees.ByteIsLocated.{searching_starts, next_clean, next_sized, searching_goes, searching_ends}
 use Rattle.grok.proofs.locate_byte.writing_piece.Goals as goal
@@ -24,7 +24,7 @@ pub items-preserved : goal.items-preserved
 items-preserved c = record {
   idle = c.in_ok-step.ensures.idle;
   mode = c.in_ok-step.ensures.mode ∙ c.items.invariant.mode;
-  known = λ known. c.in_ok-step.ensures.keeps (c.items.invariant.known known);
+  known = λ known. c.in_ok-step.ensures.cache (c.items.invariant.known known);
   searching = λ true_before xs later clean.
       let mode = c.args.measurer.now.mode in
       let stored = finite.get mode.grok.now in
@@ -36,7 +36,7 @@ items-preserved c = record {
       let rest = c.next.new.self in
       let cut : c.items.items ≡ item ∷ rest = rw c.in-Some.is at c.in_ok-item.ensures in
       let same = c.items.invariant.mode in
-      let stepped = subst (λ (mode : MeasureMode). IsStepAfter (finite.get mode.grok.now) mode.with_alias_only levels c.items.before byte item c.in_ok-step.step) same
+      let stepped = subst (λ (mode : MeasureMode). IsByteStepAfter (finite.get mode.grok.now) mode.with_alias_only levels c.items.before byte item c.in_ok-step.step) same
       (c.in_ok-step.ensures.step (c.items.invariant.known true_before)) in
       let s = c.items.invariant.searching true_before xs later clean in
       let one = next_clean stored alias_only levels text xs byte clean c.items.pieces c.items.items c.items.begin c.items.before s item rest cut in
@@ -57,7 +57,7 @@ returns-in-Wrote-clause-piece c true_before xs later clean =
     let rest = c.next.new.self in
     let cut : c.items.items ≡ item ∷ rest = rw c.in-Some.is at c.in_ok-item.ensures in
     let same = c.items.invariant.mode in
-    let stepped = subst (λ (mode : MeasureMode). IsStepAfter (finite.get mode.grok.now) mode.with_alias_only levels c.items.before byte item c.in_ok-step.step) same
+    let stepped = subst (λ (mode : MeasureMode). IsByteStepAfter (finite.get mode.grok.now) mode.with_alias_only levels c.items.before byte item c.in_ok-step.step) same
     (c.in_ok-step.ensures.step (c.items.invariant.known true_before)) in
     let s = c.items.invariant.searching true_before xs later clean in
     let one = next_clean stored alias_only levels text xs byte clean c.items.pieces c.items.items c.items.begin c.items.before s item rest cut in

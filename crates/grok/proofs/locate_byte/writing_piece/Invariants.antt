@@ -2,7 +2,7 @@ use Rattle.std.proofs.Common.{◌≡◌, List, None, length}
 use Rattle.std.specs.FinMap as finite
 use Rattle.grok.specs.Tree.{Event, items_of}
 use Rattle.grok.specs.MeasureCache.{IsIdle, HasCorrectCache}
-use Rattle.grok.specs.FaultPlaces.{fault_within}
+use Rattle.grok.specs.FaultLocations.{fault_within}
 use Rattle.grok.specs.ByteSteps.{IsLater}
 use Rattle.grok.proofs.Trees.ByteIsLocated.{IsSearching}
 use Rattle.grok.proofs.locate_byte.writing_piece.Given as goal

@@ -2,7 +2,7 @@ use Rattle.std.proofs.Common.{◌≡◌, ◌-◌, ◌≤◌, [], ◌∷◌, ◌+
 use Rattle.std.proofs.lemmas.List.{nil_from_length}
 use Rattle.std.specs.FinMap as finite
 use Rattle.grok.specs.Tree.{deepest}
-use Rattle.grok.specs.FaultPlaces.{path_view}
+use Rattle.grok.specs.FaultLocations.{path_view}
 use Rattle.grok.specs.Items.{item_view}
 use Rattle.grok.specs.UseSteps.{StepsAtUse, IsUseAt, HasBegun}
 use Rattle.grok.proofs.Keys.UseIsFound.{search_starts, search_ends, search_closes, search_fits, search_levels, search_sound, search_goes, search_finds, search_enters, pass_fewer, close_fewer, enter_fewer}

@@ -1,6 +1,6 @@
 use Rattle.std.proofs.Common.{subst, ap}
 use Rattle.grok.specs.Items.{label_view, meaning_view, item_view}
-use Rattle.grok.specs.Tallied.{IsSoundItem}
+use Rattle.grok.specs.CountedDefinitions.{IsSoundItem}
 use Rattle.grok.proofs.Keys.UsesArePassed.{step_at_placeholder}
 use Rattle.grok.proofs.locate_clash.step_at_item.Goals as goal
 

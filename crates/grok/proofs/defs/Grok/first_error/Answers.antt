@@ -3,7 +3,7 @@ use Rattle.std.specs.Option.{option_map}
 use Rattle.std.specs.FinMap as finite
 use Rattle.grok.specs.Tree.{tree, reached}
 use Rattle.grok.specs.Keys.{first_fault}
-use Rattle.grok.specs.Walks.{tree_fault_view}
+use Rattle.grok.specs.FirstFaultSteps.{tree_fault_view}
 use Rattle.grok.specs.declared.errors.fault.TreeFault.{TreeFault}
 use Rattle.grok.proofs.Keys.KeysAreDistinct.{clash_needs_number}
 use Rattle.grok.proofs.Keys.BasesAreKept.{no_numbered_alias}

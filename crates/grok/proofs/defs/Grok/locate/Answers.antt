@@ -5,13 +5,13 @@ use Rattle.grok.specs.declared.measure.mode.MeasureMode.{MeasureMode}
 use Rattle.grok.specs.Maps.{Texts}
 use Rattle.grok.specs.Tree.{tree, deepest, items_of}
 use Rattle.grok.specs.Items.{fault_view}
-use Rattle.grok.specs.FaultPlaces.{path_view, IsFaultAt, fault_within}
+use Rattle.grok.specs.FaultLocations.{path_view, IsFaultAt, fault_within}
 use Rattle.grok.specs.FirstWrong.{IsFirstWrong}
 use Rattle.grok.proofs.Trees.FirstFaultIsLocated.{IsWayDown, fault_at, way_goes, way_ends}
 use Rattle.grok.proofs.defs.Grok.locate.Goals as goal
 
-pub returns-in-Here-clause-place : goal.returns-in-Here-clause-place
-returns-in-Here-clause-place c =
+pub returns-in-Here-clause-location : goal.returns-in-Here-clause-location
+returns-in-Here-clause-location c =
     let stored = finite.get c.args.self.now in
     let first = subst (λ (texts : Texts). IsFirstWrong (finite.get texts) c.texts.levels c.texts.text.now c.in-Some.first) c.texts.invariant.grok (rw c.in-Some.is at (c.in_ok-first.ensures.wrong c.texts.invariant.known)) in
     way_ends stored c.args.pattern.now (path_view c.texts.path.items) c.texts.levels c.texts.text.now c.in-Some.first c.in-Here.fault c.texts.invariant.way first c.in-Here.is
@@ -24,9 +24,9 @@ returns-in-Here-clause-fault c =
     let path = path_view c.texts.path.items in
     let range = c.in-Some.first.range in
     let fault = fault_view c.in-Here.fault in
-    let place : IsFaultAt stored deepest c.args.pattern.now path c.texts.text.now range.start range.end fault =
+    let location : IsFaultAt stored deepest c.args.pattern.now path c.texts.text.now range.start range.end fault =
     way_ends stored c.args.pattern.now path c.texts.levels c.texts.text.now c.in-Some.first c.in-Here.fault c.texts.invariant.way first c.in-Here.is in
-    sym (fault_at stored deepest c.args.pattern.now path c.texts.text.now range.start range.end fault place)
+    sym (fault_at stored deepest c.args.pattern.now path c.texts.text.now range.start range.end fault location)
 
 pub returns-clause-fault : goal.returns-clause-fault
 unfolding tree
@@ -47,7 +47,7 @@ texts-preserved c =
       idle = c.in_ok-first.ensures.idle;
       grok = ap (λ (mode : MeasureMode). mode.grok.now) c.in_ok-first.ensures.mode ∙ c.texts.invariant.grok;
       few = let few : c.texts.levels ≤ deepest = c.texts.invariant.few in omega arith;
-      known = c.in_ok-first.ensures.keeps c.texts.invariant.known;
+      known = c.in_ok-first.ensures.cache c.texts.invariant.known;
       way = subst (λ names. IsWayDown stored c.args.pattern.now names (c.texts.levels - 1) c.text-text.result.now) (sym longer)
           (subst (IsWayDown stored c.args.pattern.now (path ++ name.now ∷ []) (c.texts.levels - 1)) (sym c.text-text.ensures) below);
     }

@@ -4,7 +4,7 @@ use denote.Shadow.{shadow}
 use denote.Text.{Utf8}
 use Rattle.grok.specs.Tree.{deepest}
 use Rattle.grok.specs.MeasureCache.{IsIdle, HasCorrectCache}
-use Rattle.grok.specs.FaultPlaces.{path_view}
+use Rattle.grok.specs.FaultLocations.{path_view}
 use Rattle.grok.proofs.Trees.FirstFaultIsLocated.{IsWayDown}
 use Rattle.grok.proofs.defs.Grok.locate.Given as goal
 

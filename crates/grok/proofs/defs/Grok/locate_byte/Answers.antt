@@ -9,7 +9,7 @@ use Rattle.grok.specs.Items.{fault_view}
 use Rattle.grok.specs.Measured.{tree_of, measured_tree}
 use Rattle.grok.specs.MeasuredOnce.{nothing_measured}
 use Rattle.grok.specs.MeasureCache.{HasCorrectCache, measure_view}
-use Rattle.grok.specs.FaultPlaces.{path_view}
+use Rattle.grok.specs.FaultLocations.{path_view}
 use Rattle.grok.specs.ByteSteps.{FindsWritingPiece, IsWritingPiece, IsWrittenInside}
 use Rattle.grok.proofs.Sizes.MeasuringAgain.{nothing_true}
 use Rattle.grok.proofs.Trees.ByteIsLocated.{IsWayTo, measured_faulty, measured_clean, way_starts, way_goes, way_ends}
@@ -43,7 +43,7 @@ texts-init c =
       grok = ap (λ (mode : MeasureMode). mode.grok.now) mode;
       alias_only = ap (λ (mode : MeasureMode). mode.with_alias_only) mode;
       few = omega arith;
-      known = c.in_ok-measure.ensures.keeps known;
+      known = c.in_ok-measure.ensures.cache known;
       clean = clean;
       way = subst (λ names. IsWayTo stored alias_only c.args.pattern.now c.args.byte names deepest c.args.pattern.now c.size_of_text-before.result) (sym (ap path_view c.new-path.ensures.items))
           (way_starts stored alias_only c.args.pattern.now c.args.byte c.size_of_text-before.result c.size_of_text-before.ensures.shown clean);
@@ -126,7 +126,7 @@ texts-preserved c =
       grok = ap (λ (mode : MeasureMode). mode.grok.now) mode ∙ inv.grok;
       alias_only = ap (λ (mode : MeasureMode). mode.with_alias_only) mode ∙ inv.alias_only;
       few = let few : levels ≤ deepest = inv.few in omega arith;
-      known = c.in_ok-piece.ensures.keeps inv.known;
+      known = c.in_ok-piece.ensures.cache inv.known;
       clean = inv.clean;
       way = subst (λ names. IsWayTo stored alias_only c.args.pattern.now byte names (levels - 1) definition.now c.in-Definition.head) (sym longer) below;
     }

@@ -29,7 +29,7 @@ patterns-preserved c =
     record {
       grok = ap (λ (mode : MeasureMode). mode.grok.now) mode ∙ invariant.grok;
       alias_only = ap (λ (mode : MeasureMode). mode.with_alias_only) mode ∙ invariant.alias_only;
-      remembers = c.in_ok-measure.ensures.keeps invariant.remembers;
+      remembers = c.in_ok-measure.ensures.cache invariant.remembers;
       idle = c.in_ok-measure.ensures.idle;
       measured = ap (map measure_view) c.in_ok-push.ensures.items
           ∙ one_more measure_view (λ (pattern : Bor (List ℕ)). measured_tree c.args.with_alias_only (tree_of c.args.self.now pattern.now)) c.patterns.measures.items c.in_ok-measure.measure c.args.patterns.now c.patterns.pattern-index

@@ -8,5 +8,5 @@ pub returns-in-Fault-clause-step : goal.returns-in-Fault-clause-step
 returns-in-Fault-clause-step c = search rules
 
 pub returns-in-Some-clause-number : goal.returns-in-Some-clause-number
-returns-in-Some-clause-number c before keeps =
-    number_fits c.args.total.now before (label_view c.in-Placeholder.label) c.in-Some.key keeps (rw c.in-Some.is at (c.in_ok-key-in-Placeholder.ensures before keeps))
+returns-in-Some-clause-number c before is_count =
+    number_fits c.args.total.now before (label_view c.in-Placeholder.label) c.in-Some.key is_count (rw c.in-Some.is at (c.in_ok-key-in-Placeholder.ensures before is_count))

@@ -34,8 +34,8 @@ returns-then-number-eq0 c base count low is =
     let ends = strip_suffix_char 93 c.args.key.now (Some c.in_ok-inside.inside) c.in_ok-inside.ensures.cases (omega arith) in
     let (i, j, found, before, after, le, front_long, back_long) = c.in_ok-base.ensures.cases in
     let split = is_split inside c.in_ok-base.base.now c.in_ok-base.digits.now i j found before after in
-    let said = has_number c.args.key.now base count is inside ends c.in_ok-base.base.now c.in_ok-base.digits.now split in
-    let same : c.in_ok-number.number ≡ suc count = numeral_same c.in_ok-number.number (suc count) (sym c.in_ok-number.ensures ∙ said) in
+    let number_is = has_number c.args.key.now base count is inside ends c.in_ok-base.base.now c.in_ok-base.digits.now split in
+    let same : c.in_ok-number.number ≡ suc count = numeral_same c.in_ok-number.number (suc count) (sym c.in_ok-number.ensures ∙ number_is) in
     omega (arith, same, c.if-number-eq0.true)
 
 pub returns-else-number-eq0 : goal.returns-else-number-eq0

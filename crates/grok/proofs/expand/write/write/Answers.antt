@@ -3,7 +3,7 @@ use Rattle.std.specs.String.{string_capacity}
 use Rattle.grok.specs.Tree.{first_structural}
 use Rattle.grok.specs.Expanded.{expanded}
 use Rattle.grok.specs.Events.{event_view}
-use Rattle.grok.specs.Walks.{HasKeys}
+use Rattle.grok.specs.AssignedKeys.{HasKeys}
 use Rattle.grok.specs.declared.expand.write.Output.{Output}
 use Rattle.grok.proofs.Trees.TextIsWritten.{ready_whole, written_none, written_counted, written_ready, written_more, written_keys}
 use Rattle.grok.proofs.expand.write.write.Goals as goal

@@ -2,7 +2,7 @@ use Rattle.std.proofs.Common.{codes, string_bytes, ◌≡◌, Ok, Some, refl, ap
 use Rattle.std.specs.Fmt.{debug_str, ◌++?◌}
 use Rattle.std.proofs.Math.Seq.{take-length}
 use Rattle.grok.specs.Debugs.{debug_braces, debug_item, debug_texts}
-use Rattle.grok.proofs.Texts.DebugOfEntries.{then_assoc, displays_then, displays_same, told, texts_shown}
+use Rattle.grok.proofs.Texts.DebugOfEntries.{then_assoc, displays_then, displays_same, true_on_ok, texts_shown}
 use Rattle.grok.proofs.matches.PatternOfDebug.fmt.Goals as goal
 
 pub returns : goal.returns
@@ -17,7 +17,7 @@ returns g c =
     let after = Some (codes " }") in
     let whole : take (length c.text-text.result.now) c.text-text.result.now ≡ g.E.Engine.source_of c.args.self.now.engine = take-length c.text-text.result.now ∙ c.text-text.ensures in
     let extracts_shown : debug_braces (debug_item (λ s. debug_str (string_bytes s))) entries ≡ texts =
-    texts_shown string_bytes entries (told (Ok c.in_ok-write_map.field-0) _ c.in_ok-write_map.ensures.sorted refl) ∙ ap (λ p. debug_texts p.extracts) c.self.view_is in
+    texts_shown string_bytes entries (true_on_ok (Ok c.in_ok-write_map.field-0) _ c.in_ok-write_map.ensures.sorted refl) ∙ ap (λ p. debug_texts p.extracts) c.self.view_is in
     let inner = displays_then took c.write.new.self c.write_map.new.f c.write_str.new.self (Ok c.in_ok-write_map.field-0) c.write_str.result
     (debug_braces (debug_item (λ s. debug_str (string_bytes s))) entries) after c.in_ok-write_map.ensures.writes refl c.write_str.ensures.writes in
     let written = displays_then took f c.write.new.self c.write_str.new.self (Ok c.in_ok-write.field-0) c.write_str.result (before ++? text ++? between)

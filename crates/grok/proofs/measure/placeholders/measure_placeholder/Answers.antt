@@ -5,16 +5,16 @@ use Rattle.grok.specs.MeasureCache.{items_in}
 use Rattle.grok.proofs.Sizes.MeasureLoop.{labelled_entry, inline_gives}
 use Rattle.grok.proofs.measure.placeholders.measure_placeholder.Goals as goal
 
-pub returns-in_ok-entry-in-Stored-clause-gives : goal.returns-in_ok-entry-in-Stored-clause-gives
-returns-in_ok-entry-in-Stored-clause-gives c =
+pub returns-in_ok-entry-in-Stored-clause-reading : goal.returns-in_ok-entry-in-Stored-clause-reading
+returns-in_ok-entry-in-Stored-clause-reading c =
     labelled_entry c.args.mode.with_alias_only (items_in c.args.mode.grok.now) c.args.levels c.args.label (meaning_view c.args.meaning) c.in-Stored.stored.now c.args.cache.now c.label.new.self _ c.in_ok-entry-in-Stored.entry
-    (ap meaning_view c.in-Stored.is) c.in_ok-label.ensures.shows c.in_ok-label.ensures.by_name c.in_ok-entry-in-Stored.ensures.gives
+    (ap meaning_view c.in-Stored.is) c.in_ok-label.ensures.shows c.in_ok-label.ensures.by_name c.in_ok-entry-in-Stored.ensures.reading
 
-pub returns-in-Inline-clause-gives : goal.returns-in-Inline-clause-gives
-returns-in-Inline-clause-gives c st shows =
+pub returns-in-Inline-clause-reading : goal.returns-in-Inline-clause-reading
+returns-in-Inline-clause-reading c st shows =
     inline_gives c.args.mode.with_alias_only (items_in c.args.mode.grok.now) c.args.levels (tree.PlaceholderItem (label_view c.args.label) (meaning_view c.args.meaning)) (label_view c.args.label) c.in-Inline.text.now st c.label.new.self
     (ap (λ m. tree.PlaceholderItem (label_view c.args.label) (meaning_view m)) c.in-Inline.is)
-    (c.in_ok-label.ensures.shows st shows) c.measure_inline-inner.result c.size_of_placeholder.result c.measure_inline-inner.ensures.gives c.measure_inline-inner.ensures.reach c.size_of_placeholder.ensures.gives
+    (c.in_ok-label.ensures.shows st shows) c.measure_inline-inner.result c.size_of_placeholder.result c.measure_inline-inner.ensures.reading c.measure_inline-inner.ensures.reach c.size_of_placeholder.ensures.reading
 
 pub returns-in-Inline-clause-low : goal.returns-in-Inline-clause-low
 returns-in-Inline-clause-low c = c.size_of_placeholder.ensures.low c.args.levels c.measure_inline-inner.ensures.low

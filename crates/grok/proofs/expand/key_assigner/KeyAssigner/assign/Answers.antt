@@ -6,7 +6,7 @@ use Rattle.std.specs.BTreeMap.{get_by_text}
 use Rattle.std.proofs.lemmas.List.{map-append}
 use Rattle.grok.specs.Tree.{is_absent}
 use Rattle.grok.specs.Items.{label_view}
-use Rattle.grok.proofs.Keys.KeysAreAssigned.{key_named, recorded_now, can_count}
+use Rattle.grok.proofs.Keys.KeysAreAssigned.{key_named, assigned_now, can_count}
 use Rattle.grok.proofs.expand.key_assigner.KeyAssigner.assign.Goals as goal
 
 pub count_once_more-requires-clause-fits : goal.count_once_more-requires-clause-fits
@@ -19,7 +19,7 @@ returns c before shows =
     let name : List ℕ = string_bytes c.in_ok-key.key in
     let named = key_named before label assigner shows c.base_key-base.result.now name c.uses_of-count.result c.base_key-base.ensures c.uses_of-count.ensures c.in_ok-key.ensures in
     let pushed : map string_bytes c.push.new.self.items ≡ map string_bytes assigner.keys.items ++ name ∷ [] = ap (map string_bytes) c.in_ok-push.ensures.items ∙ map-append string_bytes assigner.keys.items (c.in_ok-key.key ∷ []) in
-    recorded_now before label assigner shows (record { alloc = assigner.alloc; uses = c.count_once_more.new.uses; keys = c.push.new.self; extracts = c.keep_extract.new.extracts }) c.base_key-base.result.now name
+    assigned_now before label assigner shows (record { alloc = assigner.alloc; uses = c.count_once_more.new.uses; keys = c.push.new.self; extracts = c.keep_extract.new.extracts }) c.base_key-base.result.now name
     c.base_key-base.ensures named
     c.in_ok-count_once_more.ensures pushed
     (λ key. c.in_ok-keep_extract.ensures key ∙ ap (λ k. cond (bytes_eq k key && not (is_absent c.args.label.extract.now)) (Some c.args.label.extract.now) (option_map string_bytes (get_by_text assigner.extracts key))) c.as_str.ensures.value)

@@ -78,7 +78,7 @@ items-preserved-in-Measured-Ok c =
     let taken : (c.items.items ≡ item ∷ c.next_counted.new.items) × (c.next_counted.new.looks ≡ record { pieces = counted (cache.looks.pieces + 1); ends = cache.looks.ends }) = rw c.in-Some-Placeholder.is at c.in_ok-text.ensures in
     let room : levels - c.len.result ≡ levels - length frames = omega arith in
     let gives : (st : State) → ShowsState (record cache { looks = c.next_counted.new.looks }) st → ReturnsReading c.in-Measured-Ok.field-0 after (item_within alias_only resolve (levels - c.len.result) item st) =
-    subst (λ i. (st : State) → ShowsState (record cache { looks = c.next_counted.new.looks }) st → ReturnsReading c.in-Measured-Ok.field-0 after (item_within alias_only resolve (levels - c.len.result) i st)) (sym is) (rw c.in-Measured-Ok.is at c.in_ok-inner-in-Some-Placeholder.ensures.gives) in
+    subst (λ i. (st : State) → ShowsState (record cache { looks = c.next_counted.new.looks }) st → ReturnsReading c.in-Measured-Ok.field-0 after (item_within alias_only resolve (levels - c.len.result) i st)) (sym is) (rw c.in-Measured-Ok.is at c.in_ok-inner-in-Some-Placeholder.ensures.reading) in
     let here : (now : State) → ShowsState (piece_counted cache) now → ReturnsReading c.in-Measured-Ok.field-0 after (item_within alias_only resolve (levels - length frames) item now) =
     λ now s. subst (λ n. ReturnsReading c.in-Measured-Ok.field-0 after (item_within alias_only resolve n item now)) room (gives now (subst (λ (looks : Looks). ShowsState (record cache { looks = looks }) now) (sym taken.1) s)) in
     let low : IfOk c.in-Measured-Ok.field-0 (λ sum. sum.height ≤ levels - c.len.result) = rw c.in-Measured-Ok.is at c.in_ok-inner-in-Some-Placeholder.ensures.low in
@@ -115,7 +115,7 @@ items-smaller-in-Unread c =
     let text = c.in-Unread.stored.now in
     let taken : (c.items.items ≡ item ∷ c.next_counted.new.items) × (c.next_counted.new.looks ≡ record { pieces = counted (cache.looks.pieces + 1); ends = cache.looks.ends }) = rw c.in-Some-Placeholder.is at c.in_ok-text.ensures in
     let room : levels - c.len.result ≡ levels - length frames = omega arith in
-    let opened : MustBeMeasured (levels - c.len.result) label meaning text (record cache { looks = c.next_counted.new.looks }) after = rw c.in-Unread.is at c.in_ok-inner-in-Some-Placeholder.ensures.gives in
+    let opened : MustBeMeasured (levels - c.len.result) label meaning text (record cache { looks = c.next_counted.new.looks }) after = rw c.in-Unread.is at c.in_ok-inner-in-Some-Placeholder.ensures.reading in
     let frame : Frame = record { name = label.name; is_capturing = c.is_capturing.result; items = c.next_counted.new.items; sum = c.items.sum } in
     let pushed : c.push.new.self.items ≡ frames ++ frame ∷ [] = c.in_ok-push-in-Unread.ensures.items in
     let sound : AreSound resolve (finite.get texts) (item ∷ c.next_counted.new.items) = subst (AreSound resolve (finite.get texts)) taken.0 c.items.invariant.sound in
@@ -140,7 +140,7 @@ items-preserved-in-Unread c =
     let text = c.in-Unread.stored.now in
     let taken : (c.items.items ≡ item ∷ c.next_counted.new.items) × (c.next_counted.new.looks ≡ record { pieces = counted (cache.looks.pieces + 1); ends = cache.looks.ends }) = rw c.in-Some-Placeholder.is at c.in_ok-text.ensures in
     let room : levels - c.len.result ≡ levels - length frames = omega arith in
-    let opened : MustBeMeasured (levels - c.len.result) label meaning text (record cache { looks = c.next_counted.new.looks }) after = rw c.in-Unread.is at c.in_ok-inner-in-Some-Placeholder.ensures.gives in
+    let opened : MustBeMeasured (levels - c.len.result) label meaning text (record cache { looks = c.next_counted.new.looks }) after = rw c.in-Unread.is at c.in_ok-inner-in-Some-Placeholder.ensures.reading in
     let frame : Frame = record { name = label.name; is_capturing = c.is_capturing.result; items = c.next_counted.new.items; sum = c.items.sum } in
     let pushed : c.push.new.self.items ≡ frames ++ frame ∷ [] = c.in_ok-push-in-Unread.ensures.items in
     let sound : AreSound resolve (finite.get texts) (item ∷ c.next_counted.new.items) = subst (AreSound resolve (finite.get texts)) taken.0 c.items.invariant.sound in
@@ -215,7 +215,7 @@ returns-in-Measured-Err-clause-stops c =
     let taken : (c.items.items ≡ item ∷ c.next_counted.new.items) × (c.next_counted.new.looks ≡ record { pieces = counted (cache.looks.pieces + 1); ends = cache.looks.ends }) = rw c.in-Some-Placeholder.is at c.in_ok-text.ensures in
     let room : levels - c.len.result ≡ levels - length frames = omega arith in
     let gives : (st : State) → ShowsState (record cache { looks = c.next_counted.new.looks }) st → ReturnsReading c.in-Measured-Err.field-0 after (item_within alias_only resolve (levels - c.len.result) item st) =
-    subst (λ i. (st : State) → ShowsState (record cache { looks = c.next_counted.new.looks }) st → ReturnsReading c.in-Measured-Err.field-0 after (item_within alias_only resolve (levels - c.len.result) i st)) (sym is) (rw c.in-Measured-Err.is at c.in_ok-inner-in-Some-Placeholder.ensures.gives) in
+    subst (λ i. (st : State) → ShowsState (record cache { looks = c.next_counted.new.looks }) st → ReturnsReading c.in-Measured-Err.field-0 after (item_within alias_only resolve (levels - c.len.result) i st)) (sym is) (rw c.in-Measured-Err.is at c.in_ok-inner-in-Some-Placeholder.ensures.reading) in
     let here : (now : State) → ShowsState (piece_counted cache) now → ReturnsReading c.in-Measured-Err.field-0 after (item_within alias_only resolve (levels - length frames) item now) =
     λ now s. subst (λ n. ReturnsReading c.in-Measured-Err.field-0 after (item_within alias_only resolve n item now)) room (gives now (subst (λ (looks : Looks). ShowsState (record cache { looks = looks }) now) (sym taken.1) s)) in
     let fault : c.fault_after-in-Measured-Err.result.fault ≡ c.in-Measured-Err.failure.fault = rw c.in-Measured-Err.field-0-is at c.fault_after-in-Measured-Err.ensures.fault in

@@ -9,8 +9,8 @@ returns-in-Ok-clause-size c known =
     sym (ap result_view c.in-Ok.is) ∙ size_is c.args.self.now.mode.grok.now c.args.self.now.mode.with_alias_only c.args.levels c.args.text.now c.in_ok-answer.answer c.measure_text.new.self.frames.items c.args.self.now.cache c.measure_text.new.self.cache c.in_ok-answer.ensures.stops
     known.st known.shows known.is_true
 
-pub returns-in-Ok-clause-keeps : goal.returns-in-Ok-clause-keeps
-returns-in-Ok-clause-keeps c known =
+pub returns-in-Ok-clause-cache : goal.returns-in-Ok-clause-cache
+returns-in-Ok-clause-cache c known =
     subst (λ (mode : MeasureMode). ShowsCorrectState mode.grok.now mode.with_alias_only c.measure_text.new.self.cache) (sym c.in_ok-answer.ensures.mode)
     (done_true c.args.self.now.mode.grok.now c.args.self.now.mode.with_alias_only c.args.levels c.args.text.now c.in_ok-answer.answer c.measure_text.new.self.frames.items c.args.self.now.cache c.measure_text.new.self.cache c.in_ok-answer.ensures.stops
     c.in-Ok.sum c.in-Ok.is known)
@@ -20,8 +20,8 @@ returns-in_ok-remember_fault-in-Err-clause-size c known =
     sym (ap result_view c.in-Err.is) ∙ size_is c.args.self.now.mode.grok.now c.args.self.now.mode.with_alias_only c.args.levels c.args.text.now c.in_ok-answer.answer c.measure_text.new.self.frames.items c.args.self.now.cache c.measure_text.new.self.cache c.in_ok-answer.ensures.stops
     known.st known.shows known.is_true
 
-pub returns-in_ok-remember_fault-in-Err-clause-keeps : goal.returns-in_ok-remember_fault-in-Err-clause-keeps
-returns-in_ok-remember_fault-in-Err-clause-keeps c known =
+pub returns-in_ok-remember_fault-in-Err-clause-cache : goal.returns-in_ok-remember_fault-in-Err-clause-cache
+returns-in_ok-remember_fault-in-Err-clause-cache c known =
     subst (λ (mode : MeasureMode). ShowsCorrectState mode.grok.now mode.with_alias_only c.remember_fault.new.self.cache) (sym (c.in_ok-remember_fault-in-Err.ensures.mode ∙ c.in_ok-answer.ensures.mode))
     (failed_true c.args.self.now.mode.grok.now c.args.self.now.mode.with_alias_only c.args.levels c.args.text.now c.in_ok-answer.answer c.measure_text.new.self.frames.items c.args.self.now.cache c.measure_text.new.self.cache c.in_ok-answer.ensures.stops
     c.in-Err.failure c.remember_fault.new.self.cache c.in-Err.is c.in_ok-remember_fault-in-Err.ensures.remembers known)

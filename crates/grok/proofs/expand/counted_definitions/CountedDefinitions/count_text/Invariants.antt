@@ -1,0 +1,16 @@
+use Rattle.std.proofs.Common.{◌≡◌, None, length}
+use Rattle.std.specs.FinMap as finite
+use Rattle.grok.specs.CountedDefinitions.{resolve}
+use Rattle.grok.proofs.Sizes.TextsWithoutPlaceholders.{AreSound}
+use Rattle.grok.proofs.Keys.DefinitionsAreCounted.{IsCounting}
+use Rattle.grok.proofs.expand.counted_definitions.CountedDefinitions.count_text.Given as goal
+
+abbrev pub invariant-items : goal.invariant-items
+invariant-items l = record {
+  sound : AreSound (resolve l.mode) (finite.get l.mode.grok.now) l.items;
+  whole : l.part.uncounted ≡ None;
+  counting : IsCounting l.mode l.stored l.items l.part.read l.part.counted;
+}
+
+abbrev pub decreases-items : goal.decreases-items
+decreases-items l = length l.items
