@@ -1,5 +1,5 @@
 //! A search that owns its automata and their tables, and keeps both from line to line.
-ghost use Rattle.std.specs.Prelude.{◌≡◌, ◌+◌, ◌-◌, ◌/◌, ◌≤◌, true, Some, length, vec_len, string_bytes, option_map, slice_range, IfOk, IfSome, OnOk, IsTrue, IsFalse, IsCharBoundary};
+ghost use Rattle.std.specs.Prelude.{◌≡◌, ◌+◌, ◌-◌, ◌/◌, ◌≤◌, true, Some, None, length, vec_len, string_bytes, option_map, slice_range, IfOk, IfSome, OnOk, IsTrue, IsFalse, IsCharBoundary};
 ghost use Rattle.regex.specs.Patterns.{find_str, span};
 ghost use Rattle.regex.specs.Strings.{regex_source, regex_names};
 ghost use Rattle.regex_dfa.specs.Search.{IsForwardFor, IsReverseFor};
@@ -297,8 +297,8 @@ fn span_after(
 }
 
 /// Finds the span of the first match that starts at `from` or later, unless an automaton gives up.
-/// A match that starts before the first of the literals is tried first: if there is none, and no
-/// second literal either, then the rest of the line isn't read.
+/// If the line has only one of the literals, then no match starts after it. So the search stops as
+/// soon as none of the matches that start before it can go on.
 fn span_by_needles(
     program: &Program,
     facts: &MatchFacts,
@@ -318,15 +318,23 @@ fn span_by_needles(
     ensures back { IsReverseFor reverse.new program.now.dfa }
 {
     let last = inner.next_or_end(hay, from);
+    if may_start_after(program, facts, hay, last) {
+        return Ok(span_from(program, forward, reverse, hay, from)?);
+    }
     match forward.find_end_within(&program.dfa, hay, from, last, hay.len(), false) {
         End::At(end) => Ok(Some(span_to(program, reverse, hay, from, end)?)),
-        End::NoMatch if last == hay.len() => Ok(None),
-        End::NoMatch => match facts.next_position(program, hay, last + 1) {
-            Some(next) => Ok(span_from(program, forward, reverse, hay, next)?),
-            None => Ok(None),
-        },
+        End::NoMatch => Ok(None),
         End::Idle(_) | End::GaveUp => Err(Declined),
     }
+}
+
+/// Returns whether a match may start after this position, as far as the literals show.
+fn may_start_after(program: &Program, facts: &MatchFacts, hay: &[u8], position: usize) -> bool
+    requires facts_hold { ∥ AreMatchFactsOf (pattern_of program.now) facts.now ∥₁ }
+    requires inside { position ≤ length hay.now }
+    ensures { IsFalse result → leftmost program.now hay.now (position + 1) ≡ None }
+{
+    position < hay.len() && facts.next_position(program, hay, position + 1).is_some()
 }
 
 /// Finds the span of the first match that starts at `from` or later, unless an automaton gives up.

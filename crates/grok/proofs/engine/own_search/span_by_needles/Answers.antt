@@ -1,7 +1,7 @@
-use Rattle.std.proofs.Common.{◌+◌, refl, sym, ◌∙◌, ap, subst, arith, length, option_map, false}
+use Rattle.std.proofs.Common.{◌+◌, refl, sym, ◌∙◌, ap, subst, length, option_map, false}
 use Rattle.regex_dfa.specs.Search.{end_between, IsEndWithin}
 use Rattle.regex_vm.specs.Found.{span}
-use Rattle.regex_meta.proofs.ProgramLemmas.{IsLocated_within, leftmost_no_end_within, leftmost_beyond}
+use Rattle.regex_meta.proofs.ProgramLemmas.{IsLocated_within, leftmost_no_end_within}
 use Rattle.grok.proofs.engine.own_search.span_by_needles.Goals as goal
 
 pub span_to-requires-clause-ends : goal.span_to-requires-clause-ends
@@ -18,21 +18,4 @@ returns-in-NoMatch-clause-span c =
     let hay = c.args.hay.now in
     let last = c.next_or_end-last.result in
     let h = subst (IsEndWithin c.args.from (length hay) false (end_between p.dfa.nfa hay (length hay) c.args.from last)) c.in-NoMatch.is c.find_end_within.ensures.end in
-    sym (ap (option_map span) (leftmost_no_end_within p hay c.args.from last c.next_or_end-last.ensures.0 h ∙ leftmost_beyond p hay (last + 1) (omega arith)))
-
-pub returns-in_ok-span_from-in-Some-clause-span : goal.returns-in_ok-span_from-in-Some-clause-span
-returns-in_ok-span_from-in-Some-clause-span c =
-    let p = c.args.program.now in
-    let hay = c.args.hay.now in
-    let last = c.next_or_end-last.result in
-    let h = subst (IsEndWithin c.args.from (length hay) false (end_between p.dfa.nfa hay (length hay) c.args.from last)) c.in-NoMatch-2.is c.find_end_within.ensures.end in
-    c.in_ok-span_from-in-Some.ensures.span
-    ∙ sym (ap (option_map span) (leftmost_no_end_within p hay c.args.from last c.next_or_end-last.ensures.0 h ∙ c.in-Some.ensures.2))
-
-pub returns-in-None-clause-span : goal.returns-in-None-clause-span
-returns-in-None-clause-span c =
-    let p = c.args.program.now in
-    let hay = c.args.hay.now in
-    let last = c.next_or_end-last.result in
-    let h = subst (IsEndWithin c.args.from (length hay) false (end_between p.dfa.nfa hay (length hay) c.args.from last)) c.in-NoMatch-2.is c.find_end_within.ensures.end in
-    sym (ap (option_map span) (leftmost_no_end_within p hay c.args.from last c.next_or_end-last.ensures.0 h ∙ c.in-None.ensures))
+    sym (ap (option_map span) (leftmost_no_end_within p hay c.args.from last c.next_or_end-last.ensures.0 h ∙ c.may_start_after.ensures c.if-may_start_after.false))
