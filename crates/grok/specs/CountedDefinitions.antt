@@ -25,7 +25,8 @@ opened_events mode = inside (resolve mode)
 
 -- ---- counted placeholders
 
--- the uses of a base key are counted if the placeholder captures and can have the key of another one
+-- whether the use of a placeholder's base key is counted: only if the placeholder captures, and its key can clash with
+-- that of another one
 abbrev pub is_counted : CompileMode → Label → Bool
 is_counted mode label = is_capturing mode.with_alias_only label && can_clash mode.numbered.now (base_key label)
 

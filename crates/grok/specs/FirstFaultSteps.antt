@@ -25,7 +25,8 @@ abbrev pub tree_fault_view : CodeFault → TreeFault
 tree_fault_view (fault.Structural structural) = keys.Structural (fault_view structural)
 tree_fault_view (fault.Clash key) = keys.Clash (string_bytes key)
 
--- `key` is the key that the next capturing placeholder, with the label `label`, would get, but one in `before` has it
+-- The next capturing placeholder, whose label is `label`, would get the key `key`. But a placeholder in `before` already
+-- has that key.
 pub record Clashes (before : List Label) (label : Label) (key : String Global) : Type 0 where
   pub taken : is_among (key_after before label) (taken_of before) ≡ true
   pub named : string_bytes key ≡ key_after before label
@@ -127,7 +128,7 @@ abbrev pub IsCountableFault : CodeFault → Type 0
 IsCountableFault (fault.Structural structural) = Unit {0}
 IsCountableFault (fault.Clash key) = HasFittingNumber (string_bytes key)
 
--- the same of the fault that a step reports
+-- if the step reports a clash, the number of its key fits a `usize`
 abbrev pub ReportsCountable : ItemStep → Type 0
 ReportsCountable Skip = Unit {0}
 ReportsCountable (Enter items) = Unit {0}

@@ -14,7 +14,8 @@ pub data Progress (S : Type 0) : Type 0 where
   HasFault : (fault : Fault) (height : ℕ) → Progress S
   NeedsMoreThan : (levels : ℕ) → Progress S
 
--- the size or fault with `levels` levels left, or `None` if the definition has to be measured again
+-- What the progress of a definition says about it if `levels` levels are left: its size or its fault, or `None` if it
+-- has to be measured again.
 abbrev pub known_result : Progress Size → ℕ → Option (Result Size Fault)
 known_result InProgress levels = Some (Err TooDeep)
 known_result (HasSize size) levels = Some (if nat_lt size.height levels then Ok size else Err TooDeep)

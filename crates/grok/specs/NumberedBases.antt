@@ -25,7 +25,8 @@ opens_numbered_from base (FaultEvent fault ∷ events) = opens_numbered_from bas
 opens_numbered_from base (Open label meaning ∷ events) = if is_numbered_from base label.alias then true
     else opens_numbered_from base events
 
--- whether an alias that was added to `numbered` is numbered from the base key `base`
+-- whether an alias that was added to `numbered` is the base key `base` and then a number in brackets, as `x[1]` is for
+-- the base key `x`
 abbrev pub is_base_in : NumberedBases → List ℕ → Bool
 is_base_in numbered base = is_some (get_by (λ (key : Bor (List ℕ)). slice_cmp nat_cmp base key.now) numbered.bases)
 

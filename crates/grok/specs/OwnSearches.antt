@@ -18,13 +18,12 @@ use Rattle.grok.specs.declared.engine.match_facts.Needles.{Needles}
 abbrev pub IsTreeOf : List ℕ → Hir → Type 0
 IsTreeOf text hir = (names : Names) × Reads default_config text hir names
 
--- each match of `re` begins with one of the literals in `needles`, and the bytes around that are those that the frame
--- in `needles` allows
+-- Each match of `re` begins with one of the literals in `needles`, and `needles.frame` (what may stand before and after
+-- a literal) allows the bytes around it.
 abbrev pub BeginsEach : Re → Needles → Type 0
 BeginsEach re needles = StartsFramed re needles.literals (Some needles.frame)
 
--- each match of `re` contains one of the literals in `needles`, and the bytes around that are those that the frame in
--- `needles` allows
+-- Each match of `re` contains one of the literals in `needles`, and `needles.frame` allows the bytes around it.
 abbrev pub IsInEach : Re → Needles → Type 0
 IsInEach re needles = ContainsFramed re needles.literals (Some needles.frame)
 

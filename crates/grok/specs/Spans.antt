@@ -58,7 +58,9 @@ pub record StandsAt (T : List ℕ) (from : ℕ) (part : List ℕ) : Type 0 where
   pub range : IsRangeOf T (range_from from (length part))
   pub reads : text_in T (range_from from (length part)) ≡ part
 
--- the placeholder from s to e has its parts where `%{name:alias:extract=definition}` has them
+-- The placeholder in the byte range from s to e of T has its parts where the form `%{name:alias:extract=definition}` has
+-- them: the name after `%{`, the alias and the extract each after one more byte, and the definition before the `}` at the
+-- end. An absent part is empty.
 pub record PartsStand (T : List ℕ) (s e : ℕ) (p : spec.Parts) : Type 0 where
   pub fits : s + 2 + length p.name + length p.alias + length p.extract + length p.definition + 1 ≤ e
   pub name : StandsAt T (s + 2) p.name

@@ -65,8 +65,9 @@ StepsAtMeaning mode keys levels label meaning step.Here old new = ⊥
 StepsAtMeaning mode keys levels label meaning (step.Inside name definition) old new =
     (meaning ≡ Stored definition.now) × (label.name ≡ name.now) × (0 < levels) × (new ≡ old)
 
--- The open of a placeholder with the base key comes from the piece at this byte range of the text `found`, to which
--- this path leads, if this many levels are left. As many uses of the base key come before it as were left.
+-- The sought use is found: a placeholder with the base key `keys.base`. It is the piece at the byte range from `from` to
+-- `to` of the text `found`, and `path` has the definitions that lead there from `text`, where `levels` levels are left.
+-- Before it, `keys.base` is used `old.left` times.
 pub record IsUseAt (mode : CompileMode) (keys : SoughtKeys) (levels : ℕ) (text : List ℕ) (path : List (List ℕ))
     (found : List ℕ) (from to : ℕ) (old new : UsesSoFar) : Type 0 where
   pub label : Label
@@ -86,7 +87,8 @@ pub record HasBegun (stored : Definitions) (text : List ℕ) (searched : Searche
   pub pieces_are : searched.pieces ≡ pieces text
   pub starts : searched.begin ≡ 0
 
--- what the search of a pattern returns: where the use stands, or nothing if it passed over the whole pattern
+-- What the search of a pattern for the sought use of a base key returns: where the placeholder with that use is, or
+-- `None` if the search passed over the whole pattern.
 abbrev pub FindsUse : CompileMode → SoughtKeys → List ℕ → Option PlaceholderLocation → UsesSoFar → UsesSoFar → Type 0
 FindsUse mode keys pattern found old new = MatchOption found
     (HasPassedEvents mode keys (events (opened_events mode deepest) (resolve mode pattern)) old new)

@@ -132,8 +132,9 @@ fn step_at_group<'a>(
     }
 }
 
-/// Returns the size of a placeholder's definition, or `None` if the placeholder or its definition
-/// has a fault. Up to `levels` more levels may be open, of which the placeholder takes one.
+/// Returns the size of a placeholder's definition, or `None` if the definition has a structural
+/// fault or is nested too deeply. `levels` is how many more levels are allowed, with that of the
+/// placeholder itself.
 fn size_of_meaning<'a>(
     measurer: &mut Measurer<'a>,
     label: Label<'a>,

@@ -133,8 +133,10 @@ fn pass_label<'a>(
     so_far.pass(uses_by(base, keys.base), uses_by(base, keys.other))
 }
 
-/// Passes over a stored definition at once, if all of it is counted, `levels` levels are enough for
-/// it, and the use that is sought isn't in it.
+/// Skips a stored definition without reading it, and returns `true`: adds the uses that were counted
+/// of it to what `so_far` has passed. Returns `false` and changes nothing if the definition isn't
+/// counted to its end, if it needs more than `levels` levels (its placeholder's among them), or if
+/// the use that is sought is in it.
 fn pass_definition<'a>(
     definitions: &CountedDefinitions<'a>,
     keys: SoughtKeys<'_>,

@@ -8,7 +8,7 @@ use Rattle.grok_lines.specs.Streams.{answers_of, AreAnswersAfter}
 abbrev pub joined : List (List ℕ) → List ℕ
 joined lines = flat_map (λ line. line ++ codes "\n") lines
 
--- The lines that end in a line feed, each with its line feed, and then the rest of the input, are the input.
+-- An input is its ended lines, each followed by its line feed, and then the rest that has no line feed.
 abbrev pub InputsAreTheirLines : Type 0
 InputsAreTheirLines = (input : List ℕ) → joined (ended_lines_of input) ++ unended_of input ≡ input
 

@@ -5,7 +5,7 @@ use Rattle.std.specs.Str.{bytes_eq}
 use Rattle.json.specs.Word.{after_number}
 use Rattle.json.specs.Json.{Json, string, number}
 
--- Whether a reader has read the whole of a text. The argument is what it left of the text, or
+-- Whether a parser has consumed all of its text. The argument is the text that it left over, or
 -- `None` if it failed.
 abbrev pub is_all : Option (List ℕ) → Bool
 is_all None = false

@@ -78,7 +78,8 @@ impl OwnSearch {
     ///
     /// # Errors
     ///
-    /// `Declined` if the regex has another text, the search gives up, or memory runs out.
+    /// `Declined` if `regex` was built from another text than this search, if the search gives up,
+    /// or if an allocation fails.
     pub(crate) fn captures<'t>(
         &mut self,
         alloc: Global,
@@ -147,8 +148,9 @@ impl OwnSearch {
     }
 }
 
-/// Finds the span of the first match, and writes the cells of its groups, unless an automaton gives
-/// up. The lazy automata find the span, and inside it the tagged one finds the groups.
+/// Finds the span of the first match by the lazy automata. Then the tagged automaton finds the
+/// groups inside this span, and writes where each starts and ends to `cells` (see
+/// `OwnSearch::cells`). Returns `Declined` if an automaton gives up.
 fn leftmost_by_automata(
     program: &Program,
     facts: &MatchFacts,

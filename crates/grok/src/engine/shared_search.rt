@@ -21,8 +21,9 @@ enum Kept {
     Yes(Box<OwnSearch>),
 }
 
-/// A search whose automata are kept from the second call on. A call that finds it in use gets
-/// `Declined`, and so never waits.
+/// The search that all calls of one pattern share. The second call builds it, and later calls use
+/// its automata again. If another call is using it, a call gets `Declined` instead of waiting, and
+/// searches without it.
 #[derive(Drop)]
 pub(crate) struct SharedSearch {
     kept: Mutex<Kept>,

@@ -33,8 +33,8 @@ enum ItemStep<'a> {
     Report(TreeFault<'a>),
 }
 
-/// Returns the key that a placeholder would get if an earlier placeholder has that key. Otherwise
-/// counts the use of its base key and returns `None`.
+/// If an earlier placeholder already has the key that this placeholder would get, returns that key.
+/// Otherwise counts one more use of the placeholder's base key, and returns `None`.
 ///
 /// # Errors
 ///
