@@ -113,7 +113,8 @@ impl UsesSoFar {
     }
 }
 
-/// Passes over the own use of a placeholder, if it is counted, unless it is the one that is sought.
+/// Passes over a placeholder's own use of its base key, if that use is counted. Returns `false` and
+/// passes over nothing if it is the use that is sought.
 fn pass_label<'a>(
     mode: CompileMode<'a, '_>,
     keys: SoughtKeys<'_>,
@@ -133,8 +134,9 @@ fn pass_label<'a>(
     so_far.pass(uses_by(base, keys.base), uses_by(base, keys.other))
 }
 
-/// Passes over a stored definition at once, if all of it is counted, `levels` levels are enough for
-/// it, and the use that is sought isn't in it.
+/// Passes over all uses in a stored definition at once, if the whole definition was counted, `levels`
+/// levels are enough for it, and the use that is sought isn't in it. Otherwise returns `false` and
+/// passes over nothing.
 fn pass_definition<'a>(
     definitions: &CountedDefinitions<'a>,
     keys: SoughtKeys<'_>,
