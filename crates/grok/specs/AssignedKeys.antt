@@ -11,8 +11,8 @@ use Rattle.grok.specs.declared.expand.key_assigner.KeyAssigner.{KeyAssigner}
 
 -- ---- what was assigned
 
--- The assigner has assigned keys and extracts to the capturing placeholders `before`, the latest of which is the
--- first.
+-- The assigner has assigned keys to the capturing placeholders in `before`, a list that begins with the latest one. It
+-- has counted how often they use each base key, and has their keys and extracts.
 pub record HasAssigned (assigner : KeyAssigner) (before : List Label) : Type 0 where
   pub uses : (key : List ℕ) → unwrap_or (get_by_text assigner.uses key) 0
       ≡ how_often before key

@@ -1,4 +1,4 @@
--- What is counted of each definition before the first fault is looked for.
+-- What is counted of each definition before the search for the first fault.
 use Rattle.std.specs.Prelude.{◌≡◌, ℕ, suc, ◌<◌, ◌≤◌, Bool, true, false, List, [], ◌∷◌, ◌++◌, drop, Option, Some, None, MatchOption, ◌&&◌}
 use Rattle.std.specs.FinMap as finite
 use Rattle.std.specs.Ordering.{nat_cmp}
@@ -19,7 +19,8 @@ use Rattle.grok.specs.declared.expand.counted_definitions.CountedDefinitions.{Co
 abbrev pub resolve : CompileMode → List ℕ → List Item
 resolve mode = items_of (finite.get mode.grok.now)
 
--- the events of a text that a placeholder uses, if this many levels are allowed, its own among them
+-- The events after the open of a placeholder that stands for a text, up to its close. This many levels are allowed, and
+-- the placeholder takes one of them.
 abbrev pub opened_events : CompileMode → ℕ → List ℕ → List Event
 opened_events mode = inside (resolve mode)
 

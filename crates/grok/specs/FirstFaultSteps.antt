@@ -67,12 +67,12 @@ pub record HaveCounted (mode : CompileMode) (before : List Label) (es : List Eve
   pub none : counted_fault mode before es ≡ None
   pub is_count : IsCountOf total (counted_after mode before es)
 
--- the events of items of a definition, if `levels` levels are allowed, its own among them
+-- the events of items of a definition, if `levels` levels are allowed, of which its placeholder takes one
 abbrev pub events_inside : CompileMode → ℕ → List Item → List Event
 events_inside mode levels = events (opened_events mode (levels - 1))
 
--- Whether the items of a definition were skipped because they were counted at once. If they were (`true`), `new`
--- counts them too. If not (`false`), `new` counts the placeholders `before` alone.
+-- What the result of `skip_counted` means. If it is `true`, the counted items of a definition are skipped, and `new`
+-- counts them too. If it is `false`, `new` still counts only the placeholders in `before`.
 abbrev pub SkipsCounted : CompileMode → List Item → ℕ → List Label → KeyUses → KeyUses → Bool → Type 0
 SkipsCounted mode items levels before old new true = HaveCounted mode before (events_inside mode levels items) new
 SkipsCounted mode items levels before old new false = IsCountOf new before

@@ -113,7 +113,8 @@ impl UsesSoFar {
     }
 }
 
-/// Passes over the own use of a placeholder, if it is counted, unless it is the one that is sought.
+/// Passes over a placeholder's own use of its base key, if that use is counted. Returns `false` and
+/// passes over nothing if it is the use that is sought.
 fn pass_label<'a>(
     mode: CompileMode<'a, '_>,
     keys: SoughtKeys<'_>,

@@ -19,7 +19,7 @@ use Rattle.grok.specs.declared.locate_clash.SearchedText.{SearchedText}
 use Rattle.grok.specs.declared.locate_clash.SoughtKeys.{SoughtKeys}
 use Rattle.grok.specs.declared.locate_clash.UsesSoFar.{UsesSoFar}
 use Rattle.grok.proofs.Trees.FirstFaultIsLocated.{events-append}
-use Rattle.grok.proofs.Trees.ItemsStandAtPieces.{IsReading, reading_starts, nothing_before, reading_goes, one_more_before, reading_stands}
+use Rattle.grok.proofs.Trees.ItemsStandAtPieces.{IsReading, reading_starts, nothing_before, reading_goes_on, one_more_before, reading_stands}
 use Rattle.grok.proofs.Trees.EventsOnStack.{left_step, left_open, left_close}
 use Rattle.grok.proofs.Sizes.TextsWithoutPlaceholders.{AreSound}
 use Rattle.grok.proofs.Keys.DefinitionsAreCounted.{sound_first}
@@ -50,11 +50,11 @@ module _ (mode : CompileMode) (keys : SoughtKeys) (levels : ℕ) (text : List �
     seeking_ends over =
         subst (λ is. HasPassedEvents mode keys (events_of is) old mid) (sym (s.reading.items_are ∙ ap (λ is. s.reading.before ++ is) over ∙ append-nil s.reading.before)) s.passed
 
-    pub seeking_goes : (item : Item) (rest : List Item) → (cut : items ≡ item ∷ rest) → (found : Option GrokComponent) (later : List Piece) → YieldsFirstBy piece_view (λ ps. ps) left found later
+    pub seeking_goes_on : (item : Item) (rest : List Item) → (cut : items ≡ item ∷ rest) → (found : Option GrokComponent) (later : List Piece) → YieldsFirstBy piece_view (λ ps. ps) left found later
         → (end : ℕ) → ((known : Piece) → option_map piece_view found ≡ Some known → end ≡ end_of text known)
         → (new : UsesSoFar) → HasPassedEvents mode keys (events (opened_events mode levels) (item ∷ [])) mid new → IsSeeking later rest end old new
-    seeking_goes item rest cut found later yields end ends new one = record {
-      reading = reading_goes stored text left items begin s.reading item rest cut found later yields end ends;
+    seeking_goes_on item rest cut found later yields end ends new one = record {
+      reading = reading_goes_on stored text left items begin s.reading item rest cut found later yields end ends;
       passed =
           subst (λ is. HasPassedEvents mode keys (events_of is) old new) (sym (one_more_before stored text left items begin s.reading item rest cut found later yields end ends))
           (subst (λ es. HasPassedEvents mode keys es old new) (sym (events-append (opened_events mode levels) s.reading.before (item ∷ [])))
@@ -97,7 +97,7 @@ pub record HasOpened (mode : CompileMode) (keys : SoughtKeys) (outer : SearchedT
   pub seeking : IsSeeking mode keys levels outer.text.now left items begin start mid
   pub stands : StandsAt (finite.get mode.grok.now) outer.text.now seeking.reading.before begin outer.begin item
   pub leads : LeadsInside mode keys levels item name.now definition.now mid inside
-  pub goes : (new : UsesSoFar) → HasPassedEvents mode keys (events (opened_events mode levels) (item ∷ [])) mid new → IsSeeking mode keys levels outer.text.now outer.pieces outer.items outer.begin start new
+  pub goes_on : (new : UsesSoFar) → HasPassedEvents mode keys (events (opened_events mode levels) (item ∷ [])) mid new → IsSeeking mode keys levels outer.text.now outer.pieces outer.items outer.begin start new
 
 -- This path leads from the pattern to the text, through these texts around it.
 pub data IsWayTo (mode : CompileMode) (keys : SoughtKeys) (pattern : List ℕ) (old : UsesSoFar) : (path : List (Bor (List ℕ))) (around : List SearchedText) (levels : ℕ) (text : List ℕ) (start : UsesSoFar) → Type 0 where
@@ -194,7 +194,7 @@ module _ (mode : CompileMode) (keys : SoughtKeys) (pattern : List ℕ) (old : Us
       let (texts, last) = snoc_same above outside f outer (sym around_is ∙ is) in
       let long : length path - 1 ≡ length shorter = omega (arith, ap length path_is, length-append shorter (name ∷ [])) in
       let front : popped ≡ shorter = pops ∙ ap (λ n. take n path) long ∙ ap (take (length shorter)) path_is ∙ take-append_seam shorter (name ∷ []) in
-      let here : IsSearching shorter above f new = record { levels = suc levels; start = before; way = way; seeking = opened.goes new (passed_inside mode keys opened.item name definition levels opened.mid start new opened.leads passed) } in
+      let here : IsSearching shorter above f new = record { levels = suc levels; start = before; way = way; seeking = opened.goes_on new (passed_inside mode keys opened.item name definition levels opened.mid start new opened.leads passed) } in
       subst (λ names. IsSearching names outside outer new) (sym front) (subst (λ texts. IsSearching shorter texts outer new) texts (subst (λ text. IsSearching shorter above text new) last here))
 
   module _ (path : List (Bor (List ℕ))) (around : List SearchedText) (inner : SearchedText) (mid : UsesSoFar) (s : IsSearching path around inner mid) where
@@ -219,14 +219,14 @@ module _ (mode : CompileMode) (keys : SoughtKeys) (pattern : List ℕ) (old : Us
         abbrev advanced : SearchedText
         advanced = record { text = inner.text; items = rest; pieces = later; begin = end }
 
-        goes : (new : UsesSoFar) → HasPassedEvents mode keys (events (opened_events mode s.levels) (item ∷ [])) mid new → IsSeeking mode keys s.levels inner.text.now later rest end s.start new
-        goes new = seeking_goes mode keys s.levels inner.text.now inner.pieces inner.items inner.begin s.start mid s.seeking item rest cut found later yields end ends new
+        goes_on : (new : UsesSoFar) → HasPassedEvents mode keys (events (opened_events mode s.levels) (item ∷ [])) mid new → IsSeeking mode keys s.levels inner.text.now later rest end s.start new
+        goes_on new = seeking_goes_on mode keys s.levels inner.text.now inner.pieces inner.items inner.begin s.start mid s.seeking item rest cut found later yields end ends new
 
         stands : StandsAt (finite.get mode.grok.now) inner.text.now s.seeking.reading.before inner.begin end item
         stands = reading_stands (finite.get mode.grok.now) inner.text.now inner.pieces inner.items inner.begin s.seeking.reading item rest cut found later yields end ends
 
-        pub search_goes : (new : UsesSoFar) → HasPassedEvents mode keys (events (opened_events mode s.levels) (item ∷ [])) mid new → IsSearching path around (record { text = inner.text; items = rest; pieces = later; begin = end }) new
-        search_goes new passed = record { levels = s.levels; start = s.start; way = s.way; seeking = goes new passed }
+        pub search_goes_on : (new : UsesSoFar) → HasPassedEvents mode keys (events (opened_events mode s.levels) (item ∷ [])) mid new → IsSearching path around (record { text = inner.text; items = rest; pieces = later; begin = end }) new
+        search_goes_on new passed = record { levels = s.levels; start = s.start; way = s.way; seeking = goes_on new passed }
 
         pub search_finds : IsSoughtUse mode keys item mid → IsUseAt mode keys deepest pattern (path_view path) inner.text.now inner.begin end old mid
         search_finds u =
@@ -248,7 +248,7 @@ module _ (mode : CompileMode) (keys : SoughtKeys) (pattern : List ℕ) (old : Us
               seeking = s.seeking;
               stands = stands;
               leads = leads;
-              goes = goes;
+              goes_on = goes_on;
             } in
             record {
               levels = s.levels - 1;
@@ -271,8 +271,8 @@ module _ (mode : CompileMode) where
   pass_fewer around items item rest cut =
       let texts = items_left around in
       let inner = opened_events mode (deepest - length texts) in
-      let goes : left_of mode texts items ≡ events inner (item ∷ []) ++ left_of mode texts rest = ap (left_of mode texts) cut ∙ left_item (resolve mode) deepest texts item rest in
-      omega (arith, ap length goes, length-append (events inner (item ∷ [])) (left_of mode texts rest), some_event inner item)
+      let item_then_rest : left_of mode texts items ≡ events inner (item ∷ []) ++ left_of mode texts rest = ap (left_of mode texts) cut ∙ left_item (resolve mode) deepest texts item rest in
+      omega (arith, ap length item_then_rest, length-append (events inner (item ∷ [])) (left_of mode texts rest), some_event inner item)
 
   pub close_fewer : (around : List SearchedText) (items : List Item) (outside : List SearchedText) (outer : SearchedText) → items ≡ [] → around ≡ outside ++ outer ∷ []
       → length (left_of mode (items_left outside) outer.items) < length (left_of mode (items_left around) items)

@@ -292,23 +292,23 @@ module _ (alias_only : Bool) (resolve : List ℕ → List Item) where
 
   -- within these frames, with this size so far and these remaining items, the result is that of the whole
   -- pattern
-  pub record GoesOn (levels : ℕ) (whole : Reading) (frames : List Frame) (left : List Item) (so_far : PartialSize) (cache : MeasureCache) : Type 0 where
+  pub record ContinuesReading (levels : ℕ) (whole : Reading) (frames : List Frame) (left : List Item) (so_far : PartialSize) (cache : MeasureCache) : Type 0 where
     pub now : State
     pub total : Size
     pub is_sum : so_far ≡ shown total
     pub shows : ShowsState cache now
     pub rest : AreAround levels frames (after_size total (reads (levels - length frames) left now)) whole
 
-  pub goes_on_start : (levels : ℕ) (all : List Item) (st : State) (so_far : PartialSize) (cache : MeasureCache) → so_far ≡ shown no_size → ShowsState cache st → GoesOn levels (reads levels all st) [] all so_far cache
+  pub goes_on_start : (levels : ℕ) (all : List Item) (st : State) (so_far : PartialSize) (cache : MeasureCache) → so_far ≡ shown no_size → ShowsState cache st → ContinuesReading levels (reads levels all st) [] all so_far cache
   goes_on_start levels all st so_far cache e shows =
       let same : levels - 0 ≡ levels = omega arith in
       record { now = st; total = no_size; is_sum = e; shows = shows; rest = sym (after_no_size (reads levels all st)) ∙ ap (λ n. after_size no_size (reads n all st)) (sym same) }
 
   -- a text has ended, and the one around it goes on
-  pub end_goes_on : (levels : ℕ) (whole : Reading) (frames : List Frame) (frame : Frame) (so_far sum : PartialSize) (cache after : MeasureCache) → GoesOn levels whole (frames ++ frame ∷ []) [] so_far cache
+  pub end_goes_on : (levels : ℕ) (whole : Reading) (frames : List Frame) (frame : Frame) (so_far sum : PartialSize) (cache after : MeasureCache) → ContinuesReading levels whole (frames ++ frame ∷ []) [] so_far cache
       → ((now : State) (size : Size) → so_far ≡ shown size → ShowsState (end_counted cache) now → ShowsState after (with_progress now frame.name.now (HasSize size)))
       → ((x y : Size) → frame.sum ≡ shown x → so_far ≡ shown y → sum ≡ shown (plus x (in_brackets frame.is_capturing y)))
-      → GoesOn levels whole frames frame.items sum after
+      → ContinuesReading levels whole frames frame.items sum after
   end_goes_on levels whole frames frame so_far sum cache after g by_name adds =
       let read = with_reach (ended g.now) (max g.total.height g.now.reach) in
       let inner : Reading = (Ok (plus g.total no_size), read) in
@@ -327,7 +327,7 @@ module _ (alias_only : Bool) (resolve : List ℕ → List Item) where
         rest = subst (λ a. AreAround levels frames a whole) same p.rest;
       }
 
-  module _ (levels : ℕ) (whole : Reading) (frames : List Frame) (item : Item) (left : List Item) (so_far : PartialSize) (cache after : MeasureCache) (g : GoesOn levels whole frames (item ∷ left) so_far cache) where
+  module _ (levels : ℕ) (whole : Reading) (frames : List Frame) (item : Item) (left : List Item) (so_far : PartialSize) (cache after : MeasureCache) (g : ContinuesReading levels whole frames (item ∷ left) so_far cache) where
     abbrev room : ℕ
     room = levels - length frames
 
@@ -356,7 +356,7 @@ module _ (alias_only : Bool) (resolve : List ℕ → List Item) where
             leaves = ap (λ (a : Reading). a.1) end ∙ ap (λ f. unwound levels frames f now) (sym same);
           }
 
-      pub sum_goes_on : (one sum : PartialSize) → r ≡ Ok one → ((x y : Size) → so_far ≡ shown x → one ≡ shown y → sum ≡ shown (plus x y)) → GoesOn levels whole frames left sum after
+      pub sum_goes_on : (one sum : PartialSize) → r ≡ Ok one → ((x y : Size) → so_far ≡ shown x → one ≡ shown y → sum ≡ shown (plus x y)) → ContinuesReading levels whole frames left sum after
       unfolding gives
       sum_goes_on one sum is adds =
           let (z, p, q) = shown_ok here.0 one (sym (ap result_view is) ∙ gives.same) in
@@ -373,7 +373,7 @@ module _ (alias_only : Bool) (resolve : List ℕ → List Item) where
     -- a text is opened, and the one around it waits
     pub text_goes_on : (label : CodeLabel) (meaning : Meaning) (text : List ℕ) (capturing : Bool) (start : PartialSize) → item ≡ PlaceholderItem (label_view label) meaning
         → MustBeMeasured room label meaning text (piece_counted cache) after → capturing ≡ is_capturing alias_only (label_view label) → start ≡ shown no_size
-        → GoesOn levels whole (frames ++ record { name = label.name; is_capturing = capturing; items = left; sum = so_far } ∷ []) (resolve text) start after
+        → ContinuesReading levels whole (frames ++ record { name = label.name; is_capturing = capturing; items = left; sum = so_far } ∷ []) (resolve text) start after
     text_goes_on label meaning text capturing start is o has_key none_yet =
         let frame : Frame = record { name = label.name; is_capturing = capturing; items = left; sum = so_far } in
         let l = label_view label in

@@ -25,7 +25,7 @@ use Rattle.grok.proofs.Sizes.SizeIsThatOfTree.{fits_inside}
 use Rattle.grok.proofs.Sizes.TextsWithoutPlaceholders.{AreSound, flat_measured}
 use Rattle.grok.proofs.Trees.TextIsWritten.{clean_parts}
 use Rattle.grok.proofs.Trees.FirstFaultIsLocated.{events-append}
-use Rattle.grok.proofs.Trees.ItemsStandAtPieces.{IsReading, reading_goes}
+use Rattle.grok.proofs.Trees.ItemsStandAtPieces.{IsReading, reading_goes_on}
 
 -- ---- items
 
@@ -100,28 +100,28 @@ module _ (stored : Definitions) (alias_only : Bool) (levels : ℕ) (text : List 
       }
 
   -- all that is written up to the end of the next item
-  later_goes : (before : List Item) (item : Item) (sum : PartialSize) → IsLater alias_only ((xs ++ events (inside (items_of stored) levels) before) ++ events (inside (items_of stored) levels) (item ∷ [])) byte sum
+  later_goes_on : (before : List Item) (item : Item) (sum : PartialSize) → IsLater alias_only ((xs ++ events (inside (items_of stored) levels) before) ++ events (inside (items_of stored) levels) (item ∷ [])) byte sum
       → IsLater alias_only (xs ++ events (inside (items_of stored) levels) (before ++ item ∷ [])) byte sum
-  later_goes before item sum later =
+  later_goes_on before item sum later =
       subst (λ es. IsLater alias_only es byte sum) (append_assoc xs (events_of before) (events_of (item ∷ [])) ∙ ap (λ es. xs ++ es) (sym (events-append (inside (items_of stored) levels) before (item ∷ [])))) later
 
   module _ (left : List Piece) (items : List Item) (begin : ℕ) (sum : PartialSize) (s : IsSearching left items begin sum) (item : Item) (rest : List Item) (cut : items ≡ item ∷ rest) where
     pub next_sized : IsSizedItem stored alias_only item
     next_sized = sized_item stored alias_only item rest (subst (AreSound (items_of stored) stored) cut s.reading.sound)
 
-    pub searching_goes : (found : Option GrokComponent) (later : List Piece) → YieldsFirstBy piece_view (λ ps. ps) left found later
+    pub searching_goes_on : (found : Option GrokComponent) (later : List Piece) → YieldsFirstBy piece_view (λ ps. ps) left found later
         → (end : ℕ) → ((known : Piece) → option_map piece_view found ≡ Some known → end ≡ end_of text known)
         → (after : PartialSize)
         → IsLater alias_only ((xs ++ events (inside (items_of stored) levels) s.reading.before) ++ events (inside (items_of stored) levels) (item ∷ [])) byte after
         → IsSearching later rest end after
-    searching_goes found later yields end ends after passed =
+    searching_goes_on found later yields end ends after passed =
         let p = s.reading in
-        let q = reading_goes stored text left items begin p item rest cut found later yields end ends in
+        let q = reading_goes_on stored text left items begin p item rest cut found later yields end ends in
         let same : p.before ++ item ∷ [] ≡ q.before =
         append_cancel_right (p.before ++ item ∷ []) q.before rest (append_assoc p.before (item ∷ []) rest ∙ sym (p.items_are ∙ ap (λ is. p.before ++ is) cut) ∙ q.items_are) in
         record {
           reading = q;
-          later = subst (λ is. IsLater alias_only (xs ++ events (inside (items_of stored) levels) is) byte after) same (later_goes p.before item after passed);
+          later = subst (λ is. IsLater alias_only (xs ++ events (inside (items_of stored) levels) is) byte after) same (later_goes_on p.before item after passed);
         }
 
   module _ (clean : fault_within stored levels (items_of stored text) ≡ None) (left : List Piece) (items : List Item) (begin : ℕ) (sum : PartialSize) (s : IsSearching left items begin sum) where
@@ -257,12 +257,12 @@ module _ (stored : Definitions) (alias_only : Bool) (pattern : List ℕ) (byte :
       }
 
   -- the byte is written by what a placeholder of the text stands for
-  pub way_goes : (levels : ℕ) (sum head : PartialSize) (from to : ℕ) (items : List Item) (item : Item) (name definition : List ℕ) (way : IsWayTo stored alias_only pattern byte path levels text sum)
+  pub way_goes_on : (levels : ℕ) (sum head : PartialSize) (from to : ℕ) (items : List Item) (item : Item) (name definition : List ℕ) (way : IsWayTo stored alias_only pattern byte path levels text sum)
       → StandsAt stored text items from to item
       → IsWrittenInside stored alias_only levels (way.xs ++ events (inside (items_of stored) levels) items) byte item name definition head
       → IsWayTo stored alias_only pattern byte (path ++ name ∷ []) (levels - 1) definition head
-  way_goes zero sum head from to items item name definition way stands w = let bad : 0 ≡ suc w.below = w.room in absurd (omega arith)
-  way_goes (suc m) sum head from to items item name definition way stands w =
+  way_goes_on zero sum head from to items item name definition way stands w = let bad : 0 ≡ suc w.below = w.room in absurd (omega arith)
+  way_goes_on (suc m) sum head from to items item name definition way stands w =
       let room : suc m ≡ suc w.below = w.room in
       let same : m ≡ w.below = omega arith in
       let below : m ≡ suc m - 1 = omega arith in

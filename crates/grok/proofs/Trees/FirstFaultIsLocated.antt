@@ -23,7 +23,7 @@ use Rattle.grok.specs.FaultLocations.{fault_within, end_of, StandsAt, IsOwnFault
 use Rattle.grok.specs.FirstWrong.{fault_in, IsResolvedItem, IsFaultInside, IsWrong, IsFirstWrong}
 use Rattle.grok.proofs.Sizes.SizeIsThatOfTree.{first_structural-append, or_else, fits_inside}
 use Rattle.grok.proofs.Sizes.TextsWithoutPlaceholders.{flat_measured, AreSound}
-use Rattle.grok.proofs.Trees.ItemsStandAtPieces.{IsReading, reading_starts, nothing_before, reading_goes, one_more_before}
+use Rattle.grok.proofs.Trees.ItemsStandAtPieces.{IsReading, reading_starts, nothing_before, reading_goes_on, one_more_before}
 
 -- the first fault inside an opened text is that of its size
 pub fault_inside : (alias_only : Bool) (resolve : List ℕ → List Item) (levels : ℕ) (text : List ℕ) (s : Result Size Fault) → size_or_fault alias_only resolve levels text ≡ s
@@ -112,7 +112,7 @@ module _ (stored : Definitions) (levels : ℕ) (text : List ℕ) (left : List Pi
       → (end : ℕ) → ((known : Piece) → option_map piece_view found ≡ Some known → end ≡ end_of text known)
       → fault_within stored levels (item ∷ []) ≡ None → IsLocating stored levels text later rest end
   locating_goes_on found later yields end ends one = record {
-    reading = reading_goes stored text left items begin p.reading item rest cut found later yields end ends;
+    reading = reading_goes_on stored text left items begin p.reading item rest cut found later yields end ends;
     clean = ap (fault_within stored levels) (one_more_before stored text left items begin p.reading item rest cut found later yields end ends) ∙ clean_more stored levels p.reading.before item p.clean one;
   }
 
@@ -171,7 +171,7 @@ module _ (stored : Definitions) (pattern : List ℕ) (path : List (List ℕ)) (t
       let below : n ≡ suc n - 1 = omega arith in
       subst (λ k. IsWayDown stored pattern (path ++ name ∷ []) k definition) below (goes_inside n way f w)
 
-pub way_goes : (stored : Definitions) (pattern : List ℕ) (path : List (List ℕ)) (levels : ℕ) (text : List ℕ) (first : FirstWrong) (name definition : Bor (List ℕ)) → IsWayDown stored pattern path levels text
+pub way_goes_on : (stored : Definitions) (pattern : List ℕ) (path : List (List ℕ)) (levels : ℕ) (text : List ℕ) (first : FirstWrong) (name definition : Bor (List ℕ)) → IsWayDown stored pattern path levels text
     → IsFirstWrong stored levels text first → first.wrong ≡ wrong.Inside name definition → IsWayDown stored pattern (path ++ name.now ∷ []) (levels - 1) definition.now
-way_goes stored pattern path levels text first name definition way f is =
+way_goes_on stored pattern path levels text first name definition way f is =
     way_inside stored pattern path text first name.now definition.now levels way f (subst (IsWrong stored levels f.item) is f.wrong)

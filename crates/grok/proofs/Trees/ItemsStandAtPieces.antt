@@ -60,8 +60,8 @@ module _ (stored : Definitions) (text : List ℕ) (left : List Piece) (items : L
     next : NextPiece left later found
     next = next_piece found left later yields (λ none. let bad : suc (length rest) ≡ 0 = ap length (sym cut) ∙ r.parallel ∙ ap length none in absurd (omega arith))
 
-    pub reading_goes : IsReading stored text later rest end
-    reading_goes = record {
+    pub reading_goes_on : IsReading stored text later rest end
+    reading_goes_on = record {
       pieces_before = r.pieces_before ++ next.piece ∷ [];
       before = r.before ++ item ∷ [];
       pieces_are = r.pieces_are ∙ ap (λ ps. r.pieces_before ++ ps) next.cut ∙ sym (append_assoc r.pieces_before (next.piece ∷ []) later);
@@ -72,8 +72,8 @@ module _ (stored : Definitions) (text : List ℕ) (left : List Piece) (items : L
       sound = sound_rest (items_of stored) stored item rest (subst (AreSound (items_of stored) stored) cut r.sound);
     }
 
-    pub one_more_before : reading_goes.before ≡ r.before ++ item ∷ []
-    unfolding reading_goes
+    pub one_more_before : reading_goes_on.before ≡ r.before ++ item ∷ []
+    unfolding reading_goes_on
     one_more_before = refl
 
     pub reading_stands : StandsAt stored text r.before begin end item

@@ -5,7 +5,7 @@ use Rattle.grok.specs.Tree.{events, inside, items_of}
 use Rattle.grok.specs.Items.{item_view}
 use Rattle.grok.specs.ByteSteps.{IsByteStepAfter}
 use Rattle.grok.proofs.Trees.ItemsStandAtPieces.{reading_starts, reading_stands}
-use Rattle.grok.proofs.Trees.ByteIsLocated.{searching_starts, next_clean, next_sized, searching_goes, searching_ends}
+use Rattle.grok.proofs.Trees.ByteIsLocated.{searching_starts, next_clean, next_sized, searching_goes_on, searching_ends}
 use Rattle.grok.proofs.locate_byte.writing_piece.Goals as goal
 
 pub items-init : goal.items-init
@@ -41,7 +41,7 @@ items-preserved c = record {
       let s = c.items.invariant.searching true_before xs later clean in
       let one = next_clean stored alias_only levels text xs byte clean c.items.pieces c.items.items c.items.begin c.items.before s item rest cut in
       let sized = next_sized stored alias_only levels text xs byte c.items.pieces c.items.items c.items.begin c.items.before s item rest cut in
-      searching_goes stored alias_only levels text xs byte c.items.pieces c.items.items c.items.begin c.items.before s item rest cut c.next-in-Some.result c.next-in-Some.new.self c.next-in-Some.ensures.steps c.end_of-end.result c.end_of-end.ensures c.in-Later.after
+      searching_goes_on stored alias_only levels text xs byte c.items.pieces c.items.items c.items.begin c.items.before s item rest cut c.next-in-Some.result c.next-in-Some.new.self c.next-in-Some.ensures.steps c.end_of-end.result c.end_of-end.ensures c.in-Later.after
       (rw c.in-Later.is at (stepped (xs ++ events (inside (items_of stored) levels) s.reading.before) s.later one sized));
 }
 

@@ -5,7 +5,7 @@ use Rattle.grok.specs.Tree.{deepest}
 use Rattle.grok.specs.FaultLocations.{path_view}
 use Rattle.grok.specs.Items.{item_view}
 use Rattle.grok.specs.UseSteps.{StepsAtUse, IsUseAt, HasBegun}
-use Rattle.grok.proofs.Keys.UseIsFound.{search_starts, search_ends, search_closes, search_fits, search_levels, search_sound, search_goes, search_finds, search_enters, pass_fewer, close_fewer, enter_fewer}
+use Rattle.grok.proofs.Keys.UseIsFound.{search_starts, search_ends, search_closes, search_fits, search_levels, search_sound, search_goes_on, search_finds, search_enters, pass_fewer, close_fewer, enter_fewer}
 use Rattle.grok.proofs.locate_clash.find_use.Goals as goal
 
 pub items-init : goal.items-init
@@ -105,7 +105,7 @@ items-preserved-in-Later c =
     let levels : 1023 - c.len.result ≡ s.levels = ap (λ n. 1023 - n) (c.len.ensures ∙ c.items.around.ok.0) ∙ sym (search_levels mode keys pattern old path around inner mid s) in
     let new = c.step_at_item.new.so_far in
     let stepped = subst (λ n. StepsAtUse mode keys n item c.step_at_item.result mid new) levels (c.step_at_item.ensures (search_sound mode keys pattern old path around inner mid s item rest cut)) in
-    record { searching = search_goes mode keys pattern old path around inner mid s item rest cut c.next-in-items.result c.next-in-items.new.self c.next-in-items.ensures.steps c.end_of.result c.end_of.ensures new (rw c.in-Later.is at stepped) }
+    record { searching = search_goes_on mode keys pattern old path around inner mid s item rest cut c.next-in-items.result c.next-in-items.new.self c.next-in-items.ensures.steps c.end_of.result c.end_of.ensures new (rw c.in-Later.is at stepped) }
 
 pub returns-in-Here : goal.returns-in-Here
 returns-in-Here c =

@@ -7,7 +7,7 @@ use Rattle.grok.specs.Tree.{tree, deepest, items_of}
 use Rattle.grok.specs.Items.{fault_view}
 use Rattle.grok.specs.FaultLocations.{path_view, IsFaultAt, fault_within}
 use Rattle.grok.specs.FirstWrong.{IsFirstWrong}
-use Rattle.grok.proofs.Trees.FirstFaultIsLocated.{IsWayDown, fault_at, way_goes, way_ends}
+use Rattle.grok.proofs.Trees.FirstFaultIsLocated.{IsWayDown, fault_at, way_goes_on, way_ends}
 use Rattle.grok.proofs.defs.Grok.locate.Goals as goal
 
 pub returns-in-Here-clause-location : goal.returns-in-Here-clause-location
@@ -41,7 +41,7 @@ texts-preserved c =
     let path = path_view c.texts.path.items in
     let name = c.in-Inside.name in
     let longer : path_view c.push.new.self.items ≡ path ++ name.now ∷ [] = ap path_view c.in_ok-push-in-Inside.ensures.items ∙ map-append _ c.texts.path.items (name ∷ []) in
-    let below = way_goes stored c.args.pattern.now path c.texts.levels c.texts.text.now c.in-Some.first name c.in-Inside.stored c.texts.invariant.way first c.in-Inside.is in
+    let below = way_goes_on stored c.args.pattern.now path c.texts.levels c.texts.text.now c.in-Some.first name c.in-Inside.stored c.texts.invariant.way first c.in-Inside.is in
     record {
       utf8 = c.text-text.utf8;
       idle = c.in_ok-first.ensures.idle;

@@ -12,7 +12,7 @@ use Rattle.grok.specs.MeasureCache.{HasCorrectCache, measure_view}
 use Rattle.grok.specs.FaultLocations.{path_view}
 use Rattle.grok.specs.ByteSteps.{FindsWritingPiece, IsWritingPiece, IsWrittenInside}
 use Rattle.grok.proofs.Sizes.MeasuringAgain.{nothing_true}
-use Rattle.grok.proofs.Trees.ByteIsLocated.{IsWayTo, measured_faulty, measured_clean, way_starts, way_goes, way_ends}
+use Rattle.grok.proofs.Trees.ByteIsLocated.{IsWayTo, measured_faulty, measured_clean, way_starts, way_goes_on, way_ends}
 use Rattle.grok.proofs.defs.Grok.locate_byte.Goals as goal
 
 pub returns-in-Fault : goal.returns-in-Fault
@@ -118,7 +118,7 @@ texts-preserved c =
     let w : IsWrittenInside stored alias_only levels (inv.way.xs ++ events (inside (items_of stored) levels) p.items) byte p.item name.now definition.now c.in-Definition.head = rw c.in-Definition.is at p.writer in
     let path = path_view c.texts.path.items in
     let longer : path_view c.push.new.self.items ≡ path ++ name.now ∷ [] = ap path_view c.in_ok-push-in-Definition.ensures.items ∙ map-append _ c.texts.path.items (name ∷ []) in
-    let below = way_goes stored alias_only c.args.pattern.now byte path text levels c.texts.before c.in-Definition.head piece.range.start piece.range.end p.items p.item name.now definition.now inv.way p.stands w in
+    let below = way_goes_on stored alias_only c.args.pattern.now byte path text levels c.texts.before c.in-Definition.head piece.range.start piece.range.end p.items p.item name.now definition.now inv.way p.stands w in
     let mode = c.in_ok-piece.ensures.mode in
     record {
       utf8 = search rules;

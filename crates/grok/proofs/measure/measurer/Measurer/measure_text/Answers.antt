@@ -14,7 +14,7 @@ use Rattle.grok.specs.declared.measure.measurer.Frame.{Frame}
 use Rattle.grok.proofs.Sizes.TextsWithoutPlaceholders.{AreSound, sound_rest}
 use Rattle.grok.proofs.Texts.EntriesAreTable.{table_of}
 use Rattle.grok.proofs.Sizes.ItemsAreSound.{sound_texts}
-use Rattle.grok.proofs.Sizes.MeasureLoop.{GoesOn, piece_counted, text_gives, fault_gives, goes_on_start, fault_stops, sum_goes_on, text_goes_on, end_goes_on}
+use Rattle.grok.proofs.Sizes.MeasureLoop.{ContinuesReading, piece_counted, text_gives, fault_gives, goes_on_start, fault_stops, sum_goes_on, text_goes_on, end_goes_on}
 use Rattle.grok.proofs.Sizes.MeasureLoopEnds.{AreFit, work_left, fit_low, fit_push, fit_pop, less_opened, less_ended}
 use Rattle.grok.proofs.measure.measurer.Measurer.measure_text.Goals as goal
 
@@ -26,9 +26,9 @@ items-init c =
     record {
       mode = refl;
       goes_on = λ st shows.
-          subst (λ items. GoesOn c.args.self.now.mode.with_alias_only resolve c.args.levels (items_within c.args.self.now.mode.with_alias_only resolve c.args.levels (resolve c.args.text.now) st) c.args.self.now.frames.items items c.size_of_text-sum.result c.args.self.now.cache)
+          subst (λ items. ContinuesReading c.args.self.now.mode.with_alias_only resolve c.args.levels (items_within c.args.self.now.mode.with_alias_only resolve c.args.levels (resolve c.args.text.now) st) c.args.self.now.frames.items items c.size_of_text-sum.result c.args.self.now.cache)
           (sym c.of_text-items.ensures)
-          (subst (λ frames. GoesOn c.args.self.now.mode.with_alias_only resolve c.args.levels (items_within c.args.self.now.mode.with_alias_only resolve c.args.levels (resolve c.args.text.now) st) frames (resolve c.args.text.now) c.size_of_text-sum.result c.args.self.now.cache)
+          (subst (λ frames. ContinuesReading c.args.self.now.mode.with_alias_only resolve c.args.levels (items_within c.args.self.now.mode.with_alias_only resolve c.args.levels (resolve c.args.text.now) st) frames (resolve c.args.text.now) c.size_of_text-sum.result c.args.self.now.cache)
           (sym none)
           (goes_on_start c.args.self.now.mode.with_alias_only resolve c.args.levels (resolve c.args.text.now) st c.size_of_text-sum.result c.args.self.now.cache c.size_of_text-sum.ensures.shown shows));
       fit = subst (AreFit resolve (finite.get texts) c.args.levels) (sym none) tt;
@@ -54,8 +54,8 @@ items-preserved-in-Some-Text c =
       mode = c.items.invariant.mode;
       goes_on = λ st shows.
           let whole = items_within alias_only resolve levels (resolve c.args.text.now) st in
-          subst (λ (looks : Looks). GoesOn alias_only resolve levels whole frames c.next_counted.new.items c.add-sum.result (record cache { looks = looks })) (sym taken.1)
-          (sum_goes_on alias_only resolve levels whole frames item c.next_counted.new.items c.items.sum cache (piece_counted cache) (subst (λ items. GoesOn alias_only resolve levels whole frames items c.items.sum cache) taken.0 (c.items.invariant.goes_on st shows))
+          subst (λ (looks : Looks). ContinuesReading alias_only resolve levels whole frames c.next_counted.new.items c.add-sum.result (record cache { looks = looks })) (sym taken.1)
+          (sum_goes_on alias_only resolve levels whole frames item c.next_counted.new.items c.items.sum cache (piece_counted cache) (subst (λ items. ContinuesReading alias_only resolve levels whole frames items c.items.sum cache) taken.0 (c.items.invariant.goes_on st shows))
           (Ok one) (λ now s. subst (λ i. ReturnsReading (Ok one) (piece_counted cache) (item_within alias_only resolve (levels - length frames) i now)) (sym (ap item_view c.in-Some-Text.field-0-is))
           (text_gives alias_only resolve (levels - length frames) text now (piece_counted cache) one c.size_of_text.ensures.shown s)) one c.add-sum.result refl c.add-sum.ensures.adds);
       fit = c.items.invariant.fit;
@@ -91,7 +91,7 @@ items-preserved-in-Measured-Ok c =
       mode = c.items.invariant.mode;
       goes_on = λ st shows.
           let whole = items_within alias_only resolve levels (resolve c.args.text.now) st in
-          sum_goes_on alias_only resolve levels whole frames item c.next_counted.new.items c.items.sum cache after (subst (λ items. GoesOn alias_only resolve levels whole frames items c.items.sum cache) taken.0 (c.items.invariant.goes_on st shows))
+          sum_goes_on alias_only resolve levels whole frames item c.next_counted.new.items c.items.sum cache after (subst (λ items. ContinuesReading alias_only resolve levels whole frames items c.items.sum cache) taken.0 (c.items.invariant.goes_on st shows))
           c.in-Measured-Ok.field-0 here c.in-Measured-Ok.one c.add-sum-in-Measured-Ok.result c.in-Measured-Ok.field-0-is adds;
       fit = c.items.invariant.fit;
       low = omega (arith, c.items.invariant.low, low', room, height);
@@ -152,9 +152,9 @@ items-preserved-in-Unread c =
       mode = c.items.invariant.mode;
       goes_on = λ st shows.
           let whole = items_within alias_only resolve levels (resolve c.args.text.now) st in
-          subst (λ items. GoesOn alias_only resolve levels whole c.push.new.self.items items c.size_of_text-sum-in-Unread.result after) (sym c.of_stored-items.ensures)
-          (subst (λ fs. GoesOn alias_only resolve levels whole fs (resolve text) c.size_of_text-sum-in-Unread.result after) (sym pushed)
-          (text_goes_on alias_only resolve levels whole frames item c.next_counted.new.items c.items.sum cache after (subst (λ items. GoesOn alias_only resolve levels whole frames items c.items.sum cache) taken.0 (c.items.invariant.goes_on st shows))
+          subst (λ items. ContinuesReading alias_only resolve levels whole c.push.new.self.items items c.size_of_text-sum-in-Unread.result after) (sym c.of_stored-items.ensures)
+          (subst (λ fs. ContinuesReading alias_only resolve levels whole fs (resolve text) c.size_of_text-sum-in-Unread.result after) (sym pushed)
+          (text_goes_on alias_only resolve levels whole frames item c.next_counted.new.items c.items.sum cache after (subst (λ items. ContinuesReading alias_only resolve levels whole frames items c.items.sum cache) taken.0 (c.items.invariant.goes_on st shows))
           label meaning text c.is_capturing.result c.size_of_text-sum-in-Unread.result is here c.is_capturing.ensures c.size_of_text-sum-in-Unread.ensures.shown));
       fit = subst (AreFit resolve (finite.get texts) levels) (sym pushed) (fit_push resolve (finite.get texts) levels frames frame c.items.invariant.fit c.items.invariant.low (sound_rest resolve (finite.get texts) item c.next_counted.new.items sound));
       low = omega (arith, c.size_of_text-sum-in-Unread.ensures.height);
@@ -191,8 +191,8 @@ items-preserved c =
       mode = c.items.invariant.mode;
       goes_on = λ st shows.
           let whole = items_within alias_only resolve levels (resolve c.args.text.now) st in
-          let g = subst (λ items. GoesOn alias_only resolve levels whole c.items.self.frames.items items c.items.sum cache) taken.0 (c.items.invariant.goes_on st shows) in
-          end_goes_on alias_only resolve levels whole frames frame c.items.sum c.add-sum-in-Some.result cache c.set_progress.new.self (subst (λ fs. GoesOn alias_only resolve levels whole fs [] c.items.sum cache) popped g)
+          let g = subst (λ items. ContinuesReading alias_only resolve levels whole c.items.self.frames.items items c.items.sum cache) taken.0 (c.items.invariant.goes_on st shows) in
+          end_goes_on alias_only resolve levels whole frames frame c.items.sum c.add-sum-in-Some.result cache c.set_progress.new.self (subst (λ fs. ContinuesReading alias_only resolve levels whole fs [] c.items.sum cache) popped g)
           (λ now size is s. c.in_ok-set_progress-in-Some.ensures.shows now (kept.HasSize size) (ap kept.HasSize is) (subst (λ (looks : Looks). ShowsState (record cache { looks = looks }) now) (sym taken.1) s))
           (λ x y a b. c.add-sum-in-Some.ensures.adds x (in_brackets frame.is_capturing y) a (c.bracketed-inner.ensures.brackets y b));
       fit = p.fit;
@@ -222,7 +222,7 @@ returns-in-Measured-Err-clause-stops c =
     let reach : c.fault_after-in-Measured-Err.result.height ≡ max c.items.sum.height c.in-Measured-Err.failure.height = rw c.in-Measured-Err.field-0-is at c.fault_after-in-Measured-Err.ensures.reach in
     λ st shows.
     let whole = items_within alias_only resolve levels (resolve c.args.text.now) st in
-    fault_stops alias_only resolve levels whole frames item c.next_counted.new.items c.items.sum cache after (subst (λ items. GoesOn alias_only resolve levels whole frames items c.items.sum cache) taken.0 (c.items.invariant.goes_on st shows))
+    fault_stops alias_only resolve levels whole frames item c.next_counted.new.items c.items.sum cache after (subst (λ items. ContinuesReading alias_only resolve levels whole frames items c.items.sum cache) taken.0 (c.items.invariant.goes_on st shows))
     c.in-Measured-Err.field-0 here c.in-Measured-Err.failure c.fault_after-in-Measured-Err.result c.in-Measured-Err.field-0-is fault reach
 
 pub returns-in-Some-Fault-clause-stops : goal.returns-in-Some-Fault-clause-stops
@@ -239,7 +239,7 @@ returns-in-Some-Fault-clause-stops c =
     λ st shows.
     let whole = items_within alias_only resolve levels (resolve c.args.text.now) st in
     subst (λ (looks : Looks). StopsReading levels (Err c.fault_after.result) frames (record cache { looks = looks }) whole) (sym taken.1)
-    (fault_stops alias_only resolve levels whole frames item c.next_counted.new.items c.items.sum cache (piece_counted cache) (subst (λ items. GoesOn alias_only resolve levels whole frames items c.items.sum cache) taken.0 (c.items.invariant.goes_on st shows))
+    (fault_stops alias_only resolve levels whole frames item c.next_counted.new.items c.items.sum cache (piece_counted cache) (subst (λ items. ContinuesReading alias_only resolve levels whole frames items c.items.sum cache) taken.0 (c.items.invariant.goes_on st shows))
     (Err failure) (λ now s. subst (λ i. ReturnsReading (Err failure) (piece_counted cache) (item_within alias_only resolve (levels - length frames) i now)) (sym (ap item_view c.in-Some-Fault.field-0-is))
     (fault_gives alias_only resolve (levels - length frames) now (piece_counted cache) failure refl s)) failure c.fault_after.result refl c.fault_after.ensures.fault c.fault_after.ensures.reach)
 
