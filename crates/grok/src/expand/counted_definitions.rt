@@ -2,12 +2,13 @@
 //! often each base key is used that can take part in a clash.
 ghost use Rattle.std.specs.Prelude.{◌≡◌, ℕ, ◌+◌, ◌<◌, ◌≤◌, List, if◌then◌else◌, IsTrue, IfOk, OnOk, IfSome, Some, false};
 ghost use Rattle.std.specs.Str.{bytes_eq};
+ghost use Rattle.std.specs.Option.{option_copied};
 ghost use Rattle.std.specs.FinMap as finite;
 ghost use Rattle.grok.specs.Tree as tree;
 ghost use Rattle.grok.specs.Keys.{base_key as base_key_of};
 ghost use Rattle.grok.specs.Items.{label_view, item_view};
 ghost use Rattle.grok.specs.KeyUses.{CountsUses};
-ghost use Rattle.grok.specs.CountedDefinitions.{is_counted, IsCountOfText, IsCountOfItems, IsCountedPartOf, AreCounted, IsSoundItem, with_item};
+ghost use Rattle.grok.specs.CountedDefinitions.{is_counted, IsCountOfText, IsCountOfItems, IsCountedPartOf, AreCounted, IsSoundItem, counted_part_of, with_item};
 
 use crate::defs::Grok;
 use crate::defs::definition::Definition;
@@ -143,7 +144,8 @@ impl<'a> CountedItems<'a> {
 impl<'a> CountedDefinitions<'a> {
     /// Returns the counted part of the definition of a name, if there is one.
     pub fn of_name(&self, name: &'a str) -> Option<&CountedPart<'a>>
-        ensures { IfSome result (λ part. (mode : CompileMode) → AreCounted mode self.now → (text : List ℕ)
+        ensures kept { option_copied result ≡ counted_part_of self.now.by_name name.now }
+        ensures part { IfSome result (λ part. (mode : CompileMode) → AreCounted mode self.now → (text : List ℕ)
             → finite.get mode.grok.now name.now ≡ Some text → IsCountedPartOf mode text part.now) }
     {
         self.by_name.get(&name)

@@ -24,5 +24,5 @@ returns-in-Some c =
     let text = c.in-Stored.field-0.now in
     placeholder_counted c.args.mode (item_view c.args.item) label (Stored text) c.args.counted.now c.add_placeholder-in-Some.new.self c.in-Some.part.now.counted c.add_placeholder-in-Some.result
     (ap item_view c.in-Placeholder.is ∙ ap (λ m. PlaceholderItem label (meaning_view m)) c.in-Stored.is)
-    (λ sound. whole_text_counted c.args.mode text c.in-Some.part.now (c.in-Some.ensures c.args.mode c.requires text sound) (none_left c.in-Some.part.now.uncounted c.is_none.result c.is_none.ensures c.if-is_none.true))
+    (λ sound. whole_text_counted c.args.mode text c.in-Some.part.now (c.in-Some.ensures.part c.args.mode c.requires text sound) (none_left c.in-Some.part.now.uncounted c.is_none.result c.is_none.ensures c.if-is_none.true))
     c.add_placeholder-in-Some.ensures

@@ -7,7 +7,7 @@ use Rattle.grok.specs.CountedDefinitions.{IsCountedPartOf, AreCounted, counted_p
 use Rattle.grok.proofs.expand.counted_definitions.CountedDefinitions.of_name.Goals as goal
 
 pub returns : goal.returns
-returns c = found c.get.result c.get.ensures.value
+returns c = record { kept = c.get.ensures.value; part = found c.get.result c.get.ensures.value }
   where
     found : (o : Option (Bor CountedPart)) → option_copied o ≡ counted_part_of c.args.self.now.by_name c.args.name.now → IfSome o (λ part. (mode : CompileMode) → AreCounted mode c.args.self.now → (text : List ℕ) → finite.get mode.grok.now c.args.name.now ≡ Some text → IsCountedPartOf mode text part.now)
     found None e = tt
