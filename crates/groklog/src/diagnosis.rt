@@ -51,23 +51,27 @@ fn advice_for_name(alloc: Global, grok: &Grok, name: &str) -> Result<String, All
 
 /// Returns the words that describe where a fault is: in the pattern, or in the last definition of
 /// the path. For a definition they say where it was given, and which definitions lead to it.
-fn place_of(alloc: Global, library: &Library<'_>, path: &[&str]) -> Result<String, AllocError> {
+fn describe_location(
+    alloc: Global,
+    library: &Library<'_>,
+    path: &[&str],
+) -> Result<String, AllocError> {
     let Some((name, through)) = path.split_last() else {
         return String::from_str(alloc, "the pattern");
     };
-    let mut place = format!(in alloc; "the definition {name}")?;
+    let mut words = format!(in alloc; "the definition {name}")?;
     if let Some(source) = library.source(name) {
         let origin = format!(in alloc; " ({})", source.origin)?;
-        place.push_str(origin.as_str())?;
+        words.push_str(origin.as_str())?;
     }
     for (number, step) in through.iter().take(MOST_STEPS).enumerate() {
-        place.push_str(if number == 0 { ", used by " } else { " > " })?;
-        place.push_str(step)?;
+        words.push_str(if number == 0 { ", used by " } else { " > " })?;
+        words.push_str(step)?;
     }
     if through.len() > MOST_STEPS {
-        place.push_str(" > ...")?;
+        words.push_str(" > ...")?;
     }
-    Ok(place)
+    Ok(words)
 }
 
 /// Returns how many bytes at the start of a text belong to a name.
@@ -237,8 +241,8 @@ fn located_report(
         return Ok(None);
     }
     let (mut report, part) = structural_report(alloc, library, &location)?;
-    let place = place_of(alloc, library, location.path.as_slice())?;
-    report.add_part(place, excerpt(alloc, location.text, part)?)?;
+    let words = describe_location(alloc, library, location.path.as_slice())?;
+    report.add_part(words, excerpt(alloc, location.text, part)?)?;
     Ok(Some(report))
 }
 
@@ -287,9 +291,9 @@ fn clash_report(
     let what = clashing(alloc, clash.key.as_str())?;
     let mut report = Report::new(alloc, what.as_str(), "give one of them another alias")?;
     for placeholder in [&clash.first, &clash.second] {
-        let place = place_of(alloc, library, placeholder.path.as_slice())?;
+        let words = describe_location(alloc, library, placeholder.path.as_slice())?;
         let range = placeholder.range.start..placeholder.range.end;
-        report.add_part(place, excerpt(alloc, placeholder.text, range)?)?;
+        report.add_part(words, excerpt(alloc, placeholder.text, range)?)?;
     }
     Ok(Some(report))
 }
@@ -370,9 +374,9 @@ fn syntax_report<'x>(
     let part = error.span.start..error.span.end;
     let origin = origin_of(alloc, library, pattern, with_alias_only, part)?;
     let advice = advice_for_refusal(alloc, origin.text)?;
-    let place = place_of(alloc, library, origin.path.as_slice())?;
+    let words = describe_location(alloc, library, origin.path.as_slice())?;
     let mut report = Report::new(alloc, what.as_str(), advice)?;
-    report.add_part(place, excerpt(alloc, origin.text, origin.range)?)?;
+    report.add_part(words, excerpt(alloc, origin.text, origin.range)?)?;
     Ok(report)
 }
 
