@@ -59,7 +59,7 @@ no-position hay i (suc n) h =
 line-between : (hay : List ℕ) (i n : ℕ) → Nowhere (Passes (is_byte 10) hay) i (i + n) → IsLine (take n (drop i hay))
 line-between hay i n f = line_below (drop i hay) n (λ k lt. rw (get_or-drop i hay k 0) (f (i + k) (omega arith) (omega arith)))
 
--- a line feed stands at p, the line from i on ends there, and the line feeds after it are ps
+-- There is a line feed at p, the line from i on ends there, and the line feeds after it are ps.
 pub record EndsLine (hay : List ℕ) (i p : ℕ) (ps : List ℕ) : Type 0 where
   pub low : i ≤ p
   pub high : p < length hay

@@ -9,7 +9,7 @@ use Rattle.grok_lines.proofs.Appending.{appends_both, appends_same, appends_stil
 use Rattle.grok_lines.proofs.LineLemmas.{ended-line, unended-line, line-append, ended-none, unended-none, ended-append, unended-append, lines-split}
 use Rattle.grok_lines.proofs.Numbering.{answers_append, after_none, after_both}
 
--- `sent` are the first lines of `all`, their answers by `f` have gone out, `left` stands after them, and `g` answers the lines
+-- `sent` are the first lines of `all`, their answers by `f` have gone out, `left` follows them, and `g` answers the lines
 -- that come next
 pub record Fed (f g : ℕ → List ℕ → List ℕ) (old new : Option (List ℕ)) (all left : List ℕ) : Type 0 where
   pub sent : List (List ℕ)
@@ -18,7 +18,7 @@ pub record Fed (f g : ℕ → List ℕ → List ℕ) (old new : Option (List ℕ
   pub written : Appends old new (answers_of f sent)
   pub next : AreAnswersAfter (length sent) f g
 
--- `bytes` were read, the answers by `f` to their ended lines have gone out, `left` stands after those, and `g` answers the lines
+-- `bytes` were read, the answers by `f` to their ended lines have gone out, `left` follows those, and `g` answers the lines
 -- that come next
 pub record Streamed (f g : ℕ → List ℕ → List ℕ) (t : Traffic) (left : List ℕ) : Type 0 where
   pub bytes : List ℕ

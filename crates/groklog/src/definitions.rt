@@ -123,7 +123,8 @@ fn is_skipped(line: &str) -> bool {
 }
 
 /// Appends the definitions in the text of a file to `found`. If a line is neither a definition nor
-/// skipped, stops there, and returns where the line is and the line itself.
+/// skipped, stops there, and returns where the line is and the line itself. A byte order mark at
+/// the start of the text, which some editors on Windows write, is skipped too.
 ///
 /// # Errors
 ///
@@ -133,6 +134,7 @@ pub fn read_file<'a>(
     file: &'a str,
     text: &'a str,
 ) -> Result<Option<(Origin<'a>, &'a str)>, AllocError> {
+    let text = text.strip_prefix('\u{feff}').unwrap_or(text);
     let mut number = 0u64;
     for line in text.split('\n') {
         number = number.saturating_add(1);

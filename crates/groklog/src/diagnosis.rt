@@ -1,17 +1,19 @@
 //! Reports what is wrong with a pattern that can't be compiled, where, and what to do.
 
 use crate::excerpt::excerpt;
+use crate::expansion::definitions_in;
 use crate::fault::Report;
 use crate::library::Library;
 use crate::logstash::is_refused;
 use grok::parser::GrokPatternError;
 use grok::{Error, Fault, FaultLocation, Grok, RefusalReason, WrittenByte};
+use regex_syntax::ErrorKind;
 use std::alloc::{AllocError, Global};
 use std::ops::Range;
-use strsim::levenshtein;
+use strsim::osa_distance;
 
-/// The largest edit distance at which a name is still suggested.
-const MOST_EDITS: usize = 3;
+/// How deep placeholders can be nested.
+const MOST_LEVELS: usize = 1023;
 
 /// How many of the definitions that lead to a fault are named at most.
 const MOST_STEPS: usize = 8;
@@ -24,14 +26,28 @@ const PLACEHOLDERS: &str =
 const FROM_LOGSTASH: &str =
     "use --from-logstash, which rewrites lookarounds, atomic groups and \\h, and reports each change";
 
+/// Returns a name with its ASCII letters in upper case.
+fn in_upper_case(alloc: Global, name: &str) -> Result<String, AllocError> {
+    let mut upper = String::new(alloc);
+    for c in name.chars() {
+        upper.push(c.to_ascii_uppercase())?;
+    }
+    Ok(upper)
+}
+
 /// Returns the name of a definition that has the smallest edit distance from `name`, or `None` if
-/// none is close enough.
+/// none is close enough. An edit inserts, drops or replaces a character, or swaps two neighbours.
+/// One edit is allowed for each three characters, but at least one if there are two. Upper and
+/// lower case count as the same.
 fn nearest_name(alloc: Global, grok: &Grok, name: &str) -> Result<Option<String>, AllocError> {
+    let upper_name = in_upper_case(alloc, name)?;
+    let most = (name.len() / 3).max(1).min(name.len().saturating_sub(1));
     let mut nearest = None;
-    let mut fewest = MOST_EDITS;
+    let mut fewest = most.saturating_add(1);
     for known in grok.names() {
-        let edits = levenshtein(alloc, name, known)?;
-        if edits <= fewest && edits < name.len() {
+        let upper = in_upper_case(alloc, known)?;
+        let edits = osa_distance(alloc, upper_name.as_str(), upper.as_str())?;
+        if edits < fewest {
             fewest = edits;
             nearest = Some(String::from_str(alloc, known)?);
         }
@@ -51,23 +67,27 @@ fn advice_for_name(alloc: Global, grok: &Grok, name: &str) -> Result<String, All
 
 /// Returns the words that describe where a fault is: in the pattern, or in the last definition of
 /// the path. For a definition they say where it was given, and which definitions lead to it.
-fn place_of(alloc: Global, library: &Library<'_>, path: &[&str]) -> Result<String, AllocError> {
+fn describe_location(
+    alloc: Global,
+    library: &Library<'_>,
+    path: &[&str],
+) -> Result<String, AllocError> {
     let Some((name, through)) = path.split_last() else {
         return String::from_str(alloc, "the pattern");
     };
-    let mut place = format!(in alloc; "the definition {name}")?;
+    let mut words = format!(in alloc; "the definition {name}")?;
     if let Some(source) = library.source(name) {
         let origin = format!(in alloc; " ({})", source.origin)?;
-        place.push_str(origin.as_str())?;
+        words.push_str(origin.as_str())?;
     }
     for (number, step) in through.iter().take(MOST_STEPS).enumerate() {
-        place.push_str(if number == 0 { ", used by " } else { " > " })?;
-        place.push_str(step)?;
+        words.push_str(if number == 0 { ", used by " } else { " > " })?;
+        words.push_str(step)?;
     }
     if through.len() > MOST_STEPS {
-        place.push_str(" > ...")?;
+        words.push_str(" > ...")?;
     }
-    Ok(place)
+    Ok(words)
 }
 
 /// Returns how many bytes at the start of a text belong to a name.
@@ -237,8 +257,8 @@ fn located_report(
         return Ok(None);
     }
     let (mut report, part) = structural_report(alloc, library, &location)?;
-    let place = place_of(alloc, library, location.path.as_slice())?;
-    report.add_part(place, excerpt(alloc, location.text, part)?)?;
+    let words = describe_location(alloc, library, location.path.as_slice())?;
+    report.add_part(words, excerpt(alloc, location.text, part)?)?;
     Ok(Some(report))
 }
 
@@ -287,9 +307,9 @@ fn clash_report(
     let what = clashing(alloc, clash.key.as_str())?;
     let mut report = Report::new(alloc, what.as_str(), "give one of them another alias")?;
     for placeholder in [&clash.first, &clash.second] {
-        let place = place_of(alloc, library, placeholder.path.as_slice())?;
+        let words = describe_location(alloc, library, placeholder.path.as_slice())?;
         let range = placeholder.range.start..placeholder.range.end;
-        report.add_part(place, excerpt(alloc, placeholder.text, range)?)?;
+        report.add_part(words, excerpt(alloc, placeholder.text, range)?)?;
     }
     Ok(Some(report))
 }
@@ -357,22 +377,93 @@ fn origin_of<'x>(
     }
 }
 
+/// Returns whether an error is that a group isn't closed, or a `)` closes none.
+fn is_of_brackets(kind: ErrorKind) -> bool {
+    matches!(kind, ErrorKind::GroupUnclosed | ErrorKind::GroupUnopened)
+}
+
+/// A definition that the engine refuses even as a pattern of its own.
+#[derive(Clone, Copy)]
+struct RefusedDefinition<'a> {
+    name: &'a str,
+    text: &'a str,
+    error: regex_syntax::Error,
+}
+
+/// Returns the engine's error if it refuses the definition as a pattern of its own because of its
+/// syntax, and otherwise `None`.
+fn error_alone(
+    library: &Library<'_>,
+    definition: &str,
+    with_alias_only: bool,
+) -> Result<Option<regex_syntax::Error>, AllocError> {
+    match library.grok.why_refused(definition, with_alias_only) {
+        Ok(Some(refusal)) => match refusal.reason {
+            RefusalReason::Syntax(error) => Ok(Some(error)),
+            RefusalReason::TooBig => Ok(None),
+        },
+        Err(Error::Memory) => Err(AllocError),
+        Ok(None) | Err(_) => Ok(None),
+    }
+}
+
+/// Returns the first definition that a placeholder of this text has and that the engine refuses
+/// alone, or `None` if there is none.
+fn first_refused<'x>(
+    alloc: Global,
+    library: &'x Library<'_>,
+    text: &'x str,
+    with_alias_only: bool,
+) -> Result<Option<RefusedDefinition<'x>>, AllocError> {
+    for (name, definition) in &definitions_in(alloc, library, text)? {
+        if let Some(error) = error_alone(library, definition, with_alias_only)? {
+            return Ok(Some(RefusedDefinition {
+                name,
+                text: definition,
+                error,
+            }));
+        }
+    }
+    Ok(None)
+}
+
 /// Returns the report of a pattern whose expanded text the engine refuses because of its syntax.
 /// `error` is the engine's error.
+///
+/// If brackets don't match and a definition alone is refused, the fault is in there, though the
+/// engine may report another part of the pattern: if a definition has a `(` too many, the `)` of its
+/// placeholder's group closes it, and the group that isn't closed is one further out.
 fn syntax_report<'x>(
     alloc: Global,
     library: &'x Library<'_>,
     pattern: &'x str,
     with_alias_only: bool,
-    error: &regex_syntax::Error,
+    error: regex_syntax::Error,
 ) -> Result<Report, AllocError> {
+    let mut path = Vec::new(alloc);
+    let mut text = pattern;
+    let mut error = error;
+    for _ in 0..MOST_LEVELS {
+        if !is_of_brackets(error.kind) {
+            break;
+        }
+        let Some(refused) = first_refused(alloc, library, text, with_alias_only)? else {
+            break;
+        };
+        path.push(refused.name)?;
+        text = refused.text;
+        error = refused.error;
+    }
     let what = format!(in alloc; "the engine refuses this: {}", error.kind.message())?;
     let part = error.span.start..error.span.end;
-    let origin = origin_of(alloc, library, pattern, with_alias_only, part)?;
+    let origin = origin_of(alloc, library, text, with_alias_only, part)?;
+    for name in &origin.path {
+        path.push(*name)?;
+    }
     let advice = advice_for_refusal(alloc, origin.text)?;
-    let place = place_of(alloc, library, origin.path.as_slice())?;
+    let words = describe_location(alloc, library, path.as_slice())?;
     let mut report = Report::new(alloc, what.as_str(), advice)?;
-    report.add_part(place, excerpt(alloc, origin.text, origin.range)?)?;
+    report.add_part(words, excerpt(alloc, origin.text, origin.range)?)?;
     Ok(report)
 }
 
@@ -395,7 +486,7 @@ fn refusal_report(
     match library.grok.why_refused(pattern, with_alias_only) {
         Ok(Some(refusal)) => match refusal.reason {
             RefusalReason::Syntax(error) => {
-                syntax_report(alloc, library, pattern, with_alias_only, &error)
+                syntax_report(alloc, library, pattern, with_alias_only, error)
             }
             RefusalReason::TooBig => too_large(alloc),
         },

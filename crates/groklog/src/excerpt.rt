@@ -2,12 +2,13 @@
 
 use std::alloc::{AllocError, Global};
 use std::ops::Range;
+use unicode_width::UnicodeWidthStr;
 
 /// How many characters are shown before a part, and how many after it.
 const CONTEXT: usize = 30;
 
-/// The largest number of carets under a part.
-const MOST_CARETS: usize = 40;
+/// How many characters of a part are shown at most.
+const MOST_SHOWN: usize = 40;
 
 /// Returns the character that is shown for this one. A control character is shown as a space,
 /// because it could move the cursor, and the carets would then be in the wrong column.
@@ -28,36 +29,41 @@ fn push_many(line: &mut String, c: char, count: usize) -> Result<(), AllocError>
     Ok(())
 }
 
-/// Appends `count` characters of a text, beginning with the character number `first`.
-fn push_part(line: &mut String, text: &str, first: usize, count: usize) -> Result<(), AllocError> {
+/// Returns `count` characters of a text as they are shown, beginning with the character number
+/// `first`.
+fn shown_part(alloc: Global, text: &str, first: usize, count: usize) -> Result<String, AllocError> {
+    let mut part = String::new(alloc);
     for c in text.chars().skip(first).take(count) {
-        line.push(shown(c))?;
+        part.push(shown(c))?;
     }
-    Ok(())
+    Ok(part)
 }
 
 /// Returns two lines: one shows this byte range of a text and some characters around it, and the
-/// other has carets under that range.
+/// other has carets under that range, one for each column that it takes on a terminal.
 ///
 /// # Errors
 ///
 /// If an allocation fails.
 pub fn excerpt(alloc: Global, text: &str, part: Range<usize>) -> Result<String, AllocError> {
-    let before = chars_before(text, part.start);
-    let carets = chars_before(text, part.end)
-        .saturating_sub(before)
-        .clamp(1, MOST_CARETS);
-    let first = before.saturating_sub(CONTEXT);
-    let lead = before.saturating_sub(first);
-    let count = lead.saturating_add(carets).saturating_add(CONTEXT);
-    let (cut, dots) = if first > 0 { ("...", 3) } else { ("", 0) };
-    let mut lines = String::from_str(alloc, cut)?;
-    push_part(&mut lines, text, first, count)?;
-    if chars_before(text, text.len()) > first.saturating_add(count) {
-        lines.push_str("...")?;
-    }
-    lines.push_str("\n    ")?;
-    push_many(&mut lines, ' ', lead.saturating_add(dots))?;
-    push_many(&mut lines, '^', carets)?;
+    let begin = chars_before(text, part.start);
+    let size = chars_before(text, part.end)
+        .saturating_sub(begin)
+        .clamp(1, MOST_SHOWN);
+    let end = begin.saturating_add(size);
+    let first = begin.saturating_sub(CONTEXT);
+    let before = shown_part(alloc, text, first, begin.saturating_sub(first))?;
+    let wrong = shown_part(alloc, text, begin, size)?;
+    let after = shown_part(alloc, text, end, CONTEXT)?;
+    let cut = if first > 0 { "..." } else { "" };
+    let is_cut_after = chars_before(text, text.len()) > end.saturating_add(CONTEXT);
+    let cut_after = if is_cut_after { "..." } else { "" };
+    let mut lines = format!(in alloc; "{cut}{before}{wrong}{after}{cut_after}\n    ")?;
+    push_many(
+        &mut lines,
+        ' ',
+        cut.len().saturating_add(before.as_str().width()),
+    )?;
+    push_many(&mut lines, '^', wrong.as_str().width().max(1))?;
     Ok(lines)
 }

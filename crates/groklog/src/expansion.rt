@@ -68,6 +68,50 @@ fn group_head(text: &str) -> (usize, bool) {
     }
 }
 
+/// Returns the definition that a name has in a text with these inline definitions before it.
+fn definition_of<'a>(
+    library: &'a Library<'_>,
+    inline: &[(&'a str, &'a str)],
+    name: &str,
+) -> &'a str {
+    let defined = inline.iter().rev().find(|(known, _)| *known == name);
+    match (defined, library.source(name)) {
+        (Some((_, text)), _) => text,
+        (None, Some(source)) => source.text.as_str(),
+        // This doesn't happen: the pattern was expanded, so the name has a definition.
+        (None, None) => "",
+    }
+}
+
+/// Returns the names of the placeholders of a text, in their order, each with its definition.
+/// The text has no structural fault.
+///
+/// # Errors
+///
+/// If an allocation fails.
+pub fn definitions_in<'a>(
+    alloc: Global,
+    library: &'a Library<'_>,
+    text: &'a str,
+) -> Result<Vec<(&'a str, &'a str)>, AllocError> {
+    let mut found = Vec::new(alloc);
+    let mut inline = Vec::new(alloc);
+    for piece in grok_split(text) {
+        if let GrokComponent::GrokPattern {
+            name,
+            definition,
+            ..
+        } = piece
+        {
+            if !definition.is_empty() {
+                inline.push((name, definition))?;
+            }
+            found.push((name, definition_of(library, &inline, name)))?;
+        }
+    }
+    Ok(found)
+}
+
 impl<'a> Frame<'a> {
     fn new(alloc: Global, text: &'a str) -> Frame<'a> {
         Frame {
@@ -78,13 +122,7 @@ impl<'a> Frame<'a> {
 
     /// Returns the definition that a name has in this text.
     fn meaning(&self, library: &'a Library<'_>, name: &str) -> &'a str {
-        let defined = self.inline.iter().rev().find(|(known, _)| *known == name);
-        match (defined, library.source(name)) {
-            (Some((_, text)), _) => text,
-            (None, Some(source)) => source.text.as_str(),
-            // This doesn't happen: the pattern was expanded, so the name has a definition.
-            (None, None) => "",
-        }
+        definition_of(library, &self.inline, name)
     }
 }
 

@@ -11,7 +11,7 @@ use std::fmt;
 #[derive(Debug, Drop)]
 pub struct FaultyPart {
     /// Where the text is, in words, such as the name of a file.
-    pub place: String,
+    pub location: String,
     /// Two lines: the part with some of the text around it, and carets under it.
     pub excerpt: String,
 }
@@ -60,8 +60,8 @@ impl Report {
     /// # Errors
     ///
     /// If an allocation fails.
-    pub fn add_part(&mut self, place: String, excerpt: String) -> Result<(), AllocError> {
-        Ok(self.parts.push(FaultyPart { place, excerpt })?)
+    pub fn add_part(&mut self, location: String, excerpt: String) -> Result<(), AllocError> {
+        Ok(self.parts.push(FaultyPart { location, excerpt })?)
     }
 }
 
@@ -85,7 +85,7 @@ impl fmt::Display for Report {
         writeln!(f, "groklog: {}", self.what)?;
         for (index, part) in self.parts.iter().enumerate() {
             let start = if index == 0 { "in" } else { "and in" };
-            writeln!(f, "  {start} {}:", part.place)?;
+            writeln!(f, "  {start} {}:", part.location)?;
             writeln!(f, "    {}", part.excerpt)?;
         }
         if !self.advice.is_empty() {

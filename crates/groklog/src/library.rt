@@ -37,9 +37,9 @@ pub struct Library<'a> {
 /// Returns the fault that reports that a line or a word isn't a definition.
 fn no_definition(alloc: Global, origin: Origin<'_>, line: &str) -> Result<Fault, AllocError> {
     let advice = "write NAME=DEF or NAME DEF, where a NAME has a-z A-Z 0-9 _";
-    let place = format!(in alloc; "{origin}")?;
+    let location = format!(in alloc; "{origin}")?;
     let mut report = Report::new(alloc, "this isn't a definition", advice)?;
-    report.add_part(place, excerpt(alloc, line, 0..line.len())?)?;
+    report.add_part(location, excerpt(alloc, line, 0..line.len())?)?;
     Ok(Fault::Pattern(report))
 }
 
@@ -134,27 +134,32 @@ impl<'a> Library<'a> {
     /// Stores a definition.
     fn set(&mut self, alloc: Global, definition: Definition<'a>) -> Result<(), AllocError> {
         let Definition { name, text, origin } = definition;
-        let place = format!(in alloc; "the definition {name} ({origin})")?;
-        let text = self.adapt(alloc, text, place.as_str())?;
+        let location = format!(in alloc; "the definition {name} ({origin})")?;
+        let text = self.adapt(alloc, text, location.as_str())?;
         self.grok.add_pattern(name, text.as_str())?;
         self.sources.insert(name, Source { text, origin })?;
         Ok(())
     }
 
     /// Returns the text that is compiled: rewritten if it was made for Logstash, and otherwise as
-    /// it is. Each change is noted together with `place`, which says where the text is. If the same
-    /// change occurs several times at a place, it is noted once.
+    /// it is. Each change is noted together with `location`, which says where the text is. If the
+    /// same change occurs several times in a text, it is noted once.
     ///
     /// # Errors
     ///
     /// If an allocation fails.
-    pub fn adapt(&mut self, alloc: Global, text: &str, place: &str) -> Result<String, AllocError> {
+    pub fn adapt(
+        &mut self,
+        alloc: Global,
+        text: &str,
+        location: &str,
+    ) -> Result<String, AllocError> {
         if !self.is_from_logstash {
             return String::from_str(alloc, text);
         }
         let Rewritten { text, changes } = rewrite(alloc, text)?;
         for change in &changes {
-            let note = format!(in alloc; "in {place}, {change}")?;
+            let note = format!(in alloc; "in {location}, {change}")?;
             if !self.changes.iter().any(|noted| *noted == note) {
                 self.changes.push(note)?;
             }

@@ -279,7 +279,7 @@ impl Rewriter {
         Ok(())
     }
 
-    /// Writes `new` in place of `old`, and records the change.
+    /// Writes `new` instead of `old`, and records the change.
     fn replace(&mut self, kind: ChangeKind, old: &str, new: &str) -> Result<(), AllocError>
         ensures { OnOk result (vec_len self.new.changes ≡ vec_len self.old.changes + 1) }
     {

@@ -14,7 +14,7 @@ const OUTPUT: &str = "/proc/self/fd/1";
 
 const ERRORS: &str = "/proc/self/fd/2";
 
-/// Returns whether the open file behind this link is a terminal, judged by its name.
+/// Returns whether the open file that this link leads to is a terminal, judged by its name.
 fn is_terminal(rt: &HostRuntime, link: &str) -> bool {
     match fs::read_link(rt, link) {
         Ok(target) => {
