@@ -134,9 +134,9 @@ fn pass_label<'a>(
     so_far.pass(uses_by(base, keys.base), uses_by(base, keys.other))
 }
 
-/// Passes over all uses in a stored definition at once, if the whole definition was counted, `levels`
-/// levels are enough for it, and the use that is sought isn't in it. Otherwise returns `false` and
-/// passes over nothing.
+/// Passes over all uses in a stored definition at once, if the whole definition was counted,
+/// `levels` levels are enough for it, and the use that is sought isn't in it. Otherwise returns
+/// `false` and passes over nothing.
 fn pass_definition<'a>(
     definitions: &CountedDefinitions<'a>,
     keys: SoughtKeys<'_>,
