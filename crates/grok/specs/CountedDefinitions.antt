@@ -90,5 +90,6 @@ counted_part_of by_name name = get_by (λ (key : Bor (List ℕ)). slice_cmp nat_
 
 -- what is kept for each name is a counted part of its definition
 abbrev pub AreCounted : CompileMode → CountedDefinitions → Type 0
-AreCounted mode definitions = (name text : List ℕ) (part : CountedPart) → counted_part_of definitions.by_name name ≡ Some part
+AreCounted mode definitions = (name text : List ℕ) (part : CountedPart)
+    → counted_part_of definitions.by_name name ≡ Some part
     → finite.get mode.grok.now name ≡ Some text → IsCountedPartOf mode text part

@@ -16,7 +16,7 @@ use Rattle.grok.specs.declared.measure.cache.Progress.TheVariants as progress
 use Rattle.grok.specs.declared.measure.measurer.Frame.{Frame}
 use Rattle.grok.specs.declared.measure.measurer.Measurer.{Measurer}
 use Rattle.grok.specs.declared.measure.placeholders.PlaceholderSize.{PlaceholderSize}
-use Rattle.grok.specs.declared.measure.placeholders.PlaceholderSize.TheVariants as entry
+use Rattle.grok.specs.declared.measure.placeholders.PlaceholderSize.TheVariants as placeholder_size
 use Rattle.grok.specs.declared.defs.items.Label.{Label}
 use Rattle.grok.specs.declared.measure.Measure.{Measure}
 use Rattle.grok.specs.declared.measure.Measure.TheVariants as measure
@@ -147,13 +147,13 @@ pub record MustBeMeasured (levels : ℕ) (label : Label) (meaning : tree.Meaning
 -- If the size or fault of the placeholder is known, `Is` holds for it. Otherwise `Opens` holds for the definition
 -- that has to be measured first.
 abbrev pub MatchPlaceholderSize : PlaceholderSize → (Result PartialSize Failure → Type 0) → (List ℕ → Type 0) → Type 0
-MatchPlaceholderSize (entry.Measured r) Is Opens = Is r
-MatchPlaceholderSize (entry.Unread stored) Is Opens = Opens stored.now
+MatchPlaceholderSize (placeholder_size.Measured r) Is Opens = Is r
+MatchPlaceholderSize (placeholder_size.Unread stored) Is Opens = Opens stored.now
 
 -- if the size or fault of the placeholder is known, `Is` holds for it
 abbrev pub IfMeasured : PlaceholderSize → (Result PartialSize Failure → Type 0) → Type 0
-IfMeasured (entry.Measured r) Is = Is r
-IfMeasured (entry.Unread stored) Is = Unit {0}
+IfMeasured (placeholder_size.Measured r) Is = Is r
+IfMeasured (placeholder_size.Unread stored) Is = Unit {0}
 
 -- ---- from one pattern to the next
 

@@ -27,8 +27,8 @@ BeginsEach re needles = StartsFramed re needles.literals (Some needles.frame)
 abbrev pub IsInEach : Re → Needles → Type 0
 IsInEach re needles = ContainsFramed re needles.literals (Some needles.frame)
 
--- The facts hold for each match of `re`: it starts where the line starts if `at_start` is true, it begins with one of the
--- literals in `first` if there are any, and it contains one of those in `inner` if there are any.
+-- The facts hold for each match of `re`: it starts where the line starts if `at_start` is true, it begins with one of
+-- the literals in `first` if there are any, and it contains one of those in `inner` if there are any.
 pub record AreMatchFactsOf (re : Re) (facts : MatchFacts) : Type 0 where
   pub start : facts.at_start ≡ true → IsAnchored true re
   pub first : IfSome facts.first (BeginsEach re)

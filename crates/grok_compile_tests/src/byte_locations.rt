@@ -1,5 +1,5 @@
-//! Tests of `locate_byte`: which piece writes each byte of an expanded text. A plain expansion, written for the tests, reads the
-//! pieces of a pattern and of its definitions, and computes it for each byte of some patterns.
+//! Tests of `locate_byte`: which piece writes each byte of an expanded text. A plain expansion, written for the tests,
+//! reads the pieces of a pattern and of its definitions, and computes it for each byte of some patterns.
 
 use crate::libraries::add_doublings;
 use grok::parser::{GrokComponent, GrokSplit, grok_split};
@@ -483,7 +483,8 @@ fn is_same(found: &ByteLocation<'_>, expected: &ByteLocation<'_>) -> bool {
     has_path && has_text && has_range && has_part
 }
 
-/// Checks that each byte has the location that the plain expansion has found, and that positions after the text have none.
+/// Checks that each byte has the location that the plain expansion has found, and that positions after the text have
+/// none.
 fn check_row(
     rt: &(impl Abort + AllocGlobal),
     row: &'static Row,

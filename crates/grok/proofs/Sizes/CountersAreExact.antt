@@ -11,7 +11,7 @@ use Rattle.grok.specs.MeasuredOnce.{Progress, InProgress, HasSize, HasFault, Nee
 use Rattle.grok.specs.Measured.{weighed}
 use Rattle.grok.proofs.Sizes.TextsWithoutPlaceholders.{IsSound}
 use Rattle.grok.proofs.Sizes.SizesAdd.{both_ok, wrapped_ok}
-use Rattle.grok.proofs.Sizes.ReadingInduction.{last_progress, IsUnread, Steps, reads}
+use Rattle.grok.proofs.Sizes.ReadingInduction.{last_progress, IsUnread, InductionSteps, reads}
 use Rattle.grok.proofs.Sizes.RememberingChangesNothing.{progress_cases}
 
 -- the text of a name in a table of names and texts
@@ -148,7 +148,7 @@ module _ (alias_only : Bool) (resolve : List ℕ → List Item) (definitions : D
   progress_keeps st name progress other on = started_with_progress st name progress other ∙ elim (bytes_eq name other) as (λ b. (b || is_started st other) ≡ true) [ true ↦ refl | false ↦ on ]
 
   -- THE STEPS, each where no text was too deep
-  counts : Steps alias_only resolve definitions (λ levels item st answer. IsShallow st → Counted st answer 0) (λ levels items st answer. IsShallow st → Counted st answer (own items)) (λ levels label text st answer. IsShallow st → Counted st answer 0)
+  counts : InductionSteps alias_only resolve definitions (λ levels item st answer. IsShallow st → Counted st answer 0) (λ levels items st answer. IsShallow st → Counted st answer (own items)) (λ levels label text st answer. IsShallow st → Counted st answer 0)
   counts = record {
     text = λ levels text st shallow. record { left = 0; adds = omega arith; all = λ size e. refl; keeps = λ name on. on; shallow = λ size e. shallow };
     fault = λ levels fault st shallow. record { left = 0; adds = omega arith; all = λ size e. refl; keeps = λ name on. on; shallow = λ size e. shallow };

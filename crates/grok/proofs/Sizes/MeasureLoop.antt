@@ -261,23 +261,23 @@ module _ (alias_only : Bool) (resolve : List ℕ → List Item) where
       reach (Ok sum) h = tt
       reach (Err failure) h = sym h
 
-  abbrev StoredEntry : ℕ → CodeLabel → List ℕ → MeasureCache → MeasureCache → PlaceholderSize → Type 0
-  StoredEntry levels label text before after entry = MatchPlaceholderSize entry
+  abbrev IsStoredSize : ℕ → CodeLabel → List ℕ → MeasureCache → MeasureCache → PlaceholderSize → Type 0
+  IsStoredSize levels label text before after size = MatchPlaceholderSize size
       (λ r. (st : State) → ShowsState before st → ReturnsReading r after (stored_within alias_only resolve levels (label_view label) text st))
       (λ it. (it ≡ text) × (0 < levels) × HasBegun label.name.now levels before after)
 
-  abbrev LabelledEntry : ℕ → CodeLabel → Meaning → MeasureCache → MeasureCache → PlaceholderSize → Type 0
-  LabelledEntry levels label meaning before after entry = MatchPlaceholderSize entry
+  abbrev IsLabelledSize : ℕ → CodeLabel → Meaning → MeasureCache → MeasureCache → PlaceholderSize → Type 0
+  IsLabelledSize levels label meaning before after size = MatchPlaceholderSize size
       (λ r. (st : State) → ShowsState before st → ReturnsReading r after (item_within alias_only resolve levels (PlaceholderItem (label_view label) meaning) st))
       (λ text. MustBeMeasured levels label meaning text before after)
 
   -- the definition of a placeholder with this label
-  pub labelled_entry : (levels : ℕ) (label : CodeLabel) (meaning : Meaning) (text : List ℕ) (before mid after : MeasureCache) (entry : PlaceholderSize) → meaning ≡ Stored text
+  pub labelled_size : (levels : ℕ) (label : CodeLabel) (meaning : Meaning) (text : List ℕ) (before mid after : MeasureCache) (size : PlaceholderSize) → meaning ≡ Stored text
       → ((st : State) → ShowsState before st → ShowsState mid (labelled (label_view label) st)) → mid.by_name ≡ before.by_name
-      → StoredEntry levels label text mid after entry → LabelledEntry levels label meaning before after entry
-  labelled_entry levels label meaning text before mid after (Measured r) is shows same h = λ st s.
+      → IsStoredSize levels label text mid after size → IsLabelledSize levels label meaning before after size
+  labelled_size levels label meaning text before mid after (Measured r) is shows same h = λ st s.
       subst (λ m. ReturnsReading r after (item_within alias_only resolve levels (PlaceholderItem (label_view label) m) st)) (sym is) (h (labelled (label_view label) st) (shows st s))
-  labelled_entry levels label meaning text before mid after (Unread stored) is shows same (it, room, cache) =
+  labelled_size levels label meaning text before mid after (Unread stored) is shows same (it, room, cache) =
       subst (λ t. MustBeMeasured levels label meaning t before after) (sym it)
       (record {
         is = is;

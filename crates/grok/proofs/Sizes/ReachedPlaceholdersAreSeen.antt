@@ -14,7 +14,7 @@ use Rattle.grok.specs.MeasuredOnce.{Progress, InProgress, known_result, State, w
 use Rattle.grok.specs.Measured.{reaches}
 use Rattle.grok.proofs.Sizes.TextsWithoutPlaceholders.{IsSound}
 use Rattle.grok.proofs.Sizes.SizeIsThatOfTree.{tree_sizes}
-use Rattle.grok.proofs.Sizes.ReadingInduction.{last_progress, with_last_progress, finish_sets_progress, after_size, Steps, reads}
+use Rattle.grok.proofs.Sizes.ReadingInduction.{last_progress, with_last_progress, finish_sets_progress, after_size, InductionSteps, reads}
 use Rattle.grok.proofs.Sizes.RememberingChangesNothing.{measure_right}
 use Rattle.grok.proofs.Sizes.CountersAreExact.{is_started, started_with_progress}
 use Rattle.grok.proofs.Trees.FaultInPlaceOfOpen as block
@@ -126,7 +126,7 @@ module _ (w : Watch) (is_watch : IsWatch w) (marker : Fault) (alias_only : Bool)
   ends_there : (first : Reading) (rest : State → Reading) → first.0 ≡ Err marker → (then_rest first.0 first.1 rest).0 ≡ Err marker
   ends_there first rest ends = ap (λ r. (then_rest r first.1 rest).0) ends
 
-  seen : Steps alias_only resolve definitions SeenItem SeenItems SeenText
+  seen : InductionSteps alias_only resolve definitions SeenItem SeenItems SeenText
   seen = record {
     text = λ levels text st. record { keeps = λ on. on; same = λ off. inl (refl, off) };
     fault = λ levels fault st. record { keeps = λ on. on; same = λ off. inl (refl, off) };

@@ -29,7 +29,7 @@ IsUnread st name levels = (progress : Progress Size) → st.by_name name ≡ Som
 module _ (alias_only : Bool) (resolve : List ℕ → List Item) (definitions : Definitions) where
   -- Relations between what is read with `levels` levels left, the state before and the result. They hold of each
   -- step if they hold of the steps inside it.
-  pub record Steps (OfItem : ℕ → Item → State → Reading → Type 0) (OfItems : ℕ → List Item → State → Reading → Type 0) (OfText : ℕ → Label → List ℕ → State → Reading → Type 0) : Type 0 where
+  pub record InductionSteps (OfItem : ℕ → Item → State → Reading → Type 0) (OfItems : ℕ → List Item → State → Reading → Type 0) (OfText : ℕ → Label → List ℕ → State → Reading → Type 0) : Type 0 where
     pub text : (levels : ℕ) (text : List ℕ) (st : State) → OfItem levels (TextItem text) st (Ok (size_of_bytes text), st)
     pub fault : (levels : ℕ) (fault : Fault) (st : State) → OfItem levels (FaultItem fault) st (Err fault, with_reach st 0)
     pub inline : (levels : ℕ) (label : Label) (text : List ℕ) (st : State) → IsFlat resolve text
@@ -46,7 +46,7 @@ module _ (alias_only : Bool) (resolve : List ℕ → List Item) (definitions : D
     pub fresh : (levels : ℕ) (label : Label) (text : List ℕ) (st : State) (answer : Reading) → definitions label.name ≡ Some text → IsUnread st label.name (suc levels)
         → OfItems levels (resolve text) (with_progress st label.name InProgress) answer → OfText (suc levels) label text st (with_last_progress label.name (suc levels) answer)
 
-  module _ (OfItem : ℕ → Item → State → Reading → Type 0) (OfItems : ℕ → List Item → State → Reading → Type 0) (OfText : ℕ → Label → List ℕ → State → Reading → Type 0) (steps : Steps OfItem OfItems OfText) where
+  module _ (OfItem : ℕ → Item → State → Reading → Type 0) (OfItems : ℕ → List Item → State → Reading → Type 0) (OfText : ℕ → Label → List ℕ → State → Reading → Type 0) (steps : InductionSteps OfItem OfItems OfText) where
     abbrev TextReads : ℕ → Type 0
     TextReads levels = (label : Label) (text : List ℕ) (st : State) → definitions label.name ≡ Some text → OfText levels label text st (visit alias_only resolve levels label.name text st)
 

@@ -9,7 +9,7 @@ use Rattle.grok.specs.MeasuredOnce.{Progress, InProgress, known_result, State, u
 use Rattle.grok.specs.MeasureCache.{HoldsOfText}
 use Rattle.grok.proofs.Sizes.SizesByLevels.{Settles, settles_always, settles_wrapped, settles_first, deep_after_size, settles_after_size, settles_text, settles_inline, high, of_text, of_item, of_items, circle, last_says, known_settles}
 use Rattle.grok.proofs.Sizes.TextsWithoutPlaceholders.{IsSound, flat_measured}
-use Rattle.grok.proofs.Sizes.ReadingInduction.{last_progress, Steps, reads}
+use Rattle.grok.proofs.Sizes.ReadingInduction.{last_progress, InductionSteps, reads}
 
 -- after a progress is set for one name, each name has that progress or the one it had
 pub progress_cases : (by_name : List ℕ → Option (Progress Size)) (name : List ℕ) (progress : Progress Size) (other : List ℕ)
@@ -113,7 +113,7 @@ module _ (alias_only : Bool) (resolve : List ℕ → List Item) (definitions : D
   abbrev RightText : ℕ → Label → List ℕ → State → Reading → Type 0
   RightText levels label text st answer = IsHonest st → OpenLead st (of_text alias_only resolve text) → Outcome levels st answer (of_text alias_only resolve text) (suc (high answer.0 answer.1.reach))
 
-  right : Steps alias_only resolve definitions RightItem RightItems RightText
+  right : InductionSteps alias_only resolve definitions RightItem RightItems RightText
   right = record {
     text = λ levels text st items honest lead. record { same = refl; settles = λ real. settles_always (of_item alias_only resolve (TextItem text)) (Ok (size_of_bytes text)) (λ n. refl); honest = honest; opens = λ name cache. cache };
     fault = λ levels fault st items honest lead. record { same = refl; settles = λ real. settles_always (of_item alias_only resolve (FaultItem fault)) (Err fault) (λ n. refl); honest = honest; opens = λ name cache. cache };

@@ -11,7 +11,7 @@ use regex_meta::Program;
 use regex_vm::Declined;
 use std::alloc::Global;
 
-/// Facts that hold for each match of a pattern. A search uses them to skip the positions at which no
+/// Facts that hold for each match of a pattern. A search uses them to skip positions at which no
 /// match can start.
 #[derive(Drop)]
 pub(crate) struct MatchFacts {

@@ -70,17 +70,17 @@ fn measure_stored<'a>(
     levels: usize,
 ) -> Result<PlaceholderSize<'a>, AllocError>
     requires { levels < 2 ^ 31 }
-    ensures reading { IfOk result (λ entry. MatchPlaceholderSize entry
+    ensures reading { IfOk result (λ size. MatchPlaceholderSize size
         (λ r. (st : State) → ShowsState cache.old st → ReturnsReading r cache.new
         (stored_within mode.entry.with_alias_only (items_in mode.entry.grok.now) levels
         (label_view label.entry) stored.now st))
         (λ text. (text ≡ stored.now) × (0 < levels)
         × HasBegun label.entry.name.now levels cache.old cache.new)) }
-    ensures by_name { IfOk result (λ entry. IfMeasured entry (λ r. cache.new.by_name ≡ cache.old.by_name)) }
+    ensures by_name { IfOk result (λ size. IfMeasured size (λ r. cache.new.by_name ≡ cache.old.by_name)) }
     ensures low { IfOk result
-        (λ entry. IfMeasured entry (λ r. IfOk r (λ sum. sum.height ≤ levels))) }
+        (λ size. IfMeasured size (λ r. IfOk r (λ sum. sum.height ≤ levels))) }
     ensures reach { IfOk result
-        (λ entry. IfMeasured entry (λ r. IfErr r (λ failure. failure.height ≤ levels + 1))) }
+        (λ size. IfMeasured size (λ r. IfErr r (λ failure. failure.height ≤ levels + 1))) }
 {
     if levels == 0 {
         return Ok(PlaceholderSize::Measured(size_of_placeholder(mode, label, Err(too_deep()))));
@@ -106,16 +106,16 @@ pub(super) fn measure_placeholder<'a>(
     levels: usize,
 ) -> Result<PlaceholderSize<'a>, AllocError>
     requires { levels < 2 ^ 31 }
-    ensures reading { IfOk result (λ entry. MatchPlaceholderSize entry
+    ensures reading { IfOk result (λ size. MatchPlaceholderSize size
         (λ r. (st : State) → ShowsState cache.old st → ReturnsReading r cache.new
         (item_within mode.entry.with_alias_only (items_in mode.entry.grok.now) levels
         (PlaceholderItem (label_view label.entry) (meaning_view meaning.entry)) st))
         (λ text. MustBeMeasured levels label.entry (meaning_view meaning.entry) text cache.old cache.new)) }
-    ensures by_name { IfOk result (λ entry. IfMeasured entry (λ r. cache.new.by_name ≡ cache.old.by_name)) }
+    ensures by_name { IfOk result (λ size. IfMeasured size (λ r. cache.new.by_name ≡ cache.old.by_name)) }
     ensures low { IfOk result
-        (λ entry. IfMeasured entry (λ r. IfOk r (λ sum. sum.height ≤ levels))) }
+        (λ size. IfMeasured size (λ r. IfOk r (λ sum. sum.height ≤ levels))) }
     ensures reach { IfOk result
-        (λ entry. IfMeasured entry (λ r. IfErr r (λ failure. failure.height ≤ levels + 1))) }
+        (λ size. IfMeasured size (λ r. IfErr r (λ failure. failure.height ≤ levels + 1))) }
 {
     cache.label(label)?;
     match meaning {
@@ -124,8 +124,8 @@ pub(super) fn measure_placeholder<'a>(
             Ok(PlaceholderSize::Measured(size_of_placeholder(mode, label, inner)))
         }
         Meaning::Stored(stored) => {
-            let entry = measure_stored(mode, cache, label, stored, levels)?;
-            Ok(entry)
+            let size = measure_stored(mode, cache, label, stored, levels)?;
+            Ok(size)
         }
     }
 }

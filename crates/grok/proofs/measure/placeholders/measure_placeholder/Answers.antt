@@ -2,13 +2,13 @@ use Rattle.std.proofs.Common.{ap}
 use Rattle.grok.specs.Tree as tree
 use Rattle.grok.specs.Items.{label_view, meaning_view}
 use Rattle.grok.specs.MeasureCache.{items_in}
-use Rattle.grok.proofs.Sizes.MeasureLoop.{labelled_entry, inline_gives}
+use Rattle.grok.proofs.Sizes.MeasureLoop.{labelled_size, inline_gives}
 use Rattle.grok.proofs.measure.placeholders.measure_placeholder.Goals as goal
 
-pub returns-in_ok-entry-in-Stored-clause-reading : goal.returns-in_ok-entry-in-Stored-clause-reading
-returns-in_ok-entry-in-Stored-clause-reading c =
-    labelled_entry c.args.mode.with_alias_only (items_in c.args.mode.grok.now) c.args.levels c.args.label (meaning_view c.args.meaning) c.in-Stored.stored.now c.args.cache.now c.label.new.self _ c.in_ok-entry-in-Stored.entry
-    (ap meaning_view c.in-Stored.is) c.in_ok-label.ensures.shows c.in_ok-label.ensures.by_name c.in_ok-entry-in-Stored.ensures.reading
+pub returns-in_ok-size-in-Stored-clause-reading : goal.returns-in_ok-size-in-Stored-clause-reading
+returns-in_ok-size-in-Stored-clause-reading c =
+    labelled_size c.args.mode.with_alias_only (items_in c.args.mode.grok.now) c.args.levels c.args.label (meaning_view c.args.meaning) c.in-Stored.stored.now c.args.cache.now c.label.new.self _ c.in_ok-size-in-Stored.size
+    (ap meaning_view c.in-Stored.is) c.in_ok-label.ensures.shows c.in_ok-label.ensures.by_name c.in_ok-size-in-Stored.ensures.reading
 
 pub returns-in-Inline-clause-reading : goal.returns-in-Inline-clause-reading
 returns-in-Inline-clause-reading c st shows =
