@@ -402,8 +402,11 @@ fn error_alone(
             RefusalReason::Syntax(error) => Ok(Some(error)),
             RefusalReason::TooBig => Ok(None),
         },
-        Err(Error::Memory) => Err(AllocError),
-        Ok(None) | Err(_) => Ok(None),
+        Ok(None) => Ok(None),
+        Err(error) => match error {
+            Error::Memory => Err(AllocError),
+            _ => Ok(None),
+        },
     }
 }
 
