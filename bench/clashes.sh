@@ -1,12 +1,12 @@
 #!/usr/bin/env bash
 # Measures how long `compile` takes to find the first fault, and how much memory, if an alias ends in a number: then the
 # uses of keys are counted to find a clash. The definitions are the costly ones of docs/HOSTILE.md, in three sizes.
-# Another grok_tool can be given, to measure both in the same run.
+# The grok_calls of another version can be given, to measure both in the same run.
 #
-#   bench/clashes.sh [GROK_TOOL]
+#   bench/clashes.sh [GROK_CALLS]
 set -euo pipefail
 source "$(dirname "$0")/common.sh"
-tools=("$(program grok_tool)" "$@")
+programs=("$(program grok_calls)" "$@")
 sizes=(25 50 100)
 shapes=(doubled shared all-numbered circle)
 declare -A meaning=(
@@ -23,10 +23,9 @@ aliases() {
     echo
 }
 
-# Prints the definitions of a shape in about SIZE kB, one on a line, the pattern first: `library SHAPE SIZE`.
+# Prints the definitions of a shape in about SIZE kB, one on a line: `library SHAPE SIZE`.
 library() {
     local bytes=$(($2 * 1000)) level
-    echo '%{TOP}%{missing}'
     echo 'A=a'
     case $1 in
     doubled)
@@ -61,19 +60,16 @@ library() {
 
 echo "$(machine)."
 echo
-echo '| Definitions | kB | program | seconds | MB |'
-echo '|---|---|---|---|---|'
+echo '| Definitions | kB | program | seconds | MB | Answer |'
+echo '|---|---|---|---|---|---|'
 for shape in "${shapes[@]}"; do
     for size in "${sizes[@]}"; do
-        mapfile -t words < <(library "$shape" "$size")
-        for tool in "${tools[@]}"; do
-            status=0
-            timeout 600 /usr/bin/time -f '%e %M' -o "$room/took" "$tool" match -a "${words[@]}" </dev/null 2>"$room/complaint" || status=$?
-            if [ "$status" != 1 ]; then
-                echo "$tool ended with status $status: $(head -c 300 "$room/complaint")" >&2
-            fi
-            read -r seconds kib < <(tail -n 1 "$room/took")
-            echo "| ${meaning[$shape]} | $size | $tool | $seconds | $((kib / 1024)) |"
+        library "$shape" "$size" >"$room/library"
+        for program in "${programs[@]}"; do
+            timeout 600 /usr/bin/time -f %M -o "$room/peak" "$program" timed compile '%{TOP}%{missing}' \
+                <"$room/library" >"$room/answer" 2>"$room/complaint" || true
+            echo "| ${meaning[$shape]} | $size | $program | $(ratio "$(step_time compile)" 1000000) |" \
+                "$(($(tail -n 1 "$room/peak") / 1024)) | $(tail -n 1 "$room/answer" | head -c 80) |"
         done
     done
 done
