@@ -28,11 +28,13 @@ abbrev pub IsInEach : Re → Needles → Type 0
 IsInEach re needles = ContainsFramed re needles.literals (Some needles.frame)
 
 -- The facts hold for each match of `re`: it starts where the line starts if `at_start` is true, it begins with one of
--- the literals in `first` if there are any, and it contains one of those in `inner` if there are any.
+-- the literals in `first` if there are any, and it contains one of those in `inner` and one of those in
+-- `second` if there are any.
 pub record AreMatchFactsOf (re : Re) (facts : MatchFacts) : Type 0 where
   pub start : facts.at_start ≡ true → IsAnchored true re
   pub first : IfSome facts.first (BeginsEach re)
   pub inner : IfSome facts.inner (IsInEach re)
+  pub second : IfSome facts.second (IsInEach re)
 
 -- one of the literals in `needles` is at this position of `hay`, and the frame allows the bytes around it
 abbrev pub StandsAt : Needles → List ℕ → ℕ → Type 0

@@ -176,6 +176,9 @@ of_first re facts n h is = ∥∥₁_elim h ∥∥₁_prop (λ m. ∣ subst (λ 
 pub of_inner : (re : Re) (facts : MatchFacts) (n : Needles) → ∥ AreMatchFactsOf re facts ∥₁ → facts.inner ≡ Some n → ∥ IsInEach re n ∥₁
 of_inner re facts n h is = ∥∥₁_elim h ∥∥₁_prop (λ m. ∣ subst (λ o. IfSome o (IsInEach re)) is m.inner ∣₁)
 
+pub of_second : (re : Re) (facts : MatchFacts) (n : Needles) → ∥ AreMatchFactsOf re facts ∥₁ → facts.second ≡ Some n → ∥ IsInEach re n ∥₁
+of_second re facts n h is = ∥∥₁_elim h ∥∥₁_prop (λ m. ∣ subst (λ o. IfSome o (IsInEach re)) is m.second ∣₁)
+
 module _ (p : Program) (hay : List ℕ) (n : Needles) (bytes : All (λ b. b < 256) hay) where
   -- no match starts at a position without one of the literals that matches begin with
   pub position_of_first : ∥ BeginsEach (pattern_of p) n ∥₁ → (start : ℕ) (found : Option ℕ) → IsNextOf n hay start found → IsPositionOf p hay start found

@@ -21,6 +21,8 @@ pub(crate) struct MatchFacts {
     pub(crate) first: Option<Needles>,
     /// If not `None`, each match contains one of these literals.
     pub(crate) inner: Option<Needles>,
+    /// If not `None`, each match contains one of these literals too.
+    pub(crate) second: Option<Needles>,
 }
 
 /// Literals, and the bytes that may stand around them in a match.
@@ -42,18 +44,38 @@ impl MatchFacts {
                 at_start: true,
                 first: None,
                 inner: None,
+                second: None,
             });
         }
         let Frames {
             first,
             best,
-            second: _second,
+            second,
         } = regex_extract::framed_needles(alloc, &program.hir)?;
         Ok(MatchFacts {
             at_start: false,
             first: first_needles(alloc, program, first)?,
             inner: inner_needles(alloc, program, best)?,
+            second: inner_needles(alloc, program, second)?,
         })
+    }
+
+    /// Returns a position such that no match starts before it, or `None` if the line has no match
+    /// because it lacks literals that each match has.
+    pub(crate) fn first_position(&self, program: &Program, hay: &[u8]) -> Option<usize>
+        requires facts_hold { ∥ AreMatchFactsOf (pattern_of program.now) self.now ∥₁ }
+        ensures { IsPositionOf program.now hay.now 0 result }
+    {
+        let Some(position) = self.next_position(program, hay, 0) else {
+            return None;
+        };
+        let Some(second) = &self.second else {
+            return Some(position);
+        };
+        match second.next(hay, position) {
+            Some(_) => Some(position),
+            None => None,
+        }
     }
 
     /// Returns a position such that no match starts between `start` and it, or `None` if no match

@@ -255,7 +255,7 @@ fn first_span(
     if program.at_end && !facts.at_start {
         return span_at_end(program, reverse, hay);
     }
-    let Some(position) = facts.next_position(program, hay, 0) else {
+    let Some(position) = facts.first_position(program, hay) else {
         return Ok(None);
     };
     match forward.find_end(&program.dfa, hay, position, hay.len(), true, false) {
