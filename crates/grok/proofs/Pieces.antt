@@ -1,6 +1,6 @@
 -- Lemmas of the pieces of a text.
 pub mod RunsEndAtBoundaries
-pub mod WordEnds
+pub mod WordEndsDecideFaults
 pub mod TextBeginsWithOpening
 pub mod RestIsSuffix
 pub mod FirstPieceAndRest
@@ -11,5 +11,5 @@ pub mod ReadPlaceholderIsWritten
 pub mod PlaceholderFaults
 pub mod PiecesAreUnique
 pub mod PieceLaws
-pub mod PartRanges
+pub mod PartsEndAtBoundaries
 pub mod OneMoreSpan

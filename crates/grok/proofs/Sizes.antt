@@ -9,9 +9,9 @@ pub mod CountersAreExact
 pub mod ReachedPlaceholdersAreSeen
 pub mod ItemsAreSound
 pub mod ReadIsReached
-pub mod DigitsOfNumbers
+pub mod DigitsAddUp
 pub mod SumsFit
-pub mod MeasureLoop
+pub mod MeasureLoopIsReading
 pub mod MeasureLoopEnds
 pub mod MeasureIsCounted
 pub mod MeasuringAgain

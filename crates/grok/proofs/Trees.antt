@@ -1,11 +1,11 @@
 -- Lemmas of the tree of a pattern, and of compiling it.
 pub mod EventsOnStack
 pub mod TextIsWritten
-pub mod FaultsOfTrees
+pub mod TreeLawsHold
 pub mod WorkedPatterns
 pub mod ItemsStandAtPieces
 pub mod FirstFaultIsLocated
 pub mod ByteIsInPiece
 pub mod ByteIsLocated
 pub mod FaultInPlaceOfOpen
-pub mod CompileResults
+pub mod StepsCompile

@@ -6,7 +6,7 @@ use Rattle.std.specs.Cmp.Lexicographic.{slice_cmp}
 use Rattle.std.specs.Ordering.{nat_cmp}
 use Rattle.grok.specs.GeneratedNames.{generated}
 use Rattle.grok.specs.KeyTable.{Entries, meant_key, group_of}
-use Rattle.grok.specs.Answers.{answer_of, walk}
+use Rattle.grok.specs.Answers.{value_of, walk}
 
 -- the keys of a table are in byte order, each once
 abbrev pub Rises : Entries → Type 0
@@ -15,13 +15,13 @@ Rises table = IsStrictlySortedBy (slice_cmp nat_cmp) (keys_of table)
 -- A walk has exactly those keys of the table that have a value, in the order of the table.
 abbrev pub WalksHaveTheAnsweredKeys : Type 0
 WalksHaveTheAnsweredKeys = (table : Entries) (captures : List (Option (List ℕ))) → Rises table
-    → keys_of (walk table captures) ≡ filter (λ key. is_some (answer_of table captures key)) (keys_of table)
+    → keys_of (walk table captures) ≡ filter (λ key. is_some (value_of table captures key)) (keys_of table)
 
 -- A key has a value exactly if the walk has a pair with that key, and the value is the text in that pair.
 abbrev pub AnswersAreThoseOfTheWalk : Type 0
 AnswersAreThoseOfTheWalk = (table : Entries) (captures : List (Option (List ℕ))) → Rises table
     → (key text : List ℕ)
-    → (answer_of table captures key ≡ Some text) ↔ Contains (walk table captures) (key, text)
+    → (value_of table captures key ≡ Some text) ↔ Contains (walk table captures) (key, text)
 
 -- The generated name of number k means the key of number k: if the first key is `user`, `_n_0` means `user`.
 abbrev pub GeneratedNamesMeanTheirKeys : Type 0

@@ -49,8 +49,8 @@ abbrev pub capture_at : List (Option (List ℕ)) → ℕ → Option (List ℕ)
 capture_at captures group = slice_index_or captures group None
 
 -- the value of a key: what its group captured
-abbrev pub answer_of : Entries → List (Option (List ℕ)) → List ℕ → Option (List ℕ)
-answer_of table captures key = option_and_then (capture_at captures) (group_in table key)
+abbrev pub value_of : Entries → List (Option (List ℕ)) → List ℕ → Option (List ℕ)
+value_of table captures key = option_and_then (capture_at captures) (group_in table key)
 
 -- the key of an entry of the table, with the text that the entry's group captured, if that group took part
 abbrev pub pair_of : List (Option (List ℕ)) → List ℕ × ℕ → Option (List ℕ × List ℕ)

@@ -3,7 +3,7 @@ use Rattle.std.specs.Prelude.{◌≡◌, ◌<◌, ◌+◌, ℕ, suc, Bool, List,
 use Rattle.std.specs.Borrow.{Bor}
 use Rattle.grok.specs.Tree.{Definitions, Label, Meaning, meaning_text, Item, TextItem, PlaceholderItem, Event, Text, Open, Close, items_of, events, inside, deepest, tree, first_structural}
 use Rattle.grok.specs.Expanded.{expanded}
-use Rattle.grok.specs.FaultLocations.{StandsAt, path_view}
+use Rattle.grok.specs.FaultLocations.{IsPieceAt, path_view}
 use Rattle.grok.specs.declared.locate_byte.WrittenByte.{WrittenByte}
 use Rattle.grok.specs.declared.locate_byte.WrittenByte.TheVariants as written
 use Rattle.grok.specs.declared.locate_byte.ByteLocation.{ByteLocation}
@@ -28,13 +28,13 @@ pub data IsEventAt (stored : Definitions) : (levels : ℕ) (text : List ℕ) (pa
     (found : List ℕ) (from to : ℕ) (item : Item) (before : List Event) (event : Event) → Type 0 where
   Here : (levels : ℕ) (text : List ℕ) (items : List Item) (from to : ℕ) (item : Item) (own : List Event)
       (event : Event)
-      → StandsAt stored text items from to item
+      → IsPieceAt stored text items from to item
       → IsOwnEvent stored levels item own event
       → IsEventAt stored levels text [] text from to item (events (inside (items_of stored) levels) items ++ own) event
   Inside : (levels : ℕ) (text : List ℕ) (items : List Item) (begin end : ℕ) (label : Label)
       (meaning : Meaning) (path : List (List ℕ)) (found : List ℕ) (from to : ℕ) (item : Item)
       (before : List Event) (event : Event)
-      → StandsAt stored text items begin end (PlaceholderItem label meaning)
+      → IsPieceAt stored text items begin end (PlaceholderItem label meaning)
       → IsEventAt stored levels (meaning_text meaning) path found from to item before event
       → IsEventAt stored (suc levels) text (label.name ∷ path) found from to item
       (events (inside (items_of stored) (suc levels)) items ++ Open label meaning ∷ before) event

@@ -5,7 +5,7 @@ use Rattle.grok.specs.Expanded.{expanded, groups}
 use Rattle.grok.specs.Sizes.{Size, length_of, size_or_fault}
 use Rattle.grok.specs.MeasuredOnce.{inlined}
 use Rattle.grok.specs.MeasureCache.{shown}
-use Rattle.grok.specs.FaultLocations.{StandsAt, fault_within}
+use Rattle.grok.specs.FaultLocations.{IsPieceAt, fault_within}
 use Rattle.grok.specs.ByteLocations.{IsOwnEvent, IsPartOf}
 use Rattle.grok.specs.declared.measure.partial_size.PartialSize.{PartialSize}
 use Rattle.grok.specs.declared.locate_byte.WrittenByte.{WrittenByte}
@@ -101,7 +101,7 @@ pub record IsWritingPiece (stored : Definitions) (alias_only : Bool) (levels : â
     (before : List Event) (byte : â„•) (found : WritingPiece) : Type 0 where
   pub items : List Item
   pub item : Item
-  pub stands : StandsAt stored text items found.range.start found.range.end item
+  pub stands : IsPieceAt stored text items found.range.start found.range.end item
   pub writer : IsWriter stored alias_only levels
       (before ++ events (inside (items_of stored) levels) items) byte item found.writer
 

@@ -3,7 +3,7 @@ use Rattle.std.specs.Prelude.{◌≡◌, ℕ, ◌≤◌, Bool, List}
 use Rattle.grok.specs.declared.measure.Measure.{Measure}
 use Rattle.grok.specs.declared.measure.Looks.{Looks}
 use Rattle.grok.specs.Maps.{Texts}
-use Rattle.grok.specs.Measured.{tree_of, IsClean, measured_tree, counted, reached_pieces, reached_texts}
+use Rattle.grok.specs.Measured.{tree_of, IsClean, measured_tree, saturated, reached_pieces, reached_texts}
 use Rattle.grok.specs.MeasureCache.{reading_of, measure_view}
 
 -- THE RESULT of measuring a pattern with these definitions, and how many pieces and ends of texts were read for
@@ -11,9 +11,9 @@ use Rattle.grok.specs.MeasureCache.{reading_of, measure_view}
 pub record IsCountedMeasure (texts : Texts) (alias_only : Bool) (pattern : List ℕ) (measure : Measure)
     (looks : Looks) : Type 0 where
   pub answer : measure_view measure ≡ measured_tree alias_only (tree_of texts pattern)
-  pub pieces : looks.pieces ≤ counted (reached_pieces texts pattern)
-  pub ends : looks.ends ≤ counted (reached_texts texts pattern)
-  pub all_pieces : IsClean (tree_of texts pattern) → looks.pieces ≡ counted (reached_pieces texts pattern)
-  pub all_ends : IsClean (tree_of texts pattern) → looks.ends ≡ counted (reached_texts texts pattern)
-  pub read_pieces : looks.pieces ≡ counted (reading_of texts alias_only pattern).looks
-  pub read_ends : looks.ends ≡ counted (reading_of texts alias_only pattern).ends
+  pub pieces : looks.pieces ≤ saturated (reached_pieces texts pattern)
+  pub ends : looks.ends ≤ saturated (reached_texts texts pattern)
+  pub all_pieces : IsClean (tree_of texts pattern) → looks.pieces ≡ saturated (reached_pieces texts pattern)
+  pub all_ends : IsClean (tree_of texts pattern) → looks.ends ≡ saturated (reached_texts texts pattern)
+  pub read_pieces : looks.pieces ≡ saturated (reading_of texts alias_only pattern).looks
+  pub read_ends : looks.ends ≡ saturated (reading_of texts alias_only pattern).ends

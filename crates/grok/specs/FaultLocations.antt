@@ -21,7 +21,7 @@ end_of_all text from (piece ∷ pieces) = end_of_all text (end_of text piece) pi
 
 -- The text has a piece at the byte range from `from` to `to`, and `item` is the item of that piece (the piece with
 -- its placeholder resolved to its definition). `before` has the items of the pieces before it.
-pub record StandsAt (stored : Definitions) (text : List ℕ) (before : List Item) (from to : ℕ)
+pub record IsPieceAt (stored : Definitions) (text : List ℕ) (before : List Item) (from to : ℕ)
     (item : Item) : Type 0 where
   pub pieces_before : List Piece
   pub piece : Piece
@@ -53,11 +53,11 @@ pub data IsOwnFault : ℕ → Item → Fault → Type 0 where
 pub data IsFaultAt (stored : Definitions) : (levels : ℕ) (text : List ℕ) (path : List (List ℕ))
     (faulty : List ℕ) (from to : ℕ) (fault : Fault) → Type 0 where
   Here : (levels : ℕ) (text : List ℕ) (before : List Item) (from to : ℕ) (item : Item) (fault : Fault)
-      → StandsAt stored text before from to item → fault_within stored levels before ≡ None
+      → IsPieceAt stored text before from to item → fault_within stored levels before ≡ None
       → IsOwnFault levels item fault → IsFaultAt stored levels text [] text from to fault
   Inside : (levels : ℕ) (text : List ℕ) (before : List Item) (begin end : ℕ) (label : Label)
       (definition : List ℕ) (path : List (List ℕ)) (faulty : List ℕ) (from to : ℕ) (fault : Fault)
-      → StandsAt stored text before begin end (PlaceholderItem label (Stored definition))
+      → IsPieceAt stored text before begin end (PlaceholderItem label (Stored definition))
       → stored label.name ≡ Some definition
       → fault_within stored (suc levels) before ≡ None
       → IsFaultAt stored levels definition path faulty from to fault

@@ -1,7 +1,8 @@
 -- Another way to say what the first fault and the extract of a key are: the list of events, or of capturing
 -- placeholders, can be cut at the right position.
 use Rattle.std.specs.Prelude.{◌≡◌, ℕ, Bool, true, false, List, [], ◌∷◌, ◌++◌, Some, None}
-use Rattle.grok.specs.Tree.{is_absent, Label, Meaning, Fault, Event, Open, FaultEvent}
+use Rattle.std.specs.Option.{option_map}
+use Rattle.grok.specs.Tree.{is_absent, Label, Meaning, Fault, Event, Open, FaultEvent, first_structural}
 use Rattle.grok.specs.Keys.{is_capturing, capturing, key_after, keys, TreeFault, Structural, Clash, is_among, first_fault, extract_of}
 
 -- The event is a fault if it comes after the events `before`: it is a structural fault, or it opens a capturing
@@ -41,6 +42,12 @@ pub record FindsFirstFault (alias_only : Bool) (tree : List Event) : Type 0 wher
 -- THE LAW: in every tree, `first_fault` finds the first fault.
 abbrev pub FirstFaultIsFirst : Type 0
 FirstFaultIsFirst = (alias_only : Bool) (tree : List Event) → FindsFirstFault alias_only tree
+
+-- THE LAW: if the first fault of a tree isn't a clash, it is the first structural fault.
+abbrev pub OtherFaultIsStructural : Type 0
+OtherFaultIsStructural = (alias_only : Bool) (tree : List Event)
+    → ((key : List ℕ) → first_fault alias_only tree ≡ Some (Clash key) → ⊥)
+    → first_fault alias_only tree ≡ option_map Structural (first_structural tree)
 
 -- ---- extracts
 

@@ -14,7 +14,7 @@ use Rattle.grok.specs.Items.{fault_view}
 use Rattle.grok.specs.declared.errors.fault.TreeFault.{TreeFault as CodeFault}
 use Rattle.grok.specs.declared.errors.fault.TreeFault.TheVariants as fault
 use Rattle.grok.specs.declared.expand.key_uses.KeyUses.{KeyUses}
-use Rattle.grok.specs.declared.expand.counted_definitions.CompileMode.{CompileMode}
+use Rattle.grok.specs.declared.expand.counted_definitions.CompileSettings.{CompileSettings}
 use Rattle.grok.specs.declared.expand.first_fault.ItemStep.{ItemStep}
 use Rattle.grok.specs.declared.expand.first_fault.ItemStep.TheVariants.{Skip, Enter, Report}
 
@@ -53,65 +53,65 @@ CountsUse before label total clash = MatchOption clash (CountedUse before label 
 
 -- The first fault of the events `es`, if the placeholders `before` were counted before them. Placeholders in `es` that
 -- can't clash are left out.
-abbrev pub counted_fault : CompileMode → List Label → List Event → Option TreeFault
-counted_fault mode before es = faults mode.with_alias_only before (only_clashing mode.numbered.now es)
+abbrev pub counted_fault : CompileSettings → List Label → List Event → Option TreeFault
+counted_fault settings before es = faults settings.with_alias_only before (only_clashing settings.numbered.now es)
 
 -- All placeholders that were counted once the events `es` are read: those in `before`, and those in `es` that can clash.
 -- The list begins with the latest one.
-abbrev pub counted_after : CompileMode → List Label → List Event → List Label
-counted_after mode before es = after mode.with_alias_only before (only_clashing mode.numbered.now es)
+abbrev pub counted_after : CompileSettings → List Label → List Event → List Label
+counted_after settings before es = after settings.with_alias_only before (only_clashing settings.numbered.now es)
 
 -- None of the events `es`, which come after the placeholders `before`, is a fault. `total` counts the placeholders in
 -- `before` and those in `es` that can clash.
-pub record HaveCounted (mode : CompileMode) (before : List Label) (es : List Event) (total : KeyUses) : Type 0 where
-  pub none : counted_fault mode before es ≡ None
-  pub is_count : IsCountOf total (counted_after mode before es)
+pub record HaveCounted (settings : CompileSettings) (before : List Label) (es : List Event) (total : KeyUses) : Type 0 where
+  pub none : counted_fault settings before es ≡ None
+  pub is_count : IsCountOf total (counted_after settings before es)
 
 -- the events of items of a definition, if `levels` levels are allowed, of which its placeholder takes one
-abbrev pub events_inside : CompileMode → ℕ → List Item → List Event
-events_inside mode levels = events (opened_events mode (levels - 1))
+abbrev pub events_inside : CompileSettings → ℕ → List Item → List Event
+events_inside settings levels = events (opened_events settings (levels - 1))
 
 -- What the result of `skip_counted` means. If it is `true`, the counted items of a definition are skipped, and `new`
 -- counts them too. If it is `false`, `new` still counts only the placeholders in `before`.
-abbrev pub SkipsCounted : CompileMode → List Item → ℕ → List Label → KeyUses → KeyUses → Bool → Type 0
-SkipsCounted mode items levels before old new true = HaveCounted mode before (events_inside mode levels items) new
-SkipsCounted mode items levels before old new false = IsCountOf new before
+abbrev pub SkipsCounted : CompileSettings → List Item → ℕ → List Label → KeyUses → KeyUses → Bool → Type 0
+SkipsCounted settings items levels before old new true = HaveCounted settings before (events_inside settings levels items) new
+SkipsCounted settings items levels before old new false = IsCountOf new before
 
 -- The definition `text` is entered, since a level is left. Its first items, `skipped`, have no fault and were counted.
 -- Its other items, `items`, remain to be read.
-pub record EntersText (mode : CompileMode) (levels : ℕ) (text : List ℕ) (items : List Item) (before : List Label)
+pub record EntersText (settings : CompileSettings) (levels : ℕ) (text : List ℕ) (items : List Item) (before : List Label)
     (total : KeyUses) : Type 0 where
   pub room : 0 < levels
   pub skipped : List Item
-  pub cut : resolve mode text ≡ skipped ++ items
-  pub passed : HaveCounted mode before (events_inside mode levels skipped) total
+  pub cut : resolve settings text ≡ skipped ++ items
+  pub passed : HaveCounted settings before (events_inside settings levels skipped) total
 
 -- one step at the text of a placeholder: skip it, enter it, or report its first fault
-abbrev pub StepsAtText : CompileMode → ℕ → List ℕ → List Label → KeyUses → ItemStep → Type 0
-StepsAtText mode levels text before total Skip = HaveCounted mode before (opened_events mode levels text) total
-StepsAtText mode levels text before total (Enter items) = EntersText mode levels text items before total
-StepsAtText mode levels text before total (Report tree_fault) =
-    counted_fault mode before (opened_events mode levels text) ≡ Some (tree_fault_view tree_fault)
+abbrev pub StepsAtText : CompileSettings → ℕ → List ℕ → List Label → KeyUses → ItemStep → Type 0
+StepsAtText settings levels text before total Skip = HaveCounted settings before (opened_events settings levels text) total
+StepsAtText settings levels text before total (Enter items) = EntersText settings levels text items before total
+StepsAtText settings levels text before total (Report tree_fault) =
+    counted_fault settings before (opened_events settings levels text) ≡ Some (tree_fault_view tree_fault)
 
 -- The item is a placeholder, and its definition is entered. The placeholder and the first items of that definition,
 -- `skipped`, have no fault and were counted. The other items of it, `items`, remain to be read.
-pub record EntersPlaceholder (mode : CompileMode) (levels : ℕ) (item : Item) (items : List Item) (before : List Label)
+pub record EntersPlaceholder (settings : CompileSettings) (levels : ℕ) (item : Item) (items : List Item) (before : List Label)
     (total : KeyUses) : Type 0 where
   pub label : Label
   pub meaning : Meaning
   pub is : item ≡ PlaceholderItem label meaning
   pub room : 0 < levels
   pub skipped : List Item
-  pub cut : resolve mode (meaning_text meaning) ≡ skipped ++ items
-  pub passed : HaveCounted mode before (Open label meaning ∷ events_inside mode levels skipped) total
+  pub cut : resolve settings (meaning_text meaning) ≡ skipped ++ items
+  pub passed : HaveCounted settings before (Open label meaning ∷ events_inside settings levels skipped) total
 
 -- one step at an item: skip it with its definition, enter the definition, or report the first fault
-abbrev pub StepsAtItem : CompileMode → ℕ → Item → List Label → KeyUses → ItemStep → Type 0
-StepsAtItem mode levels item before total Skip =
-    HaveCounted mode before (events (opened_events mode levels) (item ∷ [])) total
-StepsAtItem mode levels item before total (Enter items) = EntersPlaceholder mode levels item items before total
-StepsAtItem mode levels item before total (Report tree_fault) =
-    counted_fault mode before (events (opened_events mode levels) (item ∷ []))
+abbrev pub StepsAtItem : CompileSettings → ℕ → Item → List Label → KeyUses → ItemStep → Type 0
+StepsAtItem settings levels item before total Skip =
+    HaveCounted settings before (events (opened_events settings levels) (item ∷ [])) total
+StepsAtItem settings levels item before total (Enter items) = EntersPlaceholder settings levels item items before total
+StepsAtItem settings levels item before total (Report tree_fault) =
+    counted_fault settings before (events (opened_events settings levels) (item ∷ []))
     ≡ Some (tree_fault_view tree_fault)
 
 -- ---- the number of a clash

@@ -3,7 +3,7 @@ use Rattle.std.specs.Prelude.{◌≡◌, ◌<◌, ℕ, suc, List, Option, Some, 
 use Rattle.grok.specs.Tree.{Definitions, Fault, Label, Inline, Stored, Item, TextItem, FaultItem, PlaceholderItem, items_of, inside, first_structural}
 use Rattle.grok.specs.Sizes.{Size}
 use Rattle.grok.specs.Items.{fault_view}
-use Rattle.grok.specs.FaultLocations.{StandsAt, IsOwnFault, fault_within}
+use Rattle.grok.specs.FaultLocations.{IsPieceAt, IsOwnFault, fault_within}
 use Rattle.grok.specs.declared.locate.Wrong.{Wrong}
 use Rattle.grok.specs.declared.locate.Wrong.TheVariants as wrong
 use Rattle.grok.specs.declared.locate.FirstWrong.{FirstWrong}
@@ -42,6 +42,6 @@ IsWrong stored levels item (wrong.Inside name definition) = IsFaultInside stored
 pub record IsFirstWrong (stored : Definitions) (levels : ℕ) (text : List ℕ) (first : FirstWrong) : Type 0 where
   pub before : List Item
   pub item : Item
-  pub stands : StandsAt stored text before first.range.start first.range.end item
+  pub stands : IsPieceAt stored text before first.range.start first.range.end item
   pub clean : fault_within stored levels before ≡ None
   pub wrong : IsWrong stored levels item first.wrong

@@ -53,6 +53,7 @@ pub mod FirstWrong
 pub mod ByteLocations
 pub mod ByteSteps
 pub mod ClashLocations
+pub mod FirstFaultLocations
 pub mod UseSteps
 pub mod TreeLaws
 -- THE WORDS FOR CALLERS: every definition that a contract of a public call uses.
@@ -68,7 +69,7 @@ pub use Rattle.grok.specs.Tree.{Definitions, Event, Fault, tree, first_structura
 pub use Rattle.grok.specs.Keys.{capturing, keys, extract_of, first_fault}
 pub use Rattle.grok.specs.Expanded.{expanded}
 -- sizes
-pub use Rattle.grok.specs.Measured.{measured_tree, reached_pieces, reached_texts, counted}
+pub use Rattle.grok.specs.Measured.{measured_tree, reached_pieces, reached_texts, saturated}
 pub use Rattle.grok.specs.MeasureCache.{measure_view}
 pub use Rattle.grok.specs.CountedMeasures.{IsCountedMeasure}
 -- where the first structural fault stands
@@ -78,6 +79,8 @@ pub use Rattle.grok.specs.ByteLocations.{HasByte, IsByteLocation, LocatesByte}
 -- where the two placeholders of a clash stand
 pub use Rattle.grok.specs.ByteLocations.{IsEventAt}
 pub use Rattle.grok.specs.ClashLocations.{HasKeyAt, IsClashAt, IsFirstClash}
+-- where the first fault stands
+pub use Rattle.grok.specs.FirstFaultLocations.{located_fault, IsFirstFaultAt}
 -- errors, and what compiling returns
 pub use Rattle.grok.specs.Items.{fault_view}
 pub use Rattle.grok.specs.Errors.{ErrorValue, error_value, error_text}
@@ -93,5 +96,5 @@ pub use Rattle.grok.specs.Locations.{AreLocationsIn, located_texts}
 pub use Rattle.regex.specs.Strings
 -- patterns and matches
 pub use Rattle.grok.specs.KeyTable.{Entries, IsKeyTable}
-pub use Rattle.grok.specs.Answers.{PatternValue, MatchesValue, answer_of, walk}
+pub use Rattle.grok.specs.Answers.{PatternValue, MatchesValue, value_of, walk}
 pub use Rattle.grok.specs.BorrowedMatches.{borrowed_keys, borrowed_captures}

@@ -26,7 +26,7 @@ use Rattle.grok.specs.Sizes.{Size, length_of, size_or_fault}
 use Rattle.grok.specs.MeasuredOnce as kept
 use Rattle.grok.specs.MeasuredOnce.{State, Reading, InProgress, HasSize, HasFault, NeedsMoreThan, known_result, failed_progress, by_progress, labelled, with_progress, with_reach, measure_within}
 use Rattle.grok.specs.NumberedBases.{is_base_in}
-use Rattle.grok.specs.Measured.{Measured, Faulty, Sized, TooLong, size_within, counted}
+use Rattle.grok.specs.Measured.{Measured, Faulty, Sized, TooLong, size_within, saturated}
 
 -- the items of a text, resolved by these definitions
 abbrev pub items_in : Texts → List ℕ → List tree.Item
@@ -86,8 +86,8 @@ is_kept (Some (progress.NeedsMoreThan levels)) = false
 pub record ShowsState (cache : MeasureCache) (st : State) : Type 0 where
   pub by_name : (name : List ℕ) → option_map progress_view (progress_of cache.by_name name)
       ≡ option_map shown_progress (st.by_name name)
-  pub pieces : cache.looks.pieces ≡ counted st.looks
-  pub ends : cache.looks.ends ≡ counted st.ends
+  pub pieces : cache.looks.pieces ≡ saturated st.looks
+  pub ends : cache.looks.ends ≡ saturated st.ends
   pub numbered : (base : List ℕ) → is_base_in cache.numbered base ≡ st.numbered base
 
 -- if `r` is a fault, its height is `st.reach`, how many levels were nested before it
@@ -125,7 +125,7 @@ HasProgress name progress before after = (other : List ℕ) → progress_of afte
     ≡ (if bytes_eq name other then Some progress else progress_of before.by_name other)
 
 -- measuring this definition has begun: it had to be measured with `levels` levels left, and is in progress now
-pub record HasBegun (name : List ℕ) (levels : ℕ) (before after : MeasureCache) : Type 0 where
+pub record BeginsMeasuring (name : List ℕ) (levels : ℕ) (before after : MeasureCache) : Type 0 where
   pub unkept : is_kept (progress_of before.by_name name) ≡ false
   pub unknown : IsUnknown name levels before
   pub updated : HasProgress name progress.InProgress before after
@@ -207,7 +207,7 @@ IsIdle measurer = measurer.frames.items ≡ []
 
 -- everything that the measurer remembers is right
 abbrev pub HasCorrectCache : Measurer → Type 0
-HasCorrectCache measurer = ShowsCorrectState measurer.mode.grok.now measurer.mode.with_alias_only measurer.cache
+HasCorrectCache measurer = ShowsCorrectState measurer.settings.grok.now measurer.settings.with_alias_only measurer.cache
 
 -- the public result for this size or fault
 abbrev pub measured_size : Result Size tree.Fault → Measured

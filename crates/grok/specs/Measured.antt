@@ -72,5 +72,5 @@ abbrev pub reached_texts : Texts → List ℕ → ℕ
 reached_texts texts pattern = reached_weight (λ text. 1) texts pattern
 
 -- what a counter of the code shows after `n` steps: it stays at the greatest `u64`
-abbrev pub counted : ℕ → ℕ
-counted n = min n (2 ^ 64 - 1)
+abbrev pub saturated : ℕ → ℕ
+saturated n = min n (2 ^ 64 - 1)

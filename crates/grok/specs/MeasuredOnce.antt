@@ -68,10 +68,6 @@ piece_read st = record { by_name = st.by_name; looks = st.looks + 1; ends = st.e
 abbrev pub labelled : Label → State → State
 labelled label st = record { by_name = st.by_name; looks = st.looks; ends = st.ends; numbered = λ base. is_numbered_from base label.alias || st.numbered base; reach = st.reach }
 
--- the state after one more piece was read, which is a placeholder with this label
-abbrev pub placeholder_read : Label → State → State
-placeholder_read label st = labelled label (piece_read st)
-
 -- the state after one more end of a text was read
 abbrev pub ended : State → State
 ended st = record { by_name = st.by_name; looks = st.looks; ends = st.ends + 1; numbered = st.numbered; reach = st.reach }

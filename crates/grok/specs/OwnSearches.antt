@@ -37,14 +37,14 @@ pub record AreMatchFactsOf (re : Re) (facts : MatchFacts) : Type 0 where
   pub second : IfSome facts.second (IsInEach re)
 
 -- one of the literals in `needles` is at this position of `hay`, and the frame allows the bytes around it
-abbrev pub StandsAt : Needles → List ℕ → ℕ → Type 0
-StandsAt needles hay = IsCandidate hay needles.literals (Some needles.frame)
+abbrev pub HasLiteralAt : Needles → List ℕ → ℕ → Type 0
+HasLiteralAt needles hay = IsCandidate hay needles.literals (Some needles.frame)
 
 -- No literal that the frame allows begins in `hay` at `start` or later and before the position `found`. If `found` is
 -- `None`, none begins at `start` or later.
 abbrev pub IsNextOf : Needles → List ℕ → ℕ → Option ℕ → Type 0
-IsNextOf needles hay start found = MatchOption found (Nowhere (StandsAt needles hay) start (length hay + 1))
-    (NoneBefore (StandsAt needles hay) start (length hay + 1))
+IsNextOf needles hay start found = MatchOption found (Nowhere (HasLiteralAt needles hay) start (length hay + 1))
+    (NoneBefore (HasLiteralAt needles hay) start (length hay + 1))
 
 -- No match starts at `start` or later and before the position `found`. If `found` is `None`, no match starts at
 -- `start` or later.

@@ -54,7 +54,7 @@ abbrev pub range_from : ℕ → ℕ → TextRange
 range_from from len = if len == 0 then record { from = 0; to = 0 } else record { from = from; to = from + len }
 
 -- T has `part` at the byte range that `range_from` returns for `from` and the length of `part`
-pub record StandsAt (T : List ℕ) (from : ℕ) (part : List ℕ) : Type 0 where
+pub record IsPartAt (T : List ℕ) (from : ℕ) (part : List ℕ) : Type 0 where
   pub range : IsRangeOf T (range_from from (length part))
   pub reads : text_in T (range_from from (length part)) ≡ part
 
@@ -63,10 +63,10 @@ pub record StandsAt (T : List ℕ) (from : ℕ) (part : List ℕ) : Type 0 where
 -- end. An absent part is empty.
 pub record PartsStand (T : List ℕ) (s e : ℕ) (p : spec.Parts) : Type 0 where
   pub fits : s + 2 + length p.name + length p.alias + length p.extract + length p.definition + 1 ≤ e
-  pub name : StandsAt T (s + 2) p.name
-  pub alias : StandsAt T (s + 2 + length p.name + 1) p.alias
-  pub extract : StandsAt T (s + 2 + length p.name + 1 + length p.alias + 1) p.extract
-  pub definition : StandsAt T (e - 1 - length p.definition) p.definition
+  pub name : IsPartAt T (s + 2) p.name
+  pub alias : IsPartAt T (s + 2 + length p.name + 1) p.alias
+  pub extract : IsPartAt T (s + 2 + length p.name + 1 + length p.alias + 1) p.extract
+  pub definition : IsPartAt T (e - 1 - length p.definition) p.definition
 
 -- `text` is what T has in the range from s to e, which begins and ends at character boundaries of T
 pub record PieceStands (T : List ℕ) (s e : ℕ) (text : List ℕ) : Type 0 where

@@ -63,8 +63,8 @@ UnusedDefinitionsDoNotMatter = (stored other : Definitions) (pattern : List ℕ)
 
 -- If measuring a tree reports a fault, it reports the same fault with and without alias-only mode.
 abbrev pub ModesFaultAlike : Type 0
-ModesFaultAlike = (tree : List Event) (mode other : Bool) (fault : Fault)
-    → measured_tree mode tree ≡ Faulty fault → measured_tree other tree ≡ Faulty fault
+ModesFaultAlike = (tree : List Event) (alias_only other : Bool) (fault : Fault)
+    → measured_tree alias_only tree ≡ Faulty fault → measured_tree other tree ≡ Faulty fault
 
 -- the start of a group, with or without a generated name
 pub data IsHead : List ℕ → Type 0 where

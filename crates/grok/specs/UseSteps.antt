@@ -7,7 +7,7 @@ use Rattle.grok.specs.Keys.{base_key, how_often}
 use Rattle.grok.specs.CountedDefinitions.{resolve, opened_events, is_counted, counted}
 use Rattle.grok.specs.FaultLocations.{path_view}
 use Rattle.grok.specs.ByteLocations.{IsEventAt}
-use Rattle.grok.specs.declared.expand.counted_definitions.CompileMode.{CompileMode}
+use Rattle.grok.specs.declared.expand.counted_definitions.CompileSettings.{CompileSettings}
 use Rattle.grok.specs.declared.locate_clash.PlaceholderLocation.{PlaceholderLocation}
 use Rattle.grok.specs.declared.locate_clash.SoughtKeys.{SoughtKeys}
 use Rattle.grok.specs.declared.locate_clash.UsesSoFar.{UsesSoFar}
@@ -26,62 +26,62 @@ pub record HasPassed (uses others : ℕ) (old new : UsesSoFar) : Type 0 where
   pub seen : new.is_other_used ≡ (old.is_other_used || is_some_use others)
 
 -- The search passed over the uses that are counted among these events.
-abbrev pub HasPassedEvents : CompileMode → SoughtKeys → List Event → UsesSoFar → UsesSoFar → Type 0
-HasPassedEvents mode keys es old new = HasPassed (how_often (counted mode es) keys.base.now)
-    (how_often (counted mode es) keys.other.now) old new
+abbrev pub HasPassedEvents : CompileSettings → SoughtKeys → List Event → UsesSoFar → UsesSoFar → Type 0
+HasPassedEvents settings keys es old new = HasPassed (how_often (counted settings es) keys.base.now)
+    (how_often (counted settings es) keys.other.now) old new
 
 -- the item is a placeholder whose counted use of the base key is the one that is sought
-pub record IsSoughtUse (mode : CompileMode) (keys : SoughtKeys) (item : Item) (so_far : UsesSoFar) : Type 0 where
+pub record IsSoughtUse (settings : CompileSettings) (keys : SoughtKeys) (item : Item) (so_far : UsesSoFar) : Type 0 where
   pub label : Label
   pub meaning : Meaning
   pub is : item ≡ PlaceholderItem label meaning
-  pub counts : is_counted mode label ≡ true
+  pub counts : is_counted settings label ≡ true
   pub asks : base_key label ≡ keys.base.now
   pub last : so_far.left ≡ 0
 
 -- The item is a placeholder of this name, which stands for this stored definition, and a level is left for it. The
 -- search passed over the placeholder's own use.
-pub record LeadsInside (mode : CompileMode) (keys : SoughtKeys) (levels : ℕ) (item : Item)
+pub record LeadsInside (settings : CompileSettings) (keys : SoughtKeys) (levels : ℕ) (item : Item)
     (name definition : List ℕ) (old new : UsesSoFar) : Type 0 where
   pub label : Label
   pub is : item ≡ PlaceholderItem label (Stored definition)
   pub named : label.name ≡ name
   pub room : 0 < levels
-  pub passed : HasPassedEvents mode keys (Open label (Stored definition) ∷ []) old new
+  pub passed : HasPassedEvents settings keys (Open label (Stored definition) ∷ []) old new
 
 -- one step at an item: the search passed over it, it is the use, or its definition has to be read
-abbrev pub StepsAtUse : CompileMode → SoughtKeys → ℕ → Item → UseStep → UsesSoFar → UsesSoFar → Type 0
-StepsAtUse mode keys levels item step.Later old new =
-    HasPassedEvents mode keys (events (opened_events mode levels) (item ∷ [])) old new
-StepsAtUse mode keys levels item step.Here old new = IsSoughtUse mode keys item old × (new ≡ old)
-StepsAtUse mode keys levels item (step.Inside name definition) old new =
-    LeadsInside mode keys levels item name.now definition.now old new
+abbrev pub StepsAtUse : CompileSettings → SoughtKeys → ℕ → Item → UseStep → UsesSoFar → UsesSoFar → Type 0
+StepsAtUse settings keys levels item step.Later old new =
+    HasPassedEvents settings keys (events (opened_events settings levels) (item ∷ [])) old new
+StepsAtUse settings keys levels item step.Here old new = IsSoughtUse settings keys item old × (new ≡ old)
+StepsAtUse settings keys levels item (step.Inside name definition) old new =
+    LeadsInside settings keys levels item name.now definition.now old new
 
 -- the same at what a placeholder stands for, after its own use
-abbrev pub StepsAtMeaning : CompileMode → SoughtKeys → ℕ → Label → Meaning → UseStep → UsesSoFar → UsesSoFar → Type 0
-StepsAtMeaning mode keys levels label meaning step.Later old new =
-    HasPassedEvents mode keys (opened_events mode levels (meaning_text meaning)) old new
-StepsAtMeaning mode keys levels label meaning step.Here old new = ⊥
-StepsAtMeaning mode keys levels label meaning (step.Inside name definition) old new =
+abbrev pub StepsAtMeaning : CompileSettings → SoughtKeys → ℕ → Label → Meaning → UseStep → UsesSoFar → UsesSoFar → Type 0
+StepsAtMeaning settings keys levels label meaning step.Later old new =
+    HasPassedEvents settings keys (opened_events settings levels (meaning_text meaning)) old new
+StepsAtMeaning settings keys levels label meaning step.Here old new = ⊥
+StepsAtMeaning settings keys levels label meaning (step.Inside name definition) old new =
     (meaning ≡ Stored definition.now) × (label.name ≡ name.now) × (0 < levels) × (new ≡ old)
 
 -- The sought use is found: a placeholder with the base key `keys.base`. It is the piece at the byte range from `from` to
 -- `to` of the text `found`, and `path` has the definitions that lead there from `text`, where `levels` levels are left.
 -- Before it, `keys.base` is used `old.left` times.
-pub record IsUseAt (mode : CompileMode) (keys : SoughtKeys) (levels : ℕ) (text : List ℕ) (path : List (List ℕ))
+pub record IsUseAt (settings : CompileSettings) (keys : SoughtKeys) (levels : ℕ) (text : List ℕ) (path : List (List ℕ))
     (found : List ℕ) (from to : ℕ) (old new : UsesSoFar) : Type 0 where
   pub label : Label
   pub meaning : Meaning
   pub before : List Event
-  pub stands : IsEventAt (finite.get mode.grok.now) levels text path found from to (PlaceholderItem label meaning)
+  pub stands : IsEventAt (finite.get settings.grok.now) levels text path found from to (PlaceholderItem label meaning)
       before (Open label meaning)
-  pub counts : is_counted mode label ≡ true
+  pub counts : is_counted settings label ≡ true
   pub asks : base_key label ≡ keys.base.now
-  pub passed : HasPassedEvents mode keys before old new
+  pub passed : HasPassedEvents settings keys before old new
   pub last : new.left ≡ 0
 
 -- all of this text is still to be searched
-pub record HasBegun (stored : Definitions) (text : List ℕ) (searched : SearchedText) : Type 0 where
+pub record BeginsSearch (stored : Definitions) (text : List ℕ) (searched : SearchedText) : Type 0 where
   pub same : searched.text.now ≡ text
   pub items_are : searched.items ≡ items_of stored text
   pub pieces_are : searched.pieces ≡ pieces text
@@ -89,8 +89,8 @@ pub record HasBegun (stored : Definitions) (text : List ℕ) (searched : Searche
 
 -- What the search of a pattern for the sought use of a base key returns: where the placeholder with that use is, or
 -- `None` if the search passed over the whole pattern.
-abbrev pub FindsUse : CompileMode → SoughtKeys → List ℕ → Option PlaceholderLocation → UsesSoFar → UsesSoFar → Type 0
-FindsUse mode keys pattern found old new = MatchOption found
-    (HasPassedEvents mode keys (events (opened_events mode deepest) (resolve mode pattern)) old new)
-    (λ location. IsUseAt mode keys deepest pattern (path_view location.path.items) location.text.now
+abbrev pub FindsUse : CompileSettings → SoughtKeys → List ℕ → Option PlaceholderLocation → UsesSoFar → UsesSoFar → Type 0
+FindsUse settings keys pattern found old new = MatchOption found
+    (HasPassedEvents settings keys (events (opened_events settings deepest) (resolve settings pattern)) old new)
+    (λ location. IsUseAt settings keys deepest pattern (path_view location.path.items) location.text.now
     location.range.start location.range.end old new)

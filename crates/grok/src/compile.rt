@@ -9,9 +9,8 @@ ghost use Rattle.grok.specs.Tree.{tree as tree_of, first_structural, reached};
 ghost use Rattle.grok.specs.Keys.{Structural, first_fault};
 ghost use Rattle.grok.specs.NumberedBases.{opens_numbered_from, is_base_in};
 ghost use Rattle.grok.specs.Expanded.{expanded};
-ghost use Rattle.grok.specs.FirstFaultSteps.{tree_fault_view};
 ghost use Rattle.grok.specs.Errors.{error_value, Memory as memory};
-ghost use Rattle.grok.specs.Compiled.{IsErrorOf, IsFirstError, error_of_refusal, IsBuilt, IsRefusal, Compiles, expansion_of};
+ghost use Rattle.grok.specs.Compiled.{IsFirstError, IsBuilt, IsRefusal, Compiles, expansion_of};
 ghost use Rattle.grok.specs.Expansions.{Expands};
 ghost use Rattle.grok.specs.RegexFinds.{IsReadByDefault, MayRefuse};
 ghost use Rattle.grok.specs.Engines.{engine_regex};
@@ -19,11 +18,10 @@ ghost use Rattle.regex.specs.Strings.{regex_source, regex_names};
 
 use crate::Pattern;
 use crate::defs::Grok;
+use crate::engine::Engine;
 use crate::engine::regex_engine::RegexEngine;
-use crate::engine::{Engine, Refusal};
 use crate::errors::Error;
-use crate::errors::fault::TreeFault;
-use crate::expand::counted_definitions::{CompileMode, CountedDefinitions};
+use crate::expand::counted_definitions::{CompileSettings, CountedDefinitions};
 use crate::expand::first_fault::find_first_fault;
 use crate::expand::key_assigner::KeyAssigner;
 use crate::expand::write::{ExpandedPattern, write};
@@ -32,40 +30,6 @@ use crate::matches::PatternOf;
 use crate::measure::Measure;
 use crate::measure::full_measure::FullMeasure;
 use std::alloc::{AllocError, Global};
-
-impl TreeFault<'_> {
-    /// Returns the error that compiling returns for this fault.
-    fn to_error(&self, alloc: Global) -> Result<Error, AllocError>
-        ensures { IfOk result (λ error. IsErrorOf (tree_fault_view self.now) (error_value error)) }
-    {
-        match self {
-            TreeFault::Structural(fault) => fault.to_error(alloc),
-            TreeFault::Clash(key) => Ok(Error::GenericCompilationFailure(format!(in alloc;
-                "Alias {key} already exists"
-            )?)),
-        }
-    }
-}
-
-/// Returns the error for a text that the engine refused.
-fn refused(alloc: Global, text: &str) -> Result<Error, AllocError>
-    ensures { IfOk result (λ error. error_value error
-        ≡ error_of_refusal Refusal.Refused text.now) }
-{
-    Ok(Error::RegexCompilationFailed(format!(in alloc; "Regex compilation failed:\n{text}")?))
-}
-
-impl Refusal {
-    /// Returns the error that compiling returns if the engine refuses `text` for this reason.
-    fn to_error(self, alloc: Global, text: &str) -> Result<Error, AllocError>
-        ensures { IfOk result (λ error. error_value error ≡ error_of_refusal self text.now) }
-    {
-        match self {
-            Refusal::Memory => Ok(Error::Memory),
-            Refusal::Refused => refused(alloc, text),
-        }
-    }
-}
 
 /// Builds an engine from `text`, and returns the pattern with the keys and extracts in `given`.
 fn build<E: Engine>(alloc: Global, text: &str, given: KeyAssigner) -> Result<PatternOf<E>, Error>
@@ -110,14 +74,14 @@ impl Grok {
         if found.numbered.is_empty() {
             return Ok(None);
         }
-        let mode = CompileMode {
+        let settings = CompileSettings {
             grok: self,
             with_alias_only,
             numbered: &found.numbered,
         };
         let names = found.read_names(self.alloc())?;
-        let definitions = CountedDefinitions::of_names(mode, &names)?;
-        match find_first_fault(mode, &definitions, pattern)? {
+        let definitions = CountedDefinitions::of_names(settings, &names)?;
+        match find_first_fault(settings, &definitions, pattern)? {
             None => Ok(None),
             Some(tree_fault) => Ok(Some(tree_fault.to_error(self.alloc())?)),
         }

@@ -33,7 +33,7 @@ pub trait Engine: Sized + Drop {
 
     /// For each line `None` if nothing matches, or else the text of each group from group 0 on,
     /// with `None` for a group that took no part in the match.
-    ghost answer_to: { Self → List ℕ → Option (List (Option (List ℕ))) };
+    ghost finds: { Self → List ℕ → Option (List (Option (List ℕ))) };
 
     /// The texts that `build` may refuse.
     ghost may_refuse: { List ℕ → Type 0 };
@@ -58,6 +58,6 @@ pub trait Engine: Sized + Drop {
         alloc: Global,
         line: &'t str,
     ) -> Result<Option<Vec<Option<&'t str>>>, AllocError>
-        ensures { IfOk result (λ found. IsMatchIn line.now (answer_to self.now)
+        ensures { IfOk result (λ found. IsMatchIn line.now (finds self.now)
             (length (group_names self.now)) (found_texts found)) };
 }

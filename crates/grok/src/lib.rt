@@ -24,7 +24,8 @@
 //! ```
 //!
 //! [`Grok::compile`] returns an [`Error`] for the first fault in reading order, or if the engine
-//! refuses the expanded text. [`Grok::measure`] returns the size of that text without expanding it.
+//! refuses the expanded text. [`Grok::locate_first`] returns where that fault stands, and
+//! [`Grok::why_refused`] why the engine refuses a text. [`Grok::measure`] returns the size of that text without expanding it.
 //! Every call that allocates returns a `Result`, and a call that fails changes nothing.
 //!
 //! To match many lines, make a [`Matcher`] once. It returns what [`PatternOf::match_against`]
@@ -44,6 +45,7 @@ pub mod laws;
 mod locate;
 mod locate_byte;
 mod locate_clash;
+mod locate_first;
 mod matches;
 mod measure;
 mod numeral;
@@ -60,6 +62,7 @@ pub use errors::{Error, Fault};
 pub use locate::FaultLocation;
 pub use locate_byte::{ByteLocation, WrittenByte};
 pub use locate_clash::{ClashLocation, PlaceholderLocation};
+pub use locate_first::FirstFaultLocation;
 pub use matches::borrowed::MatchesRef;
 pub use matches::matcher::MatcherOf;
 pub use matches::{CaptureNames, MatchesIter, MatchesOf, PatternOf};

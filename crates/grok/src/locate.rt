@@ -16,7 +16,7 @@ use crate::defs::items::{Item, Meaning};
 use crate::defs::pieces::pieces_of;
 use crate::errors::fault::{Fault, LEVELS};
 use crate::measure::measurer::Measurer;
-use crate::measure::mode::MeasureMode;
+use crate::measure::settings::MeasureSettings;
 use crate::parser::GrokComponent;
 use std::alloc::AllocError;
 use std::ops::Range;
@@ -63,14 +63,14 @@ fn wrong_item<'a>(
     requires idle { IsIdle measurer.old }
     ensures wrong { IfOk result (λ found.
         HasCorrectCache measurer.old →
-        IsResolvedItem (finite.get measurer.old.mode.grok.now) (item_view item.entry) → MatchOption found
-        (fault_within (finite.get measurer.old.mode.grok.now) levels (item_view item.entry ∷ []) ≡ None)
-        (λ wrong. IsWrong (finite.get measurer.old.mode.grok.now) levels (item_view item.entry) wrong)) }
+        IsResolvedItem (finite.get measurer.old.settings.grok.now) (item_view item.entry) → MatchOption found
+        (fault_within (finite.get measurer.old.settings.grok.now) levels (item_view item.entry ∷ []) ≡ None)
+        (λ wrong. IsWrong (finite.get measurer.old.settings.grok.now) levels (item_view item.entry) wrong)) }
     ensures cache { IfOk result
         (λ found. HasCorrectCache measurer.old →
         HasCorrectCache measurer.new) }
     ensures idle { IfOk result (λ found. IsIdle measurer.new) }
-    ensures mode { IfOk result (λ found. measurer.new.mode ≡ measurer.old.mode) }
+    ensures settings { IfOk result (λ found. measurer.new.settings ≡ measurer.old.settings) }
 {
     match item {
         Item::Text(_) => Ok(None),
@@ -117,14 +117,14 @@ fn first_wrong<'a>(
     requires idle { IsIdle measurer.old }
     ensures wrong { IfOk result (λ found.
         HasCorrectCache measurer.old → MatchOption found
-        (fault_within (finite.get measurer.old.mode.grok.now) levels
-        (items_of (finite.get measurer.old.mode.grok.now) text.now) ≡ None)
-        (λ first. IsFirstWrong (finite.get measurer.old.mode.grok.now) levels text.now first)) }
+        (fault_within (finite.get measurer.old.settings.grok.now) levels
+        (items_of (finite.get measurer.old.settings.grok.now) text.now) ≡ None)
+        (λ first. IsFirstWrong (finite.get measurer.old.settings.grok.now) levels text.now first)) }
     ensures cache { IfOk result
         (λ found. HasCorrectCache measurer.old →
         HasCorrectCache measurer.new) }
     ensures idle { IfOk result (λ found. IsIdle measurer.new) }
-    ensures mode { IfOk result (λ found. measurer.new.mode ≡ measurer.old.mode) }
+    ensures settings { IfOk result (λ found. measurer.new.settings ≡ measurer.old.settings) }
 {
     let mut items = measurer.items_of(text);
     let mut pieces = pieces_of(text);
@@ -160,7 +160,7 @@ impl Grok {
             location.text.now location.range.start location.range.end (fault_view location.fault))) }
     {
         let alloc = self.alloc();
-        let mut measurer = Measurer::new(MeasureMode {
+        let mut measurer = Measurer::new(MeasureSettings {
             grok: self,
             alloc,
             with_alias_only: false,

@@ -17,10 +17,10 @@ use crate::generated_name::CLOSE;
 use crate::locate::end_of;
 use crate::measure::Measure;
 use crate::measure::measurer::Measurer;
-use crate::measure::mode::MeasureMode;
 use crate::measure::partial_size::{
     PartialSize, add, has_byte, offset_after, size_of_head, size_of_text,
 };
+use crate::measure::settings::MeasureSettings;
 use std::alloc::AllocError;
 use std::ops::Range;
 
@@ -144,17 +144,17 @@ fn size_of_meaning<'a>(
     requires few { levels < 2 ^ 31 }
     requires idle { IsIdle measurer.old }
     ensures size { IfOk result (λ found. HasCorrectCache measurer.old →
-        IsSizedItem (finite.get measurer.old.mode.grok.now) measurer.old.mode.with_alias_only
+        IsSizedItem (finite.get measurer.old.settings.grok.now) measurer.old.settings.with_alias_only
         (PlaceholderItem (label_view label.entry) (meaning_view meaning.entry)) → MatchOption found
-        (fault_within (finite.get measurer.old.mode.grok.now) levels
+        (fault_within (finite.get measurer.old.settings.grok.now) levels
         (PlaceholderItem (label_view label.entry) (meaning_view meaning.entry) ∷ []) ≡ None → ⊥)
-        (λ size. IsSizeOfDefinition (finite.get measurer.old.mode.grok.now)
-        measurer.old.mode.with_alias_only levels (meaning_text (meaning_view meaning.entry)) size)) }
+        (λ size. IsSizeOfDefinition (finite.get measurer.old.settings.grok.now)
+        measurer.old.settings.with_alias_only levels (meaning_text (meaning_view meaning.entry)) size)) }
     ensures cache { IfOk result
         (λ found. HasCorrectCache measurer.old →
         HasCorrectCache measurer.new) }
     ensures idle { IfOk result (λ found. IsIdle measurer.new) }
-    ensures mode { IfOk result (λ found. measurer.new.mode ≡ measurer.old.mode) }
+    ensures settings { IfOk result (λ found. measurer.new.settings ≡ measurer.old.settings) }
 {
     if levels == 0 {
         return Ok(None);
@@ -183,13 +183,13 @@ fn step_at_item<'a>(
     requires few { levels < 2 ^ 31 }
     requires idle { IsIdle measurer.old }
     ensures step { IfOk result (λ step. HasCorrectCache measurer.old →
-        IsByteStepAfter (finite.get measurer.old.mode.grok.now) measurer.old.mode.with_alias_only levels
+        IsByteStepAfter (finite.get measurer.old.settings.grok.now) measurer.old.settings.with_alias_only levels
         before byte (item_view item.entry) step) }
     ensures cache { IfOk result
         (λ step. HasCorrectCache measurer.old →
         HasCorrectCache measurer.new) }
     ensures idle { IfOk result (λ step. IsIdle measurer.new) }
-    ensures mode { IfOk result (λ step. measurer.new.mode ≡ measurer.old.mode) }
+    ensures settings { IfOk result (λ step. measurer.new.settings ≡ measurer.old.settings) }
 {
     match item {
         Item::Text(text) => Ok(step_at_text(text, before, byte)),
@@ -220,13 +220,13 @@ fn writing_piece<'a>(
     requires few { levels < 2 ^ 31 }
     requires idle { IsIdle measurer.old }
     ensures piece { IfOk result (λ found. HasCorrectCache measurer.old →
-        FindsWritingPiece (finite.get measurer.old.mode.grok.now) measurer.old.mode.with_alias_only
+        FindsWritingPiece (finite.get measurer.old.settings.grok.now) measurer.old.settings.with_alias_only
         levels text.now before byte found) }
     ensures cache { IfOk result
         (λ found. HasCorrectCache measurer.old →
         HasCorrectCache measurer.new) }
     ensures idle { IfOk result (λ found. IsIdle measurer.new) }
-    ensures mode { IfOk result (λ found. measurer.new.mode ≡ measurer.old.mode) }
+    ensures settings { IfOk result (λ found. measurer.new.settings ≡ measurer.old.settings) }
 {
     let mut items = measurer.items_of(text);
     let mut pieces = pieces_of(text);
@@ -269,7 +269,7 @@ impl Grok {
             LocatesByte (finite.get self.now) with_alias_only pattern.now byte found) }
     {
         let alloc = self.alloc();
-        let mut measurer = Measurer::new(MeasureMode {
+        let mut measurer = Measurer::new(MeasureSettings {
             grok: self,
             alloc,
             with_alias_only,

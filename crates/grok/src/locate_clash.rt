@@ -11,14 +11,14 @@ ghost use Rattle.grok.specs.Items.{label_view, meaning_view, item_view};
 ghost use Rattle.grok.specs.CountedDefinitions.{AreCounted, IsSoundItem, opened_events, is_counted};
 ghost use Rattle.grok.specs.FirstFaultSteps.{HasFittingNumber};
 ghost use Rattle.grok.specs.ClashLocations.{IsClashAt, IsFirstClash};
-ghost use Rattle.grok.specs.UseSteps.{HasPassed, HasPassedEvents, StepsAtUse, StepsAtMeaning, HasBegun, FindsUse};
+ghost use Rattle.grok.specs.UseSteps.{HasPassed, HasPassedEvents, StepsAtUse, StepsAtMeaning, BeginsSearch, FindsUse};
 
 use crate::defs::Grok;
 use crate::defs::definition::Definition;
 use crate::defs::items::{Item, Items, Label, Meaning};
 use crate::defs::pieces::{Pieces, pieces_of};
 use crate::errors::fault::{LEVELS, TreeFault};
-use crate::expand::counted_definitions::{CompileMode, CountedDefinitions};
+use crate::expand::counted_definitions::{CompileSettings, CountedDefinitions};
 use crate::expand::first_fault::find_first_fault;
 use crate::expand::key_assigner::base_key;
 use crate::expand::numbered::parts_of_numbered;
@@ -116,18 +116,18 @@ impl UsesSoFar {
 /// Passes over a placeholder's own use of its base key, if that use is counted. Returns `false` and
 /// passes over nothing if it is the use that is sought.
 fn pass_label<'a>(
-    mode: CompileMode<'a, '_>,
+    settings: CompileSettings<'a, '_>,
     keys: SoughtKeys<'_>,
     label: Label<'a>,
     so_far: &mut UsesSoFar,
 ) -> bool
-    ensures passed { IsTrue result → (meaning : tree.Meaning) → HasPassedEvents mode.entry keys.entry
+    ensures passed { IsTrue result → (meaning : tree.Meaning) → HasPassedEvents settings.entry keys.entry
         (tree.Open (label_view label.entry) meaning ∷ []) so_far.old so_far.new }
-    ensures stopped { result ≡ false → (is_counted mode.entry (label_view label.entry) ≡ true)
+    ensures stopped { result ≡ false → (is_counted settings.entry (label_view label.entry) ≡ true)
         × (base_key_of (label_view label.entry) ≡ keys.entry.base.now) × (so_far.old.left ≡ 0)
         × (so_far.new ≡ so_far.old) }
 {
-    if !mode.is_counted(label) {
+    if !settings.is_counted(label) {
         return true;
     }
     let base = base_key(label);
@@ -145,9 +145,9 @@ fn pass_definition<'a>(
     levels: usize,
     so_far: &mut UsesSoFar,
 ) -> bool
-    ensures passed { IsTrue result → (mode : CompileMode) (text : List ℕ) → AreCounted mode definitions.now
-        → finite.get mode.grok.now name.now ≡ Some text →
-        HasPassedEvents mode keys.entry (opened_events mode levels text) so_far.old so_far.new }
+    ensures passed { IsTrue result → (settings : CompileSettings) (text : List ℕ) → AreCounted settings definitions.now
+        → finite.get settings.grok.now name.now ≡ Some text →
+        HasPassedEvents settings keys.entry (opened_events settings levels text) so_far.old so_far.new }
     ensures stopped { result ≡ false → so_far.new ≡ so_far.old }
 {
     match definitions.of_name(name) {
@@ -170,9 +170,9 @@ fn step_at_meaning<'a>(
     levels: usize,
     so_far: &mut UsesSoFar,
 ) -> UseStep<'a>
-    ensures { (mode : CompileMode) → AreCounted mode definitions.now
-        → IsSoundItem mode (tree.PlaceholderItem (label_view label.entry) (meaning_view meaning.entry)) →
-        StepsAtMeaning mode keys.entry levels (label_view label.entry) (meaning_view meaning.entry)
+    ensures { (settings : CompileSettings) → AreCounted settings definitions.now
+        → IsSoundItem settings (tree.PlaceholderItem (label_view label.entry) (meaning_view meaning.entry)) →
+        StepsAtMeaning settings keys.entry levels (label_view label.entry) (meaning_view meaning.entry)
         result so_far.old so_far.new }
 {
     match meaning {
@@ -190,21 +190,21 @@ fn step_at_meaning<'a>(
 
 /// Passes over an item and its definition, or returns where to go on.
 fn step_at_item<'a>(
-    mode: CompileMode<'a, '_>,
+    settings: CompileSettings<'a, '_>,
     definitions: &CountedDefinitions<'a>,
     keys: SoughtKeys<'_>,
     item: Item<'a>,
     levels: usize,
     so_far: &mut UsesSoFar,
 ) -> UseStep<'a>
-    requires { AreCounted mode definitions.now }
-    ensures { IsSoundItem mode.entry (item_view item.entry) →
-        StepsAtUse mode.entry keys.entry levels (item_view item.entry) result so_far.old so_far.new }
+    requires { AreCounted settings definitions.now }
+    ensures { IsSoundItem settings.entry (item_view item.entry) →
+        StepsAtUse settings.entry keys.entry levels (item_view item.entry) result so_far.old so_far.new }
 {
     match item {
         Item::Text(_) | Item::Fault(_) => UseStep::Later,
         Item::Placeholder(label, meaning) => {
-            if !pass_label(mode, keys, label, so_far) {
+            if !pass_label(settings, keys, label, so_far) {
                 return UseStep::Here;
             }
             step_at_meaning(definitions, keys, label, meaning, levels, so_far)
@@ -215,7 +215,7 @@ fn step_at_item<'a>(
 impl<'a> SearchedText<'a> {
     /// Begins to search a text.
     fn new(grok: &'a Grok, text: &'a str) -> SearchedText<'a>
-        ensures { HasBegun (finite.get grok.now) text.now result }
+        ensures { BeginsSearch (finite.get grok.now) text.now result }
     {
         SearchedText {
             text,
@@ -228,20 +228,20 @@ impl<'a> SearchedText<'a> {
 
 /// Finds a use of a base key: the one before which `so_far.left` other uses of it come.
 fn find_use<'a>(
-    mode: CompileMode<'a, '_>,
+    settings: CompileSettings<'a, '_>,
     definitions: &CountedDefinitions<'a>,
     keys: SoughtKeys<'_>,
     pattern: &'a str,
     so_far: &mut UsesSoFar,
 ) -> Result<Option<PlaceholderLocation<'a>>, AllocError>
-    requires { AreCounted mode definitions.now }
+    requires { AreCounted settings definitions.now }
     ensures { IfOk result (λ found.
-        FindsUse mode.entry keys.entry pattern.now found so_far.old so_far.new) }
+        FindsUse settings.entry keys.entry pattern.now found so_far.old so_far.new) }
 {
-    let alloc = mode.grok.alloc();
+    let alloc = settings.grok.alloc();
     let mut path = Vec::new(alloc);
     let mut around = Vec::new(alloc);
-    let mut inner = SearchedText::new(mode.grok, pattern);
+    let mut inner = SearchedText::new(settings.grok, pattern);
     'items: loop {
         let Some(item) = inner.items.next()? else {
             let Some(outer) = around.pop() else {
@@ -253,7 +253,14 @@ fn find_use<'a>(
         };
         let begin = inner.begin;
         inner.begin = end_of(inner.pieces.next(), inner.text);
-        match step_at_item(mode, definitions, keys, item, LEVELS - around.len(), so_far) {
+        match step_at_item(
+            settings,
+            definitions,
+            keys,
+            item,
+            LEVELS - around.len(),
+            so_far,
+        ) {
             UseStep::Later => {}
             UseStep::Here => {
                 return Ok(Some(PlaceholderLocation {
@@ -264,7 +271,7 @@ fn find_use<'a>(
             }
             UseStep::Inside(name, stored) => {
                 path.push(name)?;
-                let within = SearchedText::new(mode.grok, stored.text());
+                let within = SearchedText::new(settings.grok, stored.text());
                 around.push(mem::replace(&mut inner, within))?;
             }
         }
@@ -273,20 +280,20 @@ fn find_use<'a>(
 
 /// Finds both placeholders of a clash.
 fn locate_both<'a>(
-    mode: CompileMode<'a, '_>,
+    settings: CompileSettings<'a, '_>,
     definitions: &CountedDefinitions<'a>,
     pattern: &'a str,
     key: String,
 ) -> Result<Option<ClashLocation<'a>>, AllocError>
-    requires counted { AreCounted mode definitions.now }
-    requires known { (base : List ℕ) → is_base_in mode.numbered.now base ≡ opens_numbered_from base
-        (reached (tree_of (finite.get mode.grok.now) pattern.now)) }
-    requires clash { first_fault mode.with_alias_only
-        (tree_of (finite.get mode.grok.now) pattern.now) ≡ Some (Clash (string_bytes key)) }
+    requires counted { AreCounted settings definitions.now }
+    requires known { (base : List ℕ) → is_base_in settings.numbered.now base ≡ opens_numbered_from base
+        (reached (tree_of (finite.get settings.grok.now) pattern.now)) }
+    requires clash { first_fault settings.with_alias_only
+        (tree_of (finite.get settings.grok.now) pattern.now) ≡ Some (Clash (string_bytes key)) }
     requires number { HasFittingNumber (string_bytes key) }
     ensures found { IfOk result (λ found. found ≡ None → ⊥) }
     ensures location { IfOk result (λ found. IfSome found (λ clash. IsClashAt
-        (finite.get mode.entry.grok.now) mode.entry.with_alias_only pattern.now clash)) }
+        (finite.get settings.entry.grok.now) settings.entry.with_alias_only pattern.now clash)) }
     ensures key { IfOk result (λ found. IfSome found
         (λ clash. string_bytes clash.key ≡ string_bytes key)) }
 {
@@ -308,10 +315,11 @@ fn locate_both<'a>(
         left: number,
         is_other_used: false,
     };
-    let Some(own) = find_use(mode, definitions, own_keys, pattern, &mut none)? else {
+    let Some(own) = find_use(settings, definitions, own_keys, pattern, &mut none)? else {
         return Ok(None);
     };
-    let Some(numbered) = find_use(mode, definitions, numbered_keys, pattern, &mut so_far)? else {
+    let Some(numbered) = find_use(settings, definitions, numbered_keys, pattern, &mut so_far)?
+    else {
         return Ok(None);
     };
     if so_far.is_other_used {
@@ -356,15 +364,15 @@ impl Grok {
         if found.numbered.is_empty() {
             return Ok(None);
         }
-        let mode = CompileMode {
+        let settings = CompileSettings {
             grok: self,
             with_alias_only,
             numbered: &found.numbered,
         };
         let names = found.read_names(self.alloc())?;
-        let definitions = CountedDefinitions::of_names(mode, &names)?;
-        match find_first_fault(mode, &definitions, pattern)? {
-            Some(TreeFault::Clash(key)) => locate_both(mode, &definitions, pattern, key),
+        let definitions = CountedDefinitions::of_names(settings, &names)?;
+        match find_first_fault(settings, &definitions, pattern)? {
+            Some(TreeFault::Clash(key)) => locate_both(settings, &definitions, pattern, key),
             _ => Ok(None),
         }
     }

@@ -12,7 +12,7 @@ ghost use Rattle.grok.specs.Captures.{text_of, capture_texts, IsMatchIn};
 ghost use Rattle.std.specs.Fmt.{DisplaysOnOk};
 ghost use Rattle.grok.specs.Maps.{pair_texts};
 ghost use Rattle.grok.specs.Debugs.{debug_pairs};
-ghost use Rattle.grok.specs.Answers.{extract_texts, capture_at, answer_of, walk};
+ghost use Rattle.grok.specs.Answers.{extract_texts, capture_at, value_of, walk};
 
 pub(crate) mod borrowed;
 pub(crate) mod groups;
@@ -115,7 +115,7 @@ impl<E: Engine> PatternOf<E> {
         &'a self,
         text: &'a str,
     ) -> Result<Option<MatchesOf<'a, E>>, AllocError>
-        ensures captures { IfOk result (λ found. IsMatchIn text.now (E.answer_to self.now.engine)
+        ensures captures { IfOk result (λ found. IsMatchIn text.now (E.finds self.now.engine)
             (length (E.group_names self.now.engine))
             (option_map (λ matches. matches.captures) found)) }
         ensures pattern { IfOk result
@@ -177,7 +177,7 @@ impl<'a, E: Engine> MatchesOf<'a, E> {
     /// group took no part in the match.
     pub fn get(&self, name: &str) -> Option<&str>
         ensures { option_map text_of result
-            ≡ answer_of self.now.pattern.keys self.now.captures name.now }
+            ≡ value_of self.now.pattern.keys self.now.captures name.now }
     {
         let pattern = self.pattern;
         let group = pattern.keys.get(name)?;

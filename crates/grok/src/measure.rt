@@ -7,14 +7,14 @@ ghost use Rattle.grok.specs.CountedMeasures.{IsCountedMeasure};
 mod cache;
 pub(crate) mod full_measure;
 pub(crate) mod measurer;
-pub(crate) mod mode;
 pub(crate) mod partial_size;
 mod placeholders;
+pub(crate) mod settings;
 
 use crate::defs::Grok;
 use crate::errors::fault::Fault;
 use crate::measure::measurer::Measurer;
-use crate::measure::mode::MeasureMode;
+use crate::measure::settings::MeasureSettings;
 use std::alloc::AllocError;
 
 /// The result of measuring a pattern.
@@ -77,7 +77,7 @@ impl Grok {
             (tree_of self.now pattern.now)) patterns.now) }
     {
         let alloc = self.alloc();
-        let mut measurer = Measurer::new(MeasureMode {
+        let mut measurer = Measurer::new(MeasureSettings {
             grok: self,
             alloc,
             with_alias_only,

@@ -3,7 +3,8 @@
 
 use crate::compiling::check_keys;
 use crate::library::library;
-use crate::rows::{Row, all_rows};
+use crate::rows::Row;
+use crate::walk::{RowCheck, check_rows};
 use grok::{Error, Grok, Matches, MatchesRef, Pattern, patterns};
 use std::alloc::{AllocError, Global};
 use std::process::Abort;
@@ -174,26 +175,27 @@ fn check_lines(rt: &(impl Abort + AllocGlobal), row: &Row, pattern: &Pattern) ->
     Ok(())
 }
 
-/// The lines of the row, if it has any, have their answers in each of its modes.
-fn check_row(rt: &(impl Abort + AllocGlobal), row: &Row) -> Result<(), Fail> {
-    if row.lines.is_empty() {
-        return Ok(());
+/// Checks that the lines of the row, if it has any, have their answers.
+struct LinesHaveAnswers;
+
+impl RowCheck for LinesHaveAnswers {
+    fn check<R: Abort + AllocGlobal>(
+        rt: &R,
+        row: &Row,
+        grok: &Grok,
+        with_alias_only: bool,
+    ) -> Result<(), Fail> {
+        if row.lines.is_empty() {
+            return Ok(());
+        }
+        let pattern = grok.compile(row.pattern, with_alias_only)?;
+        check_lines(rt, row, &pattern)
     }
-    let grok = library(rt.alloc(), row.definitions)?;
-    for with_alias_only in row.modes {
-        let pattern = grok.compile(row.pattern, *with_alias_only)?;
-        check_lines(rt, row, &pattern)?;
-    }
-    Ok(())
 }
 
 #[test]
 fn answers_to_lines(rt: HostRuntime) -> Result<(), Fail> {
-    let rows = all_rows(rt.alloc())?;
-    for row in &rows {
-        check_row(&rt, row)?;
-    }
-    Ok(())
+    check_rows::<LinesHaveAnswers>(&rt)
 }
 
 /// Returns a pattern whose library was dropped.
@@ -253,7 +255,7 @@ fn check_default(rt: &(impl Abort + AllocGlobal), grok: &Grok, name: &str) -> Re
 
 /// Each of the default definitions compiles.
 #[test]
-fn the_ten_compile(rt: HostRuntime) -> Result<(), Fail> {
+fn each_default_definition_compiles(rt: HostRuntime) -> Result<(), Fail> {
     let grok = Grok::with_default_patterns(rt.alloc())?;
     for (name, _) in patterns() {
         check_default(&rt, &grok, name)?;

@@ -1,7 +1,7 @@
 //! Tests of what compiling each row over `regex` returns: a pattern with its text, keys and extracts, or an error.
 
-use crate::library::library;
-use crate::rows::{Compiled, Row, all_rows};
+use crate::rows::{Compiled, Row};
+use crate::walk::{RowCheck, check_rows};
 use grok::{Engine, Error, Grok, Pattern, PatternOf};
 use std::alloc::{AllocError, Global};
 use std::process::Abort;
@@ -100,36 +100,27 @@ fn check_error(rt: &(impl Abort + AllocGlobal), row: &Row, error: &Error) -> Res
     }
 }
 
-/// Checks that compiling in this mode returns the pattern or the error that the row expects.
-fn check_mode(
-    rt: &(impl Abort + AllocGlobal),
-    row: &Row,
-    grok: &Grok,
-    with_alias_only: bool,
-) -> Result<(), Fail> {
-    match grok.compile(row.pattern, with_alias_only) {
-        Ok(pattern) => {
-            check_extracts(rt, row, &pattern);
-            check_pattern(rt, row, &pattern)
-        }
-        Err(error) => check_error(rt, row, &error),
-    }
-}
+/// Checks that compiling returns the pattern or the error that the row expects.
+struct Compiles;
 
-/// The row holds in each of its modes.
-fn check_row(rt: &(impl Abort + AllocGlobal), row: &Row) -> Result<(), Fail> {
-    let grok = library(rt.alloc(), row.definitions)?;
-    for with_alias_only in row.modes {
-        check_mode(rt, row, &grok, *with_alias_only)?;
+impl RowCheck for Compiles {
+    fn check<R: Abort + AllocGlobal>(
+        rt: &R,
+        row: &Row,
+        grok: &Grok,
+        with_alias_only: bool,
+    ) -> Result<(), Fail> {
+        match grok.compile(row.pattern, with_alias_only) {
+            Ok(pattern) => {
+                check_extracts(rt, row, &pattern);
+                check_pattern(rt, row, &pattern)
+            }
+            Err(error) => check_error(rt, row, &error),
+        }
     }
-    Ok(())
 }
 
 #[test]
 fn compiled_texts(rt: HostRuntime) -> Result<(), Fail> {
-    let rows = all_rows(rt.alloc())?;
-    for row in &rows {
-        check_row(&rt, row)?;
-    }
-    Ok(())
+    check_rows::<Compiles>(&rt)
 }

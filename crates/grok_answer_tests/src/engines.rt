@@ -2,9 +2,9 @@
 //! text.
 
 use crate::compiling::{check_debug, check_extracts, check_refusal};
-use crate::library::library;
-use crate::rows::{Compiled, Row, all_rows};
+use crate::rows::{Compiled, Row};
 use crate::showing::shown;
+use crate::walk::{RowCheck, check_rows};
 use grok::{Engine, Error, Grok, MatchesOf, PatternOf};
 use grok_engines::{Bare, Heads, Refuser};
 use std::alloc::AllocError;
@@ -84,25 +84,26 @@ fn check_refused(
     }
 }
 
-/// The row holds over each engine, in each of its modes.
-fn check_row(rt: &(impl Abort + AllocGlobal), row: &Row) -> Result<(), Fail> {
-    let grok = library(rt.alloc(), row.definitions)?;
-    for with_alias_only in row.modes {
-        check_taken::<Heads>(rt, row, &grok, *with_alias_only, row.over_heads)?;
+/// Checks the row over each engine.
+struct HoldsOverEachEngine;
+
+impl RowCheck for HoldsOverEachEngine {
+    fn check<R: Abort + AllocGlobal>(
+        rt: &R,
+        row: &Row,
+        grok: &Grok,
+        with_alias_only: bool,
+    ) -> Result<(), Fail> {
+        check_taken::<Heads>(rt, row, grok, with_alias_only, row.over_heads)?;
         // Over `Bare` a pattern has no groups and so no keys, but it still has its extracts.
-        check_taken::<Bare>(rt, row, &grok, *with_alias_only, Some(" | 0 0"))?;
-        check_refused(rt, row, &grok, *with_alias_only)?;
+        check_taken::<Bare>(rt, row, grok, with_alias_only, Some(" | 0 0"))?;
+        check_refused(rt, row, grok, with_alias_only)
     }
-    Ok(())
 }
 
 #[test]
 fn other_engines(rt: HostRuntime) -> Result<(), Fail> {
-    let rows = all_rows(rt.alloc())?;
-    for row in &rows {
-        check_row(&rt, row)?;
-    }
-    Ok(())
+    check_rows::<HoldsOverEachEngine>(&rt)
 }
 
 /// Checks that the first and the third group have the line as their value, and that the second has none.

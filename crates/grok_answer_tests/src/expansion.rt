@@ -29,7 +29,7 @@ pub enum Ending<'a> {
 
 /// The result of reading one piece of a text.
 #[derive(Drop)]
-enum Step<'a> {
+enum PieceResult<'a> {
     Written,
     Fault(Fault<'a>),
     /// The head of the group of a placeholder was written, and its definition has to be expanded next.
@@ -214,13 +214,13 @@ impl<'a> Expansion<'a> {
         name: &'a str,
         alias: &'a str,
         extract: &'a str,
-    ) -> Result<Step<'a>, AllocError> {
+    ) -> Result<PieceResult<'a>, AllocError> {
         let inline = last_of(own, name);
         let Some(meaning) = inline.or(texts.get(name)) else {
-            return Ok(Step::Fault(Fault::Missing(name)));
+            return Ok(PieceResult::Fault(Fault::Missing(name)));
         };
         self.begin(name, alias, extract)?;
-        Ok(Step::Open {
+        Ok(PieceResult::Open {
             name,
             meaning,
             is_stored: inline.is_none(),
@@ -234,13 +234,13 @@ impl<'a> Expansion<'a> {
         texts: &'a Texts,
         own: &mut Vec<(&'a str, &'a str)>,
         piece: GrokComponent<'a>,
-    ) -> Result<Step<'a>, AllocError> {
+    ) -> Result<PieceResult<'a>, AllocError> {
         match piece {
             GrokComponent::RegularExpression { string, .. } => {
                 self.text.push_str(string)?;
-                Ok(Step::Written)
+                Ok(PieceResult::Written)
             }
-            GrokComponent::PatternError(fault) => Ok(Step::Fault(Fault::Malformed(fault))),
+            GrokComponent::PatternError(fault) => Ok(PieceResult::Fault(Fault::Malformed(fault))),
             GrokComponent::GrokPattern {
                 name,
                 alias,
@@ -279,9 +279,9 @@ impl<'a> Expansion<'a> {
                 return Ok(Ending::GivenUp);
             }
             match self.step(texts, &mut own, piece)? {
-                Step::Written => {}
-                Step::Fault(fault) => return Ok(Ending::Fault(fault)),
-                Step::Open {
+                PieceResult::Written => {}
+                PieceResult::Fault(fault) => return Ok(Ending::Fault(fault)),
+                PieceResult::Open {
                     name,
                     meaning,
                     is_stored,

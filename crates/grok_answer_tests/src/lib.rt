@@ -1,4 +1,4 @@
-//! Tests of what patterns find. The table in `rows` is used by the tests of pieces, measures, compiled texts, matches
+//! Tests of what patterns find. `walk` walks the table in `rows` for the tests of pieces, measures, compiled texts, matches
 //! and other engines. Other tests match many lines with one pattern, and compare many small generated libraries with a
 //! plain expansion.
 #![tactic(auto)]
@@ -27,3 +27,5 @@ mod rows;
 mod showing;
 #[cfg(test)]
 mod splitting;
+#[cfg(test)]
+mod walk;

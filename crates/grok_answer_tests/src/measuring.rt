@@ -1,7 +1,7 @@
 //! Tests of the measure of each row, and of the looks (pieces and ends that were read) that measuring takes.
 
-use crate::library::library;
-use crate::rows::{Measured, Row, all_rows};
+use crate::rows::{Measured, Row};
+use crate::walk::{RowCheck, check_rows};
 use grok::{Grok, Looks, Measure};
 use std::process::Abort;
 use std::test::Fail;
@@ -26,29 +26,25 @@ fn check_measure(rt: &impl Abort, row: &Row, given: Measure<'_>) {
 
 /// Checks that `measure` and `measure_counted` return the measure of the row, and that the latter takes as many looks
 /// as the row says.
-fn check_mode(rt: &impl Abort, row: &Row, grok: &Grok, with_alias_only: bool) -> Result<(), Fail> {
-    check_measure(rt, row, grok.measure(row.pattern, with_alias_only)?);
-    let (given, looks) = grok.measure_counted(row.pattern, with_alias_only)?;
-    check_measure(rt, row, given);
-    let (pieces, ends) = row.looks;
-    assert_eq!(rt; looks, Looks { pieces, ends }, "{}", row.name);
-    Ok(())
-}
+struct IsMeasured;
 
-/// The row holds in each of its modes.
-fn check_row(rt: &(impl Abort + AllocGlobal), row: &Row) -> Result<(), Fail> {
-    let grok = library(rt.alloc(), row.definitions)?;
-    for with_alias_only in row.modes {
-        check_mode(rt, row, &grok, *with_alias_only)?;
+impl RowCheck for IsMeasured {
+    fn check<R: Abort + AllocGlobal>(
+        rt: &R,
+        row: &Row,
+        grok: &Grok,
+        with_alias_only: bool,
+    ) -> Result<(), Fail> {
+        check_measure(rt, row, grok.measure(row.pattern, with_alias_only)?);
+        let (given, looks) = grok.measure_counted(row.pattern, with_alias_only)?;
+        check_measure(rt, row, given);
+        let (pieces, ends) = row.looks;
+        assert_eq!(rt; looks, Looks { pieces, ends }, "{}", row.name);
+        Ok(())
     }
-    Ok(())
 }
 
 #[test]
 fn measures(rt: HostRuntime) -> Result<(), Fail> {
-    let rows = all_rows(rt.alloc())?;
-    for row in &rows {
-        check_row(&rt, row)?;
-    }
-    Ok(())
+    check_rows::<IsMeasured>(&rt)
 }

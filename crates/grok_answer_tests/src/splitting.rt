@@ -1,6 +1,8 @@
 //! Tests of the pieces of each row.
 
-use crate::rows::{Row, all_rows};
+use crate::rows::Row;
+use crate::walk::{RowCheck, check_rows};
+use grok::Grok;
 use grok::parser::{GrokComponent, grok_split};
 use std::process::Abort;
 use std::test::Fail;
@@ -30,28 +32,33 @@ fn check_piece(
     Ok(())
 }
 
-/// The pattern has the pieces of the row, one after the other, and no more.
-fn check_row(rt: &(impl Abort + AllocGlobal), row: &Row) -> Result<(), Fail> {
-    let mut split = grok_split(row.pattern);
-    let mut start = 0usize;
-    for expected in row.pieces {
-        let end = start.saturating_add(expected.len());
-        match split.next() {
-            Some(piece) => check_piece(rt, row, &piece, (start, end), expected)?,
-            None => assert!(rt; false, "{}: too few pieces", row.name),
+/// Checks that the pattern has the pieces of the row, one after the other, and no more.
+struct IsSplit;
+
+impl RowCheck for IsSplit {
+    fn check<R: Abort + AllocGlobal>(
+        rt: &R,
+        row: &Row,
+        _grok: &Grok,
+        _with_alias_only: bool,
+    ) -> Result<(), Fail> {
+        let mut split = grok_split(row.pattern);
+        let mut start = 0usize;
+        for expected in row.pieces {
+            let end = start.saturating_add(expected.len());
+            match split.next() {
+                Some(piece) => check_piece(rt, row, &piece, (start, end), expected)?,
+                None => assert!(rt; false, "{}: too few pieces", row.name),
+            }
+            start = end;
         }
-        start = end;
+        let is_over = split.next().is_none() && split.next().is_none();
+        assert!(rt; is_over, "{}: too many pieces", row.name);
+        Ok(())
     }
-    let is_over = split.next().is_none() && split.next().is_none();
-    assert!(rt; is_over, "{}: too many pieces", row.name);
-    Ok(())
 }
 
 #[test]
 fn pieces(rt: HostRuntime) -> Result<(), Fail> {
-    let rows = all_rows(rt.alloc())?;
-    for row in &rows {
-        check_row(&rt, row)?;
-    }
-    Ok(())
+    check_rows::<IsSplit>(&rt)
 }

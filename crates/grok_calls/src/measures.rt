@@ -12,6 +12,7 @@ pub(crate) fn call(rt: &HostRuntime, name: &str) -> Result<()> {
         "locate" => locate(rt),
         "locate_byte" => locate_byte(rt),
         "locate_clash" => locate_clash(rt),
+        "locate_first" => locate_first(rt),
         _ => bail!("no call has this name"),
     }
 }
@@ -65,5 +66,12 @@ fn locate_clash(rt: &HostRuntime) -> Result<()> {
     let pairs = [("A", "a"), ("B", "%{A:x}%{A:x}")];
     let grok = Grok::from_iter(rt.alloc(), &pairs)?;
     twice!(rt, grok.locate_clash("%{A:x[1]}%{B}", true));
+    Ok(())
+}
+
+fn locate_first(rt: &HostRuntime) -> Result<()> {
+    let pairs = [("A", "a"), ("B", "%{A:x}%{MISSING}")];
+    let grok = Grok::from_iter(rt.alloc(), &pairs)?;
+    twice!(rt, grok.locate_first("%{A:x[1]}%{B}", true));
     Ok(())
 }

@@ -1,6 +1,6 @@
-pub mod Equals
-pub mod Answering
+pub mod WordsAreCutAtEquals
+pub mod FirstAnswersHaveGoneOut
 pub mod CommandLaws
-pub mod Objects
-pub mod Utf8Lines
-pub mod Measures
+pub mod ObjectsReadBack
+pub mod Utf8IsDecided
+pub mod LinesHaveTheirMeasures

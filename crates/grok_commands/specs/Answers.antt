@@ -24,7 +24,7 @@ HasAnswered IsAnswer items old new =
 
 -- The output got the answers to the first elements of `items` (none, some or all), each as a whole, and nothing
 -- else.
-abbrev pub HasBegun : {A : Type 0} → (A → List ℕ → Type 0) → List A
+abbrev pub HasAnsweredFirst : {A : Type 0} → (A → List ℕ → Type 0) → List A
     → Option (List ℕ) → Option (List ℕ) → Type 0
-HasBegun {A} IsAnswer items old new =
+HasAnsweredFirst {A} IsAnswer items old new =
     (sent unsent : List A) × (items ≡ sent ++ unsent) × HasAnswered IsAnswer sent old new

@@ -12,7 +12,7 @@ use Rattle.grok.specs.Answers.{PatternValue}
 use Rattle.grok.specs.Errors.{ErrorValue, Memory, error_value}
 use Rattle.grok.specs.Compiled.{Expansion, expansion_of, IsCompileError, IsPatternOf}
 use Rattle.grok_commands.specs.Commands.{RequestValue, CommandValue, Split, Measure, Match, Json, Check}
-use Rattle.grok_commands.specs.Answers.{HasAnswered, HasBegun}
+use Rattle.grok_commands.specs.Answers.{HasAnswered, HasAnsweredFirst}
 use Rattle.grok_commands.specs.Library.{library_of}
 use Rattle.grok_commands.specs.LineTexts.{Finds, line_answer}
 use Rattle.grok_commands.specs.SizeTexts.{text_of_size, measure_of, IsFaulty, IsCheckLine}
@@ -127,7 +127,7 @@ IsDone t (EachLine answer) = HasAnsweredInput (flat_map answer) t
 -- answers (none, some or all), each as a whole.
 abbrev pub IsCutShort : Traffic → Job → Type 0
 IsCutShort t (One text) = IsUntouched t
-IsCutShort t (Each answers) = IsUnread t × HasBegun IsAnswer answers t.written_old t.written_new
+IsCutShort t (Each answers) = IsUnread t × HasAnsweredFirst IsAnswer answers t.written_old t.written_new
 IsCutShort t (EachLine answer) = HasAnsweredSome (flat_map answer) t
 
 -- THE INPUT FAILED: `match` or `json` has answered the lines that had ended by then. The other commands don't

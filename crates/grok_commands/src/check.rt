@@ -3,7 +3,7 @@ ghost use Rattle.std.specs.Prelude.{◌≡◌, ◌⊎◌, map, OnOk, IfOk, IfErr
 ghost use Rattle.std.specs.FinMap as finite;
 ghost use Rattle.std.specs.Io.KnownBytes.{append_known};
 ghost use Rattle.grok_lines.specs.Errors.{IsWriteError};
-ghost use Rattle.grok_commands.specs.Answers.{HasAnswered, HasBegun};
+ghost use Rattle.grok_commands.specs.Answers.{HasAnswered, HasAnsweredFirst};
 ghost use Rattle.grok.specs.MeasureCache.{measure_view};
 ghost use Rattle.grok_commands.specs.Library.{library_of};
 ghost use Rattle.grok_commands.specs.Commands.{texts};
@@ -18,7 +18,7 @@ use std::alloc::{AllocError, Global};
 use std::io::Write;
 
 /// Returns what `check` writes for a measure: the size, or the text of the fault's error.
-fn text_of(alloc: Global, measure: Measure<'_>) -> Result<String, AllocError>
+fn measured_text(alloc: Global, measure: Measure<'_>) -> Result<String, AllocError>
     ensures { IfOk result
         (λ text. IsMeasuredText (measure_view measure.entry) (string_bytes text)) }
 {
@@ -71,7 +71,7 @@ fn write_line(
     ensures { OnOk result (IsMeasuredLine (measure_view measure.entry) name.now
         (string_bytes line.new)) }
 {
-    let text = text_of(alloc, measure)?;
+    let text = measured_text(alloc, measure)?;
     line.clear();
     write!(line, "{name}: {text}\n")
 }
@@ -89,7 +89,7 @@ fn hold_definitions<W: Write>(
         (finite.keys (library_of definitions.now))
         (append_known (W.contents output.old) held.old.items)
         (append_known (W.contents output.new) held.new.items)) }
-    ensures memory { IsErrOf result LinesError.Memory → HasBegun
+    ensures memory { IsErrOf result LinesError.Memory → HasAnsweredFirst
         (IsCheckLine (library_of definitions.now) alias_only)
         (finite.keys (library_of definitions.now))
         (append_known (W.contents output.old) held.old.items)
@@ -127,7 +127,7 @@ pub fn check_definitions<W: Write>(
     ensures ok { OnOk result (HasAnswered (IsCheckLine (library_of definitions.now) alias_only)
         (finite.keys (library_of definitions.now))
         (W.contents output.old) (W.contents output.new)) }
-    ensures memory { IsErrOf result ToolFault.Memory → HasBegun
+    ensures memory { IsErrOf result ToolFault.Memory → HasAnsweredFirst
         (IsCheckLine (library_of definitions.now) alias_only)
         (finite.keys (library_of definitions.now))
         (W.contents output.old) (W.contents output.new) }

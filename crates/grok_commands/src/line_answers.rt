@@ -20,8 +20,8 @@ pub enum LineFormat {
 }
 
 /// Returns the line as a text, or `None` if it isn't UTF-8.
-#[tactic(auto, using(crate::proofs::Utf8Lines::text_of_line, crate::proofs::Utf8Lines::no_text_of_line))]
-fn text_of(line: &[u8]) -> Option<&str>
+#[tactic(auto, using(crate::proofs::Utf8IsDecided::text_of_line, crate::proofs::Utf8IsDecided::no_text_of_line))]
+fn utf8_text(line: &[u8]) -> Option<&str>
     ensures { option_map (λ text. text.now) result
         ≡ (if is_utf8 line.now then Some line.now else None) }
 {
@@ -108,11 +108,11 @@ impl<'p, E: HasMatcher<'p>> LineAnswers for MatchAnswers<'p, E> {
     ghost use Rattle.grok_commands.specs.LineTexts.{line_answer};
 
     ghost answer = { λ answers n. line_answer answers.format
-        (E.answer_to answers.matcher.engine) answers.matcher.keys };
+        (E.finds answers.matcher.engine) answers.matcher.keys };
 
     #[inline(never)]
     fn answer_line(&mut self, text: &mut Vec<u8>, line: &[u8]) -> Result<(), AllocError> {
-        match text_of(line) {
+        match utf8_text(line) {
             Some(line) => self.answer_str(text, line),
             None => text.extend_from_slice(self.format.not_utf8()),
         }
@@ -121,7 +121,7 @@ impl<'p, E: HasMatcher<'p>> LineAnswers for MatchAnswers<'p, E> {
     // This is inlined into the loop over lines, together with what it calls for a line that doesn't
     // match. That is faster.
     #[inline(always)]
-    #[tactic(auto, using(crate::proofs::Utf8Lines::text_of_line))]
+    #[tactic(auto, using(crate::proofs::Utf8IsDecided::text_of_line))]
     fn answer_str(&mut self, text: &mut Vec<u8>, line: &str) -> Result<(), AllocError> {
         let Some(matches) = self.matcher.find(line)? else {
             return text.extend_from_slice(self.format.no_match());

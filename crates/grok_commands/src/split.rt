@@ -5,7 +5,7 @@ ghost use Rattle.grok.specs.Pieces.{pieces};
 ghost use Rattle.grok.specs.Texts.{fault_words};
 ghost use Rattle.grok.specs.Views.{piece_view};
 ghost use Rattle.grok_lines.specs.Errors.{IsWriteError};
-ghost use Rattle.grok_commands.specs.Answers.{HasAnswered, HasBegun, Prints};
+ghost use Rattle.grok_commands.specs.Answers.{HasAnswered, HasAnsweredFirst, Prints};
 ghost use Rattle.grok_commands.specs.Split.{IsPieceLine};
 
 use crate::fault::ToolFault;
@@ -49,7 +49,7 @@ fn hold_pieces<W: Write>(
     ensures ok { OnOk result (HasAnswered IsPieceLine (pieces pattern.now)
         (append_known (W.contents output.old) held.old.items)
         (append_known (W.contents output.new) held.new.items)) }
-    ensures memory { IsErrOf result LinesError.Memory → HasBegun IsPieceLine (pieces pattern.now)
+    ensures memory { IsErrOf result LinesError.Memory → HasAnsweredFirst IsPieceLine (pieces pattern.now)
         (append_known (W.contents output.old) held.old.items)
         (append_known (W.contents output.new) held.new.items) }
     ensures kind { IfErr result (λ error. (error ≡ LinesError.Memory) ⊎ IsWriteError error) }
@@ -72,7 +72,7 @@ fn hold_pieces<W: Write>(
 pub fn split<W: Write>(alloc: Global, pattern: &str, output: &mut W) -> Result<(), ToolFault>
     ensures ok { OnOk result (HasAnswered IsPieceLine (pieces pattern.now)
         (W.contents output.old) (W.contents output.new)) }
-    ensures memory { IsErrOf result ToolFault.Memory → HasBegun IsPieceLine (pieces pattern.now)
+    ensures memory { IsErrOf result ToolFault.Memory → HasAnsweredFirst IsPieceLine (pieces pattern.now)
         (W.contents output.old) (W.contents output.new) }
     ensures kind { IfErr result (λ fault. (fault ≡ ToolFault.Memory) ⊎ (fault ≡ ToolFault.Write)) }
 {

@@ -1,7 +1,8 @@
-//! Tests of `locate_clash`: where the two placeholders of a clash stand.
+//! Tests of `locate_clash`, which finds where the two placeholders of a clash stand, and of `locate_first`, which finds the
+//! first fault of either kind.
 
 use crate::libraries::{add_chain, add_doublings};
-use grok::{Grok, PlaceholderLocation};
+use grok::{FirstFaultLocation, Grok, PlaceholderLocation};
 use std::process::Abort;
 use std::test::Fail;
 
@@ -192,6 +193,9 @@ fn check_clash(rt: &(impl Abort + AllocGlobal), row: &LocatedClash) -> Result<()
             assert_eq!(rt; clash.key.as_str(), row.key, "{}", row.name);
             check_placeholder(rt, row.name, row.first, &clash.first);
             check_placeholder(rt, row.name, row.second, &clash.second);
+            let first = grok.locate_first(row.pattern, row.with_alias_only)?;
+            let is_first = first == Some(FirstFaultLocation::Clash(clash));
+            assert!(rt; is_first, "{}", row.name);
         }
         None => assert!(rt; false, "{}: no clash", row.name),
     }
@@ -289,5 +293,36 @@ fn no_clash_to_locate(rt: HostRuntime) -> Result<(), Fail> {
     }
     let is_some = grok.locate_clash("%{B}", false)?.is_some();
     assert!(rt; is_some);
+    Ok(())
+}
+
+/// A pattern whose first fault is a clash if each placeholder captures, and a missing definition if only those with an
+/// alias do.
+const TWO_FAULTS: &str = "%{A:x[1]}%{x}%{x}%{nope}";
+
+/// The first fault is located, be it a clash or a structural fault.
+#[test]
+fn located_first_faults(rt: HostRuntime) -> Result<(), Fail> {
+    let grok = Grok::from_iter(rt.alloc(), &[("A", "a"), ("x", "b")])?;
+    for (pattern, with_alias_only, expected) in [
+        (
+            TWO_FAULTS,
+            false,
+            "Some(Clash(ClashLocation { key: \"x[1]\", \
+             first: PlaceholderLocation { path: [], text: \"%{A:x[1]}%{x}%{x}%{nope}\", range: 0..9 }, \
+             second: PlaceholderLocation { path: [], text: \"%{A:x[1]}%{x}%{x}%{nope}\", range: 13..17 } }))",
+        ),
+        (
+            TWO_FAULTS,
+            true,
+            "Some(Structural(FaultLocation { fault: Missing(\"nope\"), path: [], \
+             text: \"%{A:x[1]}%{x}%{x}%{nope}\", range: 17..24 }))",
+        ),
+        ("%{A:x[1]}%{x}", false, "None"),
+    ] {
+        let location = grok.locate_first(pattern, with_alias_only)?;
+        let shown = format!(in rt.alloc(); "{location:?}")?;
+        assert_eq!(rt; shown.as_str(), expected, "{pattern}");
+    }
     Ok(())
 }

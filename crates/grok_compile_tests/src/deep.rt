@@ -1,7 +1,7 @@
 //! Compiles each row of the table over an engine that accepts every text, so that only the library can refuse a
 //! pattern.
 
-use crate::rows::{DEEPEST, Row, clashes, rows};
+use crate::rows::{DEEPEST, Row, RowCheck, check_rows};
 use grok::Measure::Size;
 use grok::{Error, Grok, Measure, PatternOf};
 use grok_engines::Heads;
@@ -60,38 +60,31 @@ fn check_over_regex(
     }
 }
 
-/// Checks the row in both modes.
-fn check_row(rt: &(impl Abort + AllocGlobal), row: &Row) -> Result<(), Fail> {
-    let grok = row.library(rt.alloc())?;
-    check_mode(rt, row, &grok, false, row.every)?;
-    check_mode(rt, row, &grok, true, row.aliased)?;
-    if row.error.is_some() {
-        check_over_regex(rt, row, &grok, false)?;
-        check_over_regex(rt, row, &grok, true)?;
+/// Checks what compiling the row returns, in both modes.
+struct Compiles;
+
+impl RowCheck for Compiles {
+    fn check<R: Abort + AllocGlobal>(rt: &R, row: &Row) -> Result<(), Fail> {
+        let grok = row.library(rt.alloc())?;
+        check_mode(rt, row, &grok, false, row.every)?;
+        check_mode(rt, row, &grok, true, row.aliased)?;
+        if row.error.is_some() {
+            check_over_regex(rt, row, &grok, false)?;
+            check_over_regex(rt, row, &grok, true)?;
+        }
+        Ok(())
     }
-    Ok(())
 }
 
 /// Patterns that are too deep or too long are refused without expanding them.
 #[test]
 fn compiled_texts(rt: HostRuntime) -> Result<(), Fail> {
-    for row in rows() {
-        check_row(&rt, row)?;
-    }
-    Ok(())
-}
-
-#[test]
-fn compiled_clashes(rt: HostRuntime) -> Result<(), Fail> {
-    for row in clashes() {
-        check_row(&rt, row)?;
-    }
-    Ok(())
+    check_rows::<Compiles>(&rt)
 }
 
 /// Appends the heads of `count` groups: `(?:` if only placeholders with an alias capture, and otherwise `(?<_n_0>`,
 /// `(?<_n_1>` and so on.
-fn push_fronts(all: &mut String, count: u32, with_alias_only: bool) -> Result<(), AllocError> {
+fn push_heads(all: &mut String, count: u32, with_alias_only: bool) -> Result<(), AllocError> {
     for number in 0..count {
         if with_alias_only {
             all.push_str("(?:")?;
@@ -106,7 +99,7 @@ fn push_fronts(all: &mut String, count: u32, with_alias_only: bool) -> Result<()
 /// alias capture.
 fn nested(alloc: Global, count: u32, with_alias_only: bool) -> Result<String, AllocError> {
     let mut all = String::new(alloc);
-    push_fronts(&mut all, count, with_alias_only)?;
+    push_heads(&mut all, count, with_alias_only)?;
     all.push_str("x")?;
     for _ in 0..count {
         all.push_str(")")?;

@@ -2,7 +2,7 @@
 //! the greatest length. They also check how measures are displayed and compared.
 
 use crate::libraries::add_doublings;
-use crate::rows::{Row, clashes, rows};
+use crate::rows::{Row, RowCheck, check_rows};
 use grok::Fault::{Malformed, Missing, TooDeep};
 use grok::Measure::TooLong;
 use grok::parser::GrokPatternError::{InvalidCharacter, InvalidPattern, InvalidPatternDefinition};
@@ -101,27 +101,20 @@ fn check_mode(
     Ok(())
 }
 
-/// Checks the row in both modes.
-fn check_row(rt: &(impl Abort + AllocGlobal), row: &Row) -> Result<(), Fail> {
-    let grok = row.library(rt.alloc())?;
-    check_mode(rt, row, &grok, false, row.every)?;
-    check_mode(rt, row, &grok, true, row.aliased)
+/// Checks the measure of the row in both modes.
+struct IsMeasured;
+
+impl RowCheck for IsMeasured {
+    fn check<R: Abort + AllocGlobal>(rt: &R, row: &Row) -> Result<(), Fail> {
+        let grok = row.library(rt.alloc())?;
+        check_mode(rt, row, &grok, false, row.every)?;
+        check_mode(rt, row, &grok, true, row.aliased)
+    }
 }
 
 #[test]
 fn measures(rt: HostRuntime) -> Result<(), Fail> {
-    for row in rows() {
-        check_row(&rt, row)?;
-    }
-    Ok(())
-}
-
-#[test]
-fn measures_of_clashes(rt: HostRuntime) -> Result<(), Fail> {
-    for row in clashes() {
-        check_row(&rt, row)?;
-    }
-    Ok(())
+    check_rows::<IsMeasured>(&rt)
 }
 
 /// Returns the text repeated `times` times.

@@ -6,6 +6,8 @@ use grok::Measure::{Fault, Size, TooLong};
 use grok::parser::GrokPatternError::{InvalidCharacter, InvalidPattern};
 use grok::{Grok, Measure};
 use std::alloc::{AllocError, Global};
+use std::process::Abort;
+use std::test::Fail;
 
 /// A pattern over a library of definitions, with its measures and its error.
 #[derive(Clone, Copy)]
@@ -505,14 +507,17 @@ const CLASHES: &[Row] = &[
     },
 ];
 
-/// Returns the rows of clashes in patterns without a structural fault.
-pub(crate) fn clashes() -> &'static [Row] {
-    CLASHES
+/// A check of a row of the table.
+pub(crate) trait RowCheck {
+    fn check<R: Abort + AllocGlobal>(rt: &R, row: &Row) -> Result<(), Fail>;
 }
 
-/// Returns all rows but those of `clashes`.
-pub(crate) fn rows() -> &'static [Row] {
-    ROWS
+/// Checks each row of the table.
+pub(crate) fn check_rows<C: RowCheck>(rt: &HostRuntime) -> Result<(), Fail> {
+    for row in ROWS.iter().chain(CLASHES) {
+        C::check(rt, row)?;
+    }
+    Ok(())
 }
 
 impl Row {

@@ -20,7 +20,7 @@ impl Engine for Bare {
 
     ghost group_names = { λ engine. name_texts engine.names };
 
-    ghost answer_to = { λ _. whole_line };
+    ghost finds = { λ _. whole_line };
 
     ghost may_refuse = { λ _. ⊥ };
 

@@ -22,7 +22,7 @@ impl Engine for Heads {
 
     ghost group_names = { λ engine. name_texts engine.names.items };
 
-    ghost answer_to = { λ engine. whole_at_odd (length engine.names.items) };
+    ghost finds = { λ engine. whole_at_odd (length engine.names.items) };
 
     ghost may_refuse = { λ _. ⊥ };
 

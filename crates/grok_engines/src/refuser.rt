@@ -14,7 +14,7 @@ impl Engine for Refuser {
 
     ghost group_names = { λ engine. ⟦<Bare as Engine>⟧.group_names engine.bare };
 
-    ghost answer_to = { λ engine. ⟦<Bare as Engine>⟧.answer_to engine.bare };
+    ghost finds = { λ engine. ⟦<Bare as Engine>⟧.finds engine.bare };
 
     ghost may_refuse = { λ _. Unit {0} };
 

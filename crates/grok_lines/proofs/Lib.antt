@@ -1,8 +1,8 @@
-pub mod Appending
-pub mod Cuts
-pub mod LineFeeds
-pub mod LineLemmas
+pub mod AppendsAddUp
+pub mod LineEndsAtLineFeed
+pub mod LineFeedsEndLines
+pub mod LinesOfTwoParts
 pub mod LineLaws
-pub mod Held
-pub mod Numbering
-pub mod Steps
+pub mod HeldBytesAreKept
+pub mod AnswersAreNumberedOn
+pub mod AnswersHaveGoneOut

@@ -4,12 +4,12 @@ use Rattle.std.proofs.Common.{◌≡◌, ℕ, Bool, true, false, List, [], ◌�
 use Rattle.std.proofs.lemmas.Bool.{eqb-true}
 use Rattle.std.specs.List.{AllByRecursion}
 use Rattle.grok_lines.specs.Lines.{ended_lines_of, unended_of, onto_ended, is_none, IsLine}
-use Rattle.grok_lines.specs.LineLaws.{joined, InputsAreTheirLines, NoLineHoldsALineFeed, OnlyTheLastMayLackItsLineFeed, NoOtherLinesMakeUpAnInput}
-use Rattle.grok_lines.proofs.LineLemmas.{ended-line, unended-line, ended-none, unended-none, unended-all, lines-split}
+use Rattle.grok_lines.specs.LineLaws.{joined_lines, InputsAreTheirLines, NoLineHoldsALineFeed, OnlyTheLastMayLackItsLineFeed, NoOtherLinesMakeUpAnInput}
+use Rattle.grok_lines.proofs.LinesOfTwoParts.{ended-line, unended-line, ended-none, unended-none, unended-all, lines-split}
 
 -- by the first byte and by whether a line ends after it
-join-step : (t : Bool) (x : ℕ) (input rest : List ℕ) (lines : List (List ℕ)) → joined lines ++ rest ≡ input → t ≡ (x == 10)
-    → joined (if t then [] ∷ lines else onto_ended x lines) ++ (if is_none (if t then [] ∷ lines else onto_ended x lines) then x ∷ input else rest) ≡ x ∷ input
+join-step : (t : Bool) (x : ℕ) (input rest : List ℕ) (lines : List (List ℕ)) → joined_lines lines ++ rest ≡ input → t ≡ (x == 10)
+    → joined_lines (if t then [] ∷ lines else onto_ended x lines) ++ (if is_none (if t then [] ∷ lines else onto_ended x lines) then x ∷ input else rest) ≡ x ∷ input
 join-step true x input rest lines h q = let feed : x ≡ 10 = eqb-true x 10 (sym q) in rw feed (ap (λ v. 10 ∷ v) h)
 join-step false x input rest [] h q = refl
 join-step false x input rest (line ∷ lines) h q = ap (λ v. x ∷ v) h
@@ -37,9 +37,9 @@ pub no_other_lines_make_up_an_input : NoOtherLinesMakeUpAnInput
 no_other_lines_make_up_an_input [] rest are is = (ended-none rest is, unended-none rest is)
 no_other_lines_make_up_an_input (line ∷ lines) rest are is =
     let more = no_other_lines_make_up_an_input lines rest are.1 is in
-    let after = joined lines ++ rest in
-    let whole : joined (line ∷ lines) ++ rest ≡ line ++ 10 ∷ after =
-    append_assoc (line ++ 10 ∷ []) (joined lines) rest ∙ append_assoc line (10 ∷ []) after in (
+    let after = joined_lines lines ++ rest in
+    let whole : joined_lines (line ∷ lines) ++ rest ≡ line ++ 10 ∷ after =
+    append_assoc (line ++ 10 ∷ []) (joined_lines lines) rest ∙ append_assoc line (10 ∷ []) after in (
       ap ended_lines_of whole ∙ ended-line line after are.0 ∙ ap (λ v. line ∷ v) more.0,
       ap unended_of whole ∙ unended-line line after are.0 ∙ more.1,
     )

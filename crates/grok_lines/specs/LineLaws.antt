@@ -5,12 +5,12 @@ use Rattle.grok_lines.specs.Lines.{lines_of, ended_lines_of, unended_of, last_li
 use Rattle.grok_lines.specs.Streams.{answers_of, AreAnswersAfter}
 
 -- the lines, each with its line feed, one after another
-abbrev pub joined : List (List ℕ) → List ℕ
-joined lines = flat_map (λ line. line ++ codes "\n") lines
+abbrev pub joined_lines : List (List ℕ) → List ℕ
+joined_lines lines = flat_map (λ line. line ++ codes "\n") lines
 
 -- An input is its ended lines, each followed by its line feed, and then the rest that has no line feed.
 abbrev pub InputsAreTheirLines : Type 0
-InputsAreTheirLines = (input : List ℕ) → joined (ended_lines_of input) ++ unended_of input ≡ input
+InputsAreTheirLines = (input : List ℕ) → joined_lines (ended_lines_of input) ++ unended_of input ≡ input
 
 -- No line has a line feed in it, and neither has the rest.
 abbrev pub NoLineHoldsALineFeed : Type 0
@@ -27,7 +27,7 @@ OnlyTheLastMayLackItsLineFeed = (input : List ℕ)
 abbrev pub NoOtherLinesMakeUpAnInput : Type 0
 NoOtherLinesMakeUpAnInput = (lines : List (List ℕ)) (rest : List ℕ)
     → AllByRecursion IsLine lines → IsLine rest
-    → (ended_lines_of (joined lines ++ rest) ≡ lines) × (unended_of (joined lines ++ rest) ≡ rest)
+    → (ended_lines_of (joined_lines lines ++ rest) ≡ lines) × (unended_of (joined_lines lines ++ rest) ≡ rest)
 
 -- ---- answers
 

@@ -19,7 +19,7 @@ pub fn lines()
 /// If an answer doesn't depend on how many lines came before, the answers to some lines are the answers to each of
 /// them by itself, one after another. If the numbers of a second list of lines go on after those of a first one, the
 /// answers to the first and then to the second are the answers to both as one list.
-#[tactic(auto, using(crate::proofs::Numbering::answers_by_lines_alone, crate::proofs::Numbering::answers_go_on))]
+#[tactic(auto, using(crate::proofs::AnswersAreNumberedOn::answers_by_lines_alone, crate::proofs::AnswersAreNumberedOn::answers_go_on))]
 pub fn answers()
     ensures alone { AnswersByLinesAlone }
     ensures more { AnswersGoOn }

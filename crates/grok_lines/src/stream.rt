@@ -40,7 +40,7 @@ pub trait LineAnswers {
 }
 
 /// Returns what comes before the first line feed, and what comes after it. Returns `None` if there is no line feed.
-#[tactic(auto, using(crate::proofs::Cuts::line_none, crate::proofs::Cuts::line_cut))]
+#[tactic(auto, using(crate::proofs::LineEndsAtLineFeed::line_none, crate::proofs::LineEndsAtLineFeed::line_cut))]
 fn first_line(bytes: &[u8]) -> Option<(&[u8], &[u8])>
     ensures { MatchOption result (IsLine bytes.now)
         (λ parts. IsLine parts.0.now × (bytes.now ≡ parts.0.now ++ 10 ∷ parts.1.now)) }

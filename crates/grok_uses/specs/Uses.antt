@@ -13,11 +13,11 @@ Answers E = E → List ℕ → Option (List (Option (List ℕ)))
 
 -- The pairs that a pattern finds in a line: keys with their values. If the line doesn't match, the list is empty.
 abbrev pub pairs_in : {E : Type 0} → Answers E → PatternValue E → List ℕ → List (List ℕ × List ℕ)
-pairs_in answer_to pattern line = option_map_or (walk pattern.keys) (answer_to pattern.engine line) []
+pairs_in finds pattern line = option_map_or (walk pattern.keys) (finds pattern.engine line) []
 
 -- Whether the key has a value in the line.
 abbrev pub has_key : {E : Type 0} → Answers E → PatternValue E → List ℕ → List ℕ → Bool
-has_key answer_to pattern key line = list_any (λ pair. bytes_eq pair.0 key) (pairs_in answer_to pattern line)
+has_key finds pattern key line = list_any (λ pair. bytes_eq pair.0 key) (pairs_in finds pattern line)
 
 -- Whether the key of a pair has this extract.
 abbrev pub is_of_kind : {E : Type 0} → PatternValue E → List ℕ → List ℕ × List ℕ → Bool

@@ -20,7 +20,7 @@ impl Engine for Prefix {
 
     ghost group_names = { λ engine. name_texts engine.names };
 
-    ghost answer_to = { λ engine. prefix_answer (string_bytes engine.text) };
+    ghost finds = { λ engine. prefix_answer (string_bytes engine.text) };
 
     ghost may_refuse = { λ _. ⊥ };
 

@@ -15,7 +15,7 @@ pub(crate) fn values_of_kind<E: Engine>(
     line: &str,
 ) -> Result<Vec<String>, AllocError>
     ensures { IfOk result (λ values. map string_bytes values.items
-        ≡ values_of_kind pattern.now kind.now (pairs_in E.answer_to pattern.now line.now)) }
+        ≡ values_of_kind pattern.now kind.now (pairs_in E.finds pattern.now line.now)) }
 {
     let mut values = Vec::new(alloc);
     if let Some(matches) = pattern.match_against(line)? {

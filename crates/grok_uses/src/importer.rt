@@ -12,7 +12,7 @@ fn gives_key<'p, E: HasMatcher<'p>>(
     line: &str,
 ) -> Result<bool, AllocError>
     ensures answer { IfOk result (λ gives.
-        gives ≡ has_key E.answer_to matcher.old key.now line.now) }
+        gives ≡ has_key E.finds matcher.old key.now line.now) }
     ensures same { matcher.new ≡ matcher.old }
 {
     match matcher.find(line)? {
@@ -29,7 +29,7 @@ pub(crate) fn count_of_key<'p, E: HasMatcher<'p>>(
     lines: &[&str],
 ) -> Result<usize, AllocError>
     ensures { IfOk result (λ count.
-        count ≡ count_by (λ line. has_key E.answer_to pattern.now key.now line.now) lines.now) }
+        count ≡ count_by (λ line. has_key E.finds pattern.now key.now line.now) lines.now) }
 {
     let mut matcher = pattern.matcher()?;
     let mut count = 0;

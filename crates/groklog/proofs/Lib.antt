@@ -1,2 +1,2 @@
 pub mod NamesAndBlanksEndAtBoundaries
-pub mod TextsAfterNames
+pub mod FirstCharacterDecides

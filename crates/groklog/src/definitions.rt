@@ -57,7 +57,7 @@ fn skip_blanks(text: &str) -> &str
 
 /// Returns the definition in `text`, which is what follows a name: the text after `=`, or the text
 /// after one or more blanks. Returns `None` if `text` begins with another character or is empty.
-#[tactic(auto, using(crate::proofs::TextsAfterNames::texts_after_names))]
+#[tactic(auto, using(crate::proofs::FirstCharacterDecides::texts_after_names))]
 fn definition_after(text: &str) -> Option<&str>
     ensures { option_map (λ definition. definition.now) result ≡ definition_after text.now }
 {

@@ -20,7 +20,7 @@ pub fn lines()
 
 /// States that the number of a line is how many lines came before it, plus 1. If no number is
 /// written, an answer depends on its line alone.
-#[tactic(auto, using(crate::proofs::LineNumbers::each_line_has_its_number, crate::proofs::LineNumbers::without_numbers_lines_stand_alone))]
+#[tactic(auto, using(crate::proofs::LinesAreNumbered::each_line_has_its_number, crate::proofs::LinesAreNumbered::without_numbers_lines_stand_alone))]
 pub fn numbers()
     ensures each { EachLineHasItsNumber }
     ensures none { WithoutNumbersLinesStandAlone }
@@ -28,7 +28,7 @@ pub fn numbers()
 
 /// States that a JSON answer is one line, unless it is empty. Read as JSON, the object of a line
 /// has the members that were written, in the same order.
-#[tactic(auto, using(crate::proofs::ReadsBack::matches_read_back, crate::proofs::ReadsBack::unmatched_lines_read_back, crate::proofs::ObjectLines::objects_are_lines))]
+#[tactic(auto, using(crate::proofs::ObjectsReadBack::matches_read_back, crate::proofs::ObjectsReadBack::unmatched_lines_read_back, crate::proofs::ObjectsAreLines::objects_are_lines))]
 pub fn objects()
     ensures matches { MatchesReadBack }
     ensures unmatched { UnmatchedLinesReadBack }

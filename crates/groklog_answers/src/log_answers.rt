@@ -251,7 +251,7 @@ impl LineAnswers for LogAnswers<'_> {
         (next_number_of answers) };
 
     #[inline(never)]
-    #[tactic(auto, using(crate::proofs::Utf8Lines::text_of_line, crate::proofs::Utf8Lines::no_text_of_line, crate::proofs::LineNumbers::counts_on))]
+    #[tactic(auto, using(crate::proofs::Utf8IsDecided::text_of_line, crate::proofs::Utf8IsDecided::no_text_of_line, crate::proofs::LinesAreNumbered::counts_on))]
     fn answer_line(&mut self, text: &mut Vec<u8>, line: &[u8]) -> Result<(), AllocError> {
         match str::from_utf8(line) {
             Ok(line) => self.answer_str(text, line),
@@ -260,7 +260,7 @@ impl LineAnswers for LogAnswers<'_> {
     }
 
     #[inline(always)]
-    #[tactic(auto, using(crate::proofs::Utf8Lines::text_of_line, crate::proofs::LineNumbers::counts_on))]
+    #[tactic(auto, using(crate::proofs::Utf8IsDecided::text_of_line, crate::proofs::LinesAreNumbered::counts_on))]
     fn answer_str(&mut self, text: &mut Vec<u8>, line: &str) -> Result<(), AllocError> {
         let next_number = number_after(self.next_number)?;
         self.answer.clear();

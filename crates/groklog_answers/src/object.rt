@@ -31,7 +31,7 @@ fn write_optional(writer: &mut Writer, name: Option<&str>, text: &str) -> Result
 }
 
 /// Writes a number in decimal.
-#[tactic(auto, using(crate::proofs::Numerals::numeral_is_decimal))]
+#[tactic(auto, using(crate::proofs::NumeralsAreJson::numeral_is_decimal))]
 fn write_decimal(writer: &mut Writer, number: u64) -> Result<(), AllocError>
     ensures value { OnOk result (writer.new.tokens ≡ writer.old.tokens
         ++ json_tokens (Json.number (numeral number))) }
@@ -95,7 +95,7 @@ fn write_pairs(
 }
 
 /// Appends the compact JSON object of a match in this line, and returns the whole text.
-#[tactic(auto, using(crate::proofs::Objects::object_in_four_parts))]
+#[tactic(auto, using(crate::proofs::TokensOfMembers::object_in_four_parts))]
 pub fn write_match(
     text: Vec<u8>,
     layout: Layout<'_>,
@@ -118,7 +118,7 @@ pub fn write_match(
 }
 
 /// Appends the JSON object of a line that no pattern matches, and returns the whole text.
-#[tactic(auto, using(crate::proofs::Objects::object_in_two_parts))]
+#[tactic(auto, using(crate::proofs::TokensOfMembers::object_in_two_parts))]
 pub fn write_unmatched(
     text: Vec<u8>,
     layout: Layout<'_>,

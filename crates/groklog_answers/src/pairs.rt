@@ -37,7 +37,7 @@ fn append_optional(text: &mut Vec<u8>, name: Option<&str>, value: &str) -> Resul
 
 /// Appends a `KEY=VALUE` line with the key `name` and the number of a line. If `name` is `None`,
 /// appends nothing.
-#[tactic(auto, using(crate::proofs::Numerals::numeral_is_decimal))]
+#[tactic(auto, using(crate::proofs::NumeralsAreJson::numeral_is_decimal))]
 fn append_number(text: &mut Vec<u8>, name: Option<&str>, number: u64) -> Result<(), AllocError>
     ensures { OnOk result (text.new.items ≡ text.old.items
         ++ optional_line (option_map (λ name. name.now) name.entry) (numeral number)) }

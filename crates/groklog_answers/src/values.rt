@@ -8,7 +8,7 @@ use json::{Writer, is_number};
 use std::alloc::AllocError;
 
 /// Returns whether a text is a JSON number.
-#[tactic(auto, using(crate::proofs::Numbers::number_is_decided))]
+#[tactic(auto, using(crate::proofs::NumbersAreJson::number_is_decided))]
 fn is_json_number(text: &str) -> bool
     ensures { result ≡ is_json_number text.now }
 {
@@ -47,7 +47,7 @@ fn is_written_as_number(extract: Option<&str>, value: &str) -> bool
 
 /// Writes a value: as a number, byte for byte, if the extract asks for one and the value is one,
 /// and otherwise as a string.
-#[tactic(auto, using(crate::proofs::Numbers::is_number, crate::proofs::Numbers::written_is_number))]
+#[tactic(auto, using(crate::proofs::NumbersAreJson::is_number, crate::proofs::NumbersAreJson::written_is_number))]
 pub fn write_value(
     writer: &mut Writer,
     extract: Option<&str>,

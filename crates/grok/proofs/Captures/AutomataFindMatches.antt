@@ -34,7 +34,7 @@ use Rattle.grok.specs.RegexFinds.{IsReadByDefault, texts_at, span_of_group, capt
 use Rattle.grok.specs.OwnSearches.{IsTreeOf, BeginsEach, IsInEach, AreMatchFactsOf, IsNextOf, IsPositionOf, span_of_pair, span_of_cells}
 use Rattle.grok.specs.declared.engine.match_facts.MatchFacts.{MatchFacts}
 use Rattle.grok.specs.declared.engine.match_facts.Needles.{Needles}
-use Rattle.grok.proofs.Trees.CompileResults.{no_bytes}
+use Rattle.grok.proofs.Trees.StepsCompile.{no_bytes}
 
 -- ---- the same text
 

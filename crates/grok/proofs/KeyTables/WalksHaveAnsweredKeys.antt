@@ -14,7 +14,7 @@ use Rattle.std.proofs.lemmas.Map.Text.{is_eq-slice_cmp}
 use Rattle.std.proofs.lemmas.Map.Views.{Contains-from_lookup, lookup-from_Contains}
 use Rattle.grok.specs.GeneratedNames.{generated}
 use Rattle.grok.specs.KeyTable.{Entries, group_in, meant_from}
-use Rattle.grok.specs.Answers.{capture_at, answer_of, walk}
+use Rattle.grok.specs.Answers.{capture_at, value_of, walk}
 use Rattle.grok.specs.AnswerLaws.{Rises, WalksHaveTheAnsweredKeys, AnswersAreThoseOfTheWalk, GeneratedNamesMeanTheirKeys, OtherNamesMeanThemselves}
 use Rattle.grok.proofs.Texts.EqualBytesAreSameText.{same_text, text_same}
 use Rattle.grok.proofs.KeyTables.NamesMeanKeys.{meant_given, meant_itself}
@@ -36,7 +36,7 @@ absent key (e ∷ es) above = ap (λ b. cond b (Some e.1) (lookup (bytes_eq key)
 
 module _ (captures : List (Option (List ℕ))) where
   -- looking up a key in the walk gives its value
-  walk_answers : (key : List ℕ) (table : Entries) → Rises table → lookup (bytes_eq key) (walk table captures) ≡ answer_of table captures key
+  walk_answers : (key : List ℕ) (table : Entries) → Rises table → lookup (bytes_eq key) (walk table captures) ≡ value_of table captures key
   unfolding IsStrictlySortedBy
   walk_answers key [] rises = refl
   walk_answers key (e ∷ es) rises =
@@ -56,17 +56,17 @@ module _ (captures : List (Option (List ℕ))) where
 
   -- a greater key changes no value
   same_answers : (e : List ℕ × ℕ) (es : Entries) (keys : List (List ℕ)) → Above e.0 keys
-      → filter (λ key. is_some (answer_of (e ∷ es) captures key)) keys ≡ filter (λ key. is_some (answer_of es captures key)) keys
+      → filter (λ key. is_some (value_of (e ∷ es) captures key)) keys ≡ filter (λ key. is_some (value_of es captures key)) keys
   same_answers e es [] above = refl
   same_answers e es (key ∷ keys) above =
-      let one : answer_of (e ∷ es) captures key ≡ answer_of es captures key = ap (λ b. option_and_then (capture_at captures) (cond b (Some e.1) (group_in es key))) (above_differs e.0 key above.0) in
+      let one : value_of (e ∷ es) captures key ≡ value_of es captures key = ap (λ b. option_and_then (capture_at captures) (cond b (Some e.1) (group_in es key))) (above_differs e.0 key above.0) in
       ap₂ (λ o ks. cond (is_some o) (key ∷ ks) ks) one (same_answers e es keys above.1)
 
-  answered : (table : Entries) → Rises table → keys_of (walk table captures) ≡ filter (λ key. is_some (answer_of table captures key)) (keys_of table)
+  answered : (table : Entries) → Rises table → keys_of (walk table captures) ≡ filter (λ key. is_some (value_of table captures key)) (keys_of table)
   unfolding IsStrictlySortedBy
   answered [] rises = refl
   answered (e ∷ es) rises =
-      let first : answer_of (e ∷ es) captures e.0 ≡ capture_at captures e.1 = ap (λ b. option_and_then (capture_at captures) (cond b (Some e.1) (group_in es e.0))) (text_same e.0 e.0 refl) in
+      let first : value_of (e ∷ es) captures e.0 ≡ capture_at captures e.1 = ap (λ b. option_and_then (capture_at captures) (cond b (Some e.1) (group_in es e.0))) (text_same e.0 e.0 refl) in
       let walked : (o : Option (List ℕ)) → keys_of (cons_option (option_map (λ text. (e.0, text)) o) (walk es captures)) ≡ cond (is_some o) (e.0 ∷ keys_of (walk es captures)) (keys_of (walk es captures)) =
       elim [ None ↦ refl | Some text ↦ refl ] in
       walked (capture_at captures e.1)

@@ -15,14 +15,14 @@ use Rattle.grok.specs.FirstFault.{IsFaultAfter, StructuralEvent, ClashingOpen}
 use Rattle.grok.specs.ByteLocations.{IsEventAt}
 use Rattle.grok.specs.ClashLocations.{HasKeyAt, IsClashAt}
 use Rattle.grok.specs.UseSteps.{is_some_use, IsUseAt, FindsUse}
-use Rattle.grok.specs.declared.expand.counted_definitions.CompileMode.{CompileMode}
+use Rattle.grok.specs.declared.expand.counted_definitions.CompileSettings.{CompileSettings}
 use Rattle.grok.specs.declared.locate_clash.SoughtKeys.{SoughtKeys}
 use Rattle.grok.specs.declared.locate_clash.UsesSoFar.{UsesSoFar}
 use Rattle.grok.specs.declared.locate_clash.PlaceholderLocation.{PlaceholderLocation}
 use Rattle.grok.specs.declared.locate_clash.ClashLocation.{ClashLocation}
 use Rattle.grok.proofs.Sizes.SizeIsThatOfTree.{first_structural-append, or_else}
 use Rattle.grok.proofs.Trees.ByteIsLocated.{event_follows}
-use Rattle.grok.proofs.Trees.CompileResults.{no_structural}
+use Rattle.grok.proofs.Trees.StepsCompile.{no_structural}
 use Rattle.grok.proofs.Keys.KeysAreDistinct.{numbered_both}
 use Rattle.grok.proofs.Keys.KeysThatCanClashAreEnough.{base_can_clash, numbered_can_clash, counted_as_used}
 use Rattle.grok.proofs.Keys.ClashesByUses.{how_often-append, how_often_own, taken_is}
@@ -209,19 +209,19 @@ some_use : (n : ℕ) → 0 < n → is_some_use n ≡ true
 some_use zero some = absurd (omega arith)
 some_use (suc n) some = refl
 
-module _ (mode : CompileMode) (keys : SoughtKeys) (pattern : List ℕ) (number : ℕ) (new : UsesSoFar)
-    (can : can_clash mode.numbered.now keys.base.now ≡ true) where
+module _ (settings : CompileSettings) (keys : SoughtKeys) (pattern : List ℕ) (number : ℕ) (new : UsesSoFar)
+    (can : can_clash settings.numbered.now keys.base.now ≡ true) where
   abbrev its_tree : List Event
-  its_tree = tree (finite.get mode.grok.now) pattern
+  its_tree = tree (finite.get settings.grok.now) pattern
 
   abbrev started : UsesSoFar
   started = record { left = number; is_other_used = false }
 
-  found_use : (location : PlaceholderLocation) → can_clash mode.numbered.now keys.other.now ≡ true → IsUseAt mode keys deepest pattern (path_view location.path.items) location.text.now location.range.start location.range.end started new
-      → (u : IsUse (finite.get mode.grok.now) mode.with_alias_only pattern keys.base.now number location) × (new.is_other_used ≡ is_some_use (how_often (capturing mode.with_alias_only u.before) keys.other.now))
+  found_use : (location : PlaceholderLocation) → can_clash settings.numbered.now keys.other.now ≡ true → IsUseAt settings keys deepest pattern (path_view location.path.items) location.text.now location.range.start location.range.end started new
+      → (u : IsUse (finite.get settings.grok.now) settings.with_alias_only pattern keys.base.now number location) × (new.is_other_used ≡ is_some_use (how_often (capturing settings.with_alias_only u.before) keys.other.now))
   unfolding tree
   found_use location can_other u =
-      let stored = finite.get mode.grok.now in
+      let stored = finite.get settings.grok.now in
       let (after, cut) = event_follows stored deepest pattern (path_view location.path.items) location.text.now location.range.start location.range.end (PlaceholderItem u.label u.meaning) u.before (Open u.label u.meaning) u.stands in (
         record {
           label = u.label;
@@ -230,60 +230,60 @@ module _ (mode : CompileMode) (keys : SoughtKeys) (pattern : List ℕ) (number :
           after = after;
           stands = u.stands;
           cut = cut;
-          captures = and_left (is_capturing mode.with_alias_only u.label) (can_clash mode.numbered.now (base_key u.label)) u.counts;
+          captures = and_left (is_capturing settings.with_alias_only u.label) (can_clash settings.numbered.now (base_key u.label)) u.counts;
           asks = u.asks;
-          often = omega (arith, u.passed.fewer, u.last, counted_as_used mode.numbered.now mode.with_alias_only u.before keys.base.now can);
+          often = omega (arith, u.passed.fewer, u.last, counted_as_used settings.numbered.now settings.with_alias_only u.before keys.base.now can);
         },
-        u.passed.seen ∙ ap is_some_use (counted_as_used mode.numbered.now mode.with_alias_only u.before keys.other.now can_other),
+        u.passed.seen ∙ ap is_some_use (counted_as_used settings.numbered.now settings.with_alias_only u.before keys.other.now can_other),
       )
 
-  is_found : number < how_often (capturing mode.with_alias_only its_tree) keys.base.now → (found : Option PlaceholderLocation) → FindsUse mode keys pattern found started new → found ≡ None → ⊥
+  is_found : number < how_often (capturing settings.with_alias_only its_tree) keys.base.now → (found : Option PlaceholderLocation) → FindsUse settings keys pattern found started new → found ≡ None → ⊥
   unfolding tree
   is_found low (Some location) finds none = cc
-  is_found low None finds none = absurd (omega (arith, low, finds.fewer, counted_as_used mode.numbered.now mode.with_alias_only its_tree keys.base.now can))
+  is_found low None finds none = absurd (omega (arith, low, finds.fewer, counted_as_used settings.numbered.now settings.with_alias_only its_tree keys.base.now can))
 
 -- ---- the two searches
 
-module _ (mode : CompileMode) (pattern : List ℕ) (key base : Bor (List ℕ)) where
+module _ (settings : CompileSettings) (pattern : List ℕ) (key base : Bor (List ℕ)) where
   abbrev stored : Definitions
-  stored = finite.get mode.grok.now
+  stored = finite.get settings.grok.now
 
   abbrev whole : List Event
-  whole = tree (finite.get mode.grok.now) pattern
+  whole = tree (finite.get settings.grok.now) pattern
 
   abbrev often_in : List Event → List ℕ → ℕ
-  often_in es k = how_often (capturing mode.with_alias_only es) k
+  often_in es k = how_often (capturing settings.with_alias_only es) k
 
   -- what is known of a clash that was found
   pub record IsKnownClash (number : ℕ) : Type 0 where
-    pub clash : IsClash mode.with_alias_only (tree (finite.get mode.grok.now) pattern) key.now base.now number
+    pub clash : IsClash settings.with_alias_only (tree (finite.get settings.grok.now) pattern) key.now base.now number
     pub named : key.now ≡ numbered base.now number
-    pub can_key : can_clash mode.numbered.now key.now ≡ true
-    pub can_base : can_clash mode.numbered.now base.now ≡ true
+    pub can_key : can_clash settings.numbered.now key.now ≡ true
+    pub can_base : can_clash settings.numbered.now base.now ≡ true
 
   known_of : (count : ℕ) → key.now ≡ numbered base.now (suc count)
-      → ((base : List ℕ) → is_base_in mode.numbered.now base ≡ opens_numbered_from base (reached (tree (finite.get mode.grok.now) pattern)))
-      → IsClash mode.with_alias_only (tree (finite.get mode.grok.now) pattern) key.now base.now (suc count) → IsKnownClash (suc count)
+      → ((base : List ℕ) → is_base_in settings.numbered.now base ≡ opens_numbered_from base (reached (tree (finite.get settings.grok.now) pattern)))
+      → IsClash settings.with_alias_only (tree (finite.get settings.grok.now) pattern) key.now base.now (suc count) → IsKnownClash (suc count)
   known_of count named known clash = record {
     clash = clash;
     named = named;
-    can_key = ap (can_clash mode.numbered.now) named ∙ numbered_can_clash mode.numbered.now base.now count;
+    can_key = ap (can_clash settings.numbered.now) named ∙ numbered_can_clash settings.numbered.now base.now count;
     can_base =
         let up_to = clash.before ++ Open clash.label clash.meaning ∷ [] in
-        base_can_clash mode.numbered.now mode.with_alias_only stored pattern known up_to clash.after (clash.cut ∙ sym (append_assoc clash.before (Open clash.label clash.meaning ∷ []) clash.after))
-        (first_structural-append clash.before (Open clash.label clash.meaning ∷ []) ∙ ap (λ o. or_else o None) (no_structural mode.with_alias_only clash.before clash.none))
+        base_can_clash settings.numbered.now settings.with_alias_only stored pattern known up_to clash.after (clash.cut ∙ sym (append_assoc clash.before (Open clash.label clash.meaning ∷ []) clash.after))
+        (first_structural-append clash.before (Open clash.label clash.meaning ∷ []) ∙ ap (λ o. or_else o None) (no_structural settings.with_alias_only clash.before clash.none))
         base.now count (subst (λ k. 0 < often_in up_to k) named (used clash.last));
   }
     where
-      used : IsLast mode.with_alias_only key.now base.now (suc count) clash.before clash.label → 0 < often_in (clash.before ++ Open clash.label clash.meaning ∷ []) key.now
-      used (Own asks none low) = omega (arith, uses_at mode.with_alias_only clash.before clash.label clash.meaning [] key.now clash.captures asks)
-      used (Numbered asks often some) = omega (arith, some, uses_more mode.with_alias_only clash.before (Open clash.label clash.meaning ∷ []) key.now)
+      used : IsLast settings.with_alias_only key.now base.now (suc count) clash.before clash.label → 0 < often_in (clash.before ++ Open clash.label clash.meaning ∷ []) key.now
+      used (Own asks none low) = omega (arith, uses_at settings.with_alias_only clash.before clash.label clash.meaning [] key.now clash.captures asks)
+      used (Numbered asks often some) = omega (arith, some, uses_more settings.with_alias_only clash.before (Open clash.label clash.meaning ∷ []) key.now)
 
   pub known_clash : (number : ℕ) → 0 < number → key.now ≡ numbered base.now number
-      → ((base : List ℕ) → is_base_in mode.numbered.now base ≡ opens_numbered_from base (reached (tree (finite.get mode.grok.now) pattern)))
-      → first_fault mode.with_alias_only (tree (finite.get mode.grok.now) pattern) ≡ Some (Clash key.now) → IsKnownClash number
+      → ((base : List ℕ) → is_base_in settings.numbered.now base ≡ opens_numbered_from base (reached (tree (finite.get settings.grok.now) pattern)))
+      → first_fault settings.with_alias_only (tree (finite.get settings.grok.now) pattern) ≡ Some (Clash key.now) → IsKnownClash number
   known_clash zero some named known first = absurd (omega arith)
-  known_clash (suc count) some named known first = known_of count named known (first_clash mode.with_alias_only key.now base.now count named whole first)
+  known_clash (suc count) some named known first = known_of count named known (first_clash settings.with_alias_only key.now base.now count named whole first)
 
   module _ (number : ℕ) (k : IsKnownClash number) (new : UsesSoFar) where
     abbrev there : (es : List ℕ) → ℕ
@@ -292,64 +292,64 @@ module _ (mode : CompileMode) (pattern : List ℕ) (key base : Bor (List ℕ)) w
     more_there : (es : List ℕ) → there es ≡ often_in (k.clash.before ++ Open k.clash.label k.clash.meaning ∷ k.clash.after) es
     more_there es = ap (λ t. often_in t es) k.clash.cut
 
-    own_low : IsLast mode.with_alias_only key.now base.now number k.clash.before k.clash.label → 0 < often_in whole key.now
-    own_low (Own asks none low) = omega (arith, more_there key.now, uses_at mode.with_alias_only k.clash.before k.clash.label k.clash.meaning k.clash.after key.now k.clash.captures asks)
-    own_low (Numbered asks often some) = omega (arith, some, more_there key.now, uses_more mode.with_alias_only k.clash.before (Open k.clash.label k.clash.meaning ∷ k.clash.after) key.now)
+    own_low : IsLast settings.with_alias_only key.now base.now number k.clash.before k.clash.label → 0 < often_in whole key.now
+    own_low (Own asks none low) = omega (arith, more_there key.now, uses_at settings.with_alias_only k.clash.before k.clash.label k.clash.meaning k.clash.after key.now k.clash.captures asks)
+    own_low (Numbered asks often some) = omega (arith, some, more_there key.now, uses_more settings.with_alias_only k.clash.before (Open k.clash.label k.clash.meaning ∷ k.clash.after) key.now)
 
-    numbered_low : IsLast mode.with_alias_only key.now base.now number k.clash.before k.clash.label → number < often_in whole base.now
-    numbered_low (Own asks none low) = omega (arith, low, more_there base.now, uses_more mode.with_alias_only k.clash.before (Open k.clash.label k.clash.meaning ∷ k.clash.after) base.now)
-    numbered_low (Numbered asks often some) = omega (arith, often, more_there base.now, uses_at mode.with_alias_only k.clash.before k.clash.label k.clash.meaning k.clash.after base.now k.clash.captures asks)
+    numbered_low : IsLast settings.with_alias_only key.now base.now number k.clash.before k.clash.label → number < often_in whole base.now
+    numbered_low (Own asks none low) = omega (arith, low, more_there base.now, uses_more settings.with_alias_only k.clash.before (Open k.clash.label k.clash.meaning ∷ k.clash.after) base.now)
+    numbered_low (Numbered asks often some) = omega (arith, often, more_there base.now, uses_at settings.with_alias_only k.clash.before k.clash.label k.clash.meaning k.clash.after base.now k.clash.captures asks)
 
     -- both searches find a use
-    pub own_is_found : (found : Option PlaceholderLocation) → FindsUse mode (record { base = key; other = base }) pattern found (record { left = 0; is_other_used = false }) new → found ≡ None → ⊥
-    own_is_found = is_found mode (record { base = key; other = base }) pattern 0 new k.can_key (own_low k.clash.last)
+    pub own_is_found : (found : Option PlaceholderLocation) → FindsUse settings (record { base = key; other = base }) pattern found (record { left = 0; is_other_used = false }) new → found ≡ None → ⊥
+    own_is_found = is_found settings (record { base = key; other = base }) pattern 0 new k.can_key (own_low k.clash.last)
 
-    pub numbered_is_found : (found : Option PlaceholderLocation) → FindsUse mode (record { base = base; other = key }) pattern found (record { left = number; is_other_used = false }) new → found ≡ None → ⊥
-    numbered_is_found = is_found mode (record { base = base; other = key }) pattern number new k.can_base (numbered_low k.clash.last)
+    pub numbered_is_found : (found : Option PlaceholderLocation) → FindsUse settings (record { base = base; other = key }) pattern found (record { left = number; is_other_used = false }) new → found ≡ None → ⊥
+    numbered_is_found = is_found settings (record { base = base; other = key }) pattern number new k.can_base (numbered_low k.clash.last)
 
   -- ---- which one comes first
 
   module _ (number : ℕ) (k : IsKnownClash number) (name : String Global) (name_is : string_bytes name ≡ key.now) (own its : PlaceholderLocation) (own_new new : UsesSoFar)
-      (own_at : IsUseAt mode (record { base = key; other = base }) deepest pattern (path_view own.path.items) own.text.now own.range.start own.range.end (record { left = 0; is_other_used = false }) own_new)
-      (its_at : IsUseAt mode (record { base = base; other = key }) deepest pattern (path_view its.path.items) its.text.now its.range.start its.range.end (record { left = number; is_other_used = false }) new) where
+      (own_at : IsUseAt settings (record { base = key; other = base }) deepest pattern (path_view own.path.items) own.text.now own.range.start own.range.end (record { left = 0; is_other_used = false }) own_new)
+      (its_at : IsUseAt settings (record { base = base; other = key }) deepest pattern (path_view its.path.items) its.text.now its.range.start its.range.end (record { left = number; is_other_used = false }) new) where
     abbrev its_use : Type 0
-    its_use = (u : IsUse stored mode.with_alias_only pattern base.now number its) × (new.is_other_used ≡ is_some_use (often_in u.before key.now))
+    its_use = (u : IsUse stored settings.with_alias_only pattern base.now number its) × (new.is_other_used ≡ is_some_use (often_in u.before key.now))
 
-    the_own : IsUse stored mode.with_alias_only pattern key.now 0 own
-    the_own = (found_use mode (record { base = key; other = base }) pattern 0 own_new k.can_key own k.can_base own_at).0
+    the_own : IsUse stored settings.with_alias_only pattern key.now 0 own
+    the_own = (found_use settings (record { base = key; other = base }) pattern 0 own_new k.can_key own k.can_base own_at).0
 
     the_numbered : its_use
-    the_numbered = found_use mode (record { base = base; other = key }) pattern number new k.can_base its k.can_key its_at
+    the_numbered = found_use settings (record { base = base; other = key }) pattern number new k.can_base its k.can_key its_at
 
-    c : IsClash mode.with_alias_only whole key.now base.now number
+    c : IsClash settings.with_alias_only whole key.now base.now number
     c = k.clash
 
-    own_by : IsUse stored mode.with_alias_only pattern key.now 0 own → its_use → IsLast mode.with_alias_only key.now base.now number c.before c.label → new.is_other_used ≡ true
-        → IsClashAt stored mode.with_alias_only pattern (record { key = name; first = own; second = its })
+    own_by : IsUse stored settings.with_alias_only pattern key.now 0 own → its_use → IsLast settings.with_alias_only key.now base.now number c.before c.label → new.is_other_used ≡ true
+        → IsClashAt stored settings.with_alias_only pattern (record { key = name; first = own; second = its })
     own_by o (u, seen) (Own asks none low) is =
-        let (between, order) = use_before stored mode.with_alias_only pattern base.now number its u c.before c.label c.meaning c.after c.cut low in
-        let few : often_in u.before key.now ≡ 0 = omega (arith, none, ap (λ es. often_in es key.now) order, uses_more mode.with_alias_only u.before (Open u.label u.meaning ∷ between) key.now) in
+        let (between, order) = use_before stored settings.with_alias_only pattern base.now number its u c.before c.label c.meaning c.after c.cut low in
+        let few : often_in u.before key.now ≡ 0 = omega (arith, none, ap (λ es. often_in es key.now) order, uses_more settings.with_alias_only u.before (Open u.label u.meaning ∷ between) key.now) in
         absurd (true≢false (sym is ∙ seen ∙ ap is_some_use few))
     own_by o (u, seen) (Numbered asks often some) is =
-        let same = use_is stored mode.with_alias_only pattern base.now number its u c.before c.label c.meaning c.after c.cut c.captures asks often in
-        let (between, order) = use_before stored mode.with_alias_only pattern key.now 0 own o c.before c.label c.meaning c.after c.cut some in
-        clash_at stored mode.with_alias_only pattern (record { key = name; first = own; second = its }) key.now base.now 0 number o u (sym name_is) (sym k.named ∙ sym name_is) between (same ∙ order) (ap (first_fault mode.with_alias_only) same ∙ c.none)
+        let same = use_is stored settings.with_alias_only pattern base.now number its u c.before c.label c.meaning c.after c.cut c.captures asks often in
+        let (between, order) = use_before stored settings.with_alias_only pattern key.now 0 own o c.before c.label c.meaning c.after c.cut some in
+        clash_at stored settings.with_alias_only pattern (record { key = name; first = own; second = its }) key.now base.now 0 number o u (sym name_is) (sym k.named ∙ sym name_is) between (same ∙ order) (ap (first_fault settings.with_alias_only) same ∙ c.none)
 
-    numbered_by : IsUse stored mode.with_alias_only pattern key.now 0 own → its_use → IsLast mode.with_alias_only key.now base.now number c.before c.label → new.is_other_used ≡ false
-        → IsClashAt stored mode.with_alias_only pattern (record { key = name; first = its; second = own })
+    numbered_by : IsUse stored settings.with_alias_only pattern key.now 0 own → its_use → IsLast settings.with_alias_only key.now base.now number c.before c.label → new.is_other_used ≡ false
+        → IsClashAt stored settings.with_alias_only pattern (record { key = name; first = its; second = own })
     numbered_by o (u, seen) (Own asks none low) is =
-        let same = use_is stored mode.with_alias_only pattern key.now 0 own o c.before c.label c.meaning c.after c.cut c.captures asks none in
-        let (between, order) = use_before stored mode.with_alias_only pattern base.now number its u c.before c.label c.meaning c.after c.cut low in
-        clash_at stored mode.with_alias_only pattern (record { key = name; first = its; second = own }) base.now key.now number 0 u o (sym k.named ∙ sym name_is) (sym name_is) between (same ∙ order) (ap (first_fault mode.with_alias_only) same ∙ c.none)
+        let same = use_is stored settings.with_alias_only pattern key.now 0 own o c.before c.label c.meaning c.after c.cut c.captures asks none in
+        let (between, order) = use_before stored settings.with_alias_only pattern base.now number its u c.before c.label c.meaning c.after c.cut low in
+        clash_at stored settings.with_alias_only pattern (record { key = name; first = its; second = own }) base.now key.now number 0 u o (sym k.named ∙ sym name_is) (sym name_is) between (same ∙ order) (ap (first_fault settings.with_alias_only) same ∙ c.none)
     numbered_by o (u, seen) (Numbered asks often some) is =
-        let same = use_is stored mode.with_alias_only pattern base.now number its u c.before c.label c.meaning c.after c.cut c.captures asks often in
+        let same = use_is stored settings.with_alias_only pattern base.now number its u c.before c.label c.meaning c.after c.cut c.captures asks often in
         let many : is_some_use (often_in u.before key.now) ≡ true = some_use (often_in u.before key.now) (omega (arith, some, ap (λ es. often_in es key.now) same)) in
         absurd (true≢false (sym many ∙ sym seen ∙ is))
 
     -- the placeholder with the key as its base key was read before the other one
-    pub own_first : new.is_other_used ≡ true → IsClashAt stored mode.with_alias_only pattern (record { key = name; first = own; second = its })
+    pub own_first : new.is_other_used ≡ true → IsClashAt stored settings.with_alias_only pattern (record { key = name; first = own; second = its })
     own_first = own_by the_own the_numbered c.last
 
     -- or after it
-    pub numbered_first : new.is_other_used ≡ false → IsClashAt stored mode.with_alias_only pattern (record { key = name; first = its; second = own })
+    pub numbered_first : new.is_other_used ≡ false → IsClashAt stored settings.with_alias_only pattern (record { key = name; first = its; second = own })
     numbered_first = numbered_by the_own the_numbered c.last

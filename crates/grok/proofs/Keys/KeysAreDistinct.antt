@@ -14,6 +14,7 @@ use Rattle.grok.specs.Pieces.{is_name_byte, Parts, Piece, Regular, Placeholder, 
 use Rattle.grok.specs.Grammar.{AllPass, ArePieces}
 use Rattle.grok.specs.Tree.{Definitions, no_definitions, with_written, resolved, label_of, items_after, Item, TextItem, FaultItem, PlaceholderItem, items_of, events, inside, deepest, tree, meaning_text, Label, Event, Text, Open, Close, FaultEvent, is_absent, first_structural, reached}
 use Rattle.grok.specs.Keys.{is_capturing, base_key, numbered, key_after, keys_after, keys, capturing, how_often, is_among, first_fault_after, Structural, Clash, ends_in_number, has_numbered_alias, AreDistinct, ClashNeedsNumber, KeysAreDistinct}
+use Rattle.grok.specs.FirstFault.{OtherFaultIsStructural}
 use Rattle.grok.specs.Numeral.{numeral}
 use Rattle.grok.specs.CapturedSoFar.{taken_of}
 use Rattle.grok.proofs.Keys.NumberedKeysEndInNumber.{numbered_ends}
@@ -191,6 +192,31 @@ named_tree stored pattern = named_events (inside (items_of stored) deepest) (nam
 
 pub clash_needs_number : ClashNeedsNumber
 clash_needs_number alias_only stored pattern quiet = no_clash alias_only [] (tree stored pattern) tt (named_tree stored pattern) quiet
+
+-- ---- another fault than a clash
+
+structural_after : (alias_only : Bool) (before : List Label) (taken : List (List ℕ)) (tree : List Event)
+    → ((key : List ℕ) → first_fault_after alias_only before taken tree ≡ Some (Clash key) → ⊥)
+    → first_fault_after alias_only before taken tree ≡ option_map Structural (first_structural tree)
+structural_after alias_only before taken [] h = refl
+structural_after alias_only before taken (Text text ∷ es) h = structural_after alias_only before taken es h
+structural_after alias_only before taken (Close ∷ es) h = structural_after alias_only before taken es h
+structural_after alias_only before taken (FaultEvent fault ∷ es) h = refl
+structural_after alias_only before taken (Open label meaning ∷ es) h =
+    let here = key_after before label in
+    let inside = first_fault_after alias_only (label ∷ before) (here ∷ taken) es in
+    let outside = first_fault_after alias_only before taken es in
+    elim (is_capturing alias_only label) as (λ b. ((key : List ℕ) → cond b (cond (is_among here taken) (Some (Clash here)) inside) outside ≡ Some (Clash key) → ⊥)
+    → cond b (cond (is_among here taken) (Some (Clash here)) inside) outside ≡ option_map Structural (first_structural es)) [
+      | true ↦ λ g. elim (cases_Bool (is_among here taken)) [
+        | inl clash ↦ absurd (g here (ap (λ b. cond b (Some (Clash here)) inside) clash))
+        | inr free ↦ ap (λ b. cond b (Some (Clash here)) inside) free ∙ structural_after alias_only (label ∷ before) (here ∷ taken) es (λ key e. g key (ap (λ b. cond b (Some (Clash here)) inside) free ∙ e))
+      ]
+      | false ↦ λ g. structural_after alias_only before taken es g
+    ] h
+
+pub other_fault_is_structural : OtherFaultIsStructural
+other_fault_is_structural alias_only tree h = structural_after alias_only [] [] tree h
 
 -- ---- keys are distinct
 -- none of the keys is among those that are taken, or those before it in the list

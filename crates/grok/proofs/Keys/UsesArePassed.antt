@@ -4,7 +4,7 @@ use Rattle.grok.specs.Tree.{Label, Meaning, meaning_text, Item, PlaceholderItem,
 use Rattle.grok.specs.Keys.{how_often}
 use Rattle.grok.specs.CountedDefinitions.{opened_events, counted, IsCountOfText}
 use Rattle.grok.specs.UseSteps.{is_some_use, HasPassed, HasPassedEvents, StepsAtUse, StepsAtMeaning}
-use Rattle.grok.specs.declared.expand.counted_definitions.CompileMode.{CompileMode}
+use Rattle.grok.specs.declared.expand.counted_definitions.CompileSettings.{CompileSettings}
 use Rattle.grok.specs.declared.expand.counted_definitions.CountedItems.{CountedItems}
 use Rattle.grok.specs.declared.locate_clash.SoughtKeys.{SoughtKeys}
 use Rattle.grok.specs.declared.locate_clash.UsesSoFar.{UsesSoFar}
@@ -35,7 +35,7 @@ passed_both uses others uses' others' old mid new h g = record {
   seen = g.seen ∙ ap (λ b. b || is_some_use others') h.seen ∙ some_both old.is_other_used others others';
 }
 
-module _ (mode : CompileMode) (keys : SoughtKeys) where
+module _ (settings : CompileSettings) (keys : SoughtKeys) where
   abbrev base : List ℕ
   base = keys.base.now
 
@@ -44,41 +44,41 @@ module _ (mode : CompileMode) (keys : SoughtKeys) where
 
   -- ---- events
 
-  pub passed_nothing : (so_far : UsesSoFar) → HasPassedEvents mode keys [] so_far so_far
+  pub passed_nothing : (so_far : UsesSoFar) → HasPassedEvents settings keys [] so_far so_far
   passed_nothing so_far = passed_none so_far
 
-  pub passed_events : (xs ys : List Event) (old mid new : UsesSoFar) → HasPassedEvents mode keys xs old mid → HasPassedEvents mode keys ys mid new → HasPassedEvents mode keys (xs ++ ys) old new
+  pub passed_events : (xs ys : List Event) (old mid new : UsesSoFar) → HasPassedEvents settings keys xs old mid → HasPassedEvents settings keys ys mid new → HasPassedEvents settings keys (xs ++ ys) old new
   passed_events xs ys old mid new h g =
-      passed_same (how_often (counted mode xs) base + how_often (counted mode ys) base) (how_often (counted mode xs) other + how_often (counted mode ys) other) (how_often (counted mode (xs ++ ys)) base) (how_often (counted mode (xs ++ ys)) other) old new
-      (sym (often_both mode xs ys base)) (sym (often_both mode xs ys other))
-      (passed_both (how_often (counted mode xs) base) (how_often (counted mode xs) other) (how_often (counted mode ys) base) (how_often (counted mode ys) other) old mid new h g)
+      passed_same (how_often (counted settings xs) base + how_often (counted settings ys) base) (how_often (counted settings xs) other + how_often (counted settings ys) other) (how_often (counted settings (xs ++ ys)) base) (how_often (counted settings (xs ++ ys)) other) old new
+      (sym (often_both settings xs ys base)) (sym (often_both settings xs ys other))
+      (passed_both (how_often (counted settings xs) base) (how_often (counted settings xs) other) (how_often (counted settings ys) base) (how_often (counted settings ys) other) old mid new h g)
 
   -- a placeholder, whose open and whose definition were passed over
-  pub passed_placeholder : (levels : ℕ) (label : Label) (meaning : Meaning) (old mid new : UsesSoFar) → HasPassedEvents mode keys (Open label meaning ∷ []) old mid
-      → HasPassedEvents mode keys (opened_events mode levels (meaning_text meaning)) mid new → HasPassedEvents mode keys (events (opened_events mode levels) (PlaceholderItem label meaning ∷ [])) old new
+  pub passed_placeholder : (levels : ℕ) (label : Label) (meaning : Meaning) (old mid new : UsesSoFar) → HasPassedEvents settings keys (Open label meaning ∷ []) old mid
+      → HasPassedEvents settings keys (opened_events settings levels (meaning_text meaning)) mid new → HasPassedEvents settings keys (events (opened_events settings levels) (PlaceholderItem label meaning ∷ [])) old new
   passed_placeholder levels label meaning old mid new h g =
-      subst (λ es. HasPassedEvents mode keys (Open label meaning ∷ es) old new) (sym (append-nil (opened_events mode levels (meaning_text meaning))))
-      (passed_events (Open label meaning ∷ []) (opened_events mode levels (meaning_text meaning)) old mid new h g)
+      subst (λ es. HasPassedEvents settings keys (Open label meaning ∷ es) old new) (sym (append-nil (opened_events settings levels (meaning_text meaning))))
+      (passed_events (Open label meaning ∷ []) (opened_events settings levels (meaning_text meaning)) old mid new h g)
 
   -- a counted definition
-  pub passed_counted : (levels : ℕ) (text : List ℕ) (count : CountedItems) (uses others : ℕ) (old new : UsesSoFar) → (t : IsCountOfText mode text count) → count.height < levels
-      → uses ≡ t.uses base → others ≡ t.uses other → HasPassed uses others old new → HasPassedEvents mode keys (opened_events mode levels text) old new
+  pub passed_counted : (levels : ℕ) (text : List ℕ) (count : CountedItems) (uses others : ℕ) (old new : UsesSoFar) → (t : IsCountOfText settings text count) → count.height < levels
+      → uses ≡ t.uses base → others ≡ t.uses other → HasPassed uses others old new → HasPassedEvents settings keys (opened_events settings levels text) old new
   passed_counted levels text count uses others old new t high one two =
-      passed_same uses others (how_often (counted mode (opened_events mode levels text)) base) (how_often (counted mode (opened_events mode levels text)) other) old new
+      passed_same uses others (how_often (counted settings (opened_events settings levels text)) base) (how_often (counted settings (opened_events settings levels text)) other) old new
       (one ∙ sym (t.often levels high base)) (two ∙ sym (t.often levels high other))
 
   -- ---- one item
 
   -- the step at a placeholder, after its own use was passed over
   pub step_at_placeholder : (levels : ℕ) (item : Item) (label : Label) (meaning : Meaning) (found : UseStep) (old mid new : UsesSoFar) → item ≡ PlaceholderItem label meaning
-      → HasPassedEvents mode keys (Open label meaning ∷ []) old mid → StepsAtMeaning mode keys levels label meaning found mid new → StepsAtUse mode keys levels item found old new
+      → HasPassedEvents settings keys (Open label meaning ∷ []) old mid → StepsAtMeaning settings keys levels label meaning found mid new → StepsAtUse settings keys levels item found old new
   step_at_placeholder levels item label meaning step.Later old mid new is opened later =
-      subst (λ i. HasPassedEvents mode keys (events (opened_events mode levels) (i ∷ [])) old new) (sym is) (passed_placeholder levels label meaning old mid new opened later)
+      subst (λ i. HasPassedEvents settings keys (events (opened_events settings levels) (i ∷ [])) old new) (sym is) (passed_placeholder levels label meaning old mid new opened later)
   step_at_placeholder levels item label meaning step.Here old mid new is opened later = absurd later
   step_at_placeholder levels item label meaning (step.Inside name definition) old mid new is opened (means, named, room, same) = record {
     label = label;
     is = is ∙ ap (PlaceholderItem label) means;
     named = named;
     room = room;
-    passed = subst (λ m. HasPassedEvents mode keys (Open label m ∷ []) old new) means (subst (HasPassedEvents mode keys (Open label meaning ∷ []) old) (sym same) opened);
+    passed = subst (λ m. HasPassedEvents settings keys (Open label m ∷ []) old new) means (subst (HasPassedEvents settings keys (Open label meaning ∷ []) old) (sym same) opened);
   }

@@ -9,7 +9,7 @@ use Rattle.grok.specs.Pieces.{Piece, Parts, Regular, Placeholder, Malformed, pie
 use Rattle.grok.specs.Grammar.{ArePieces, NonePass, HasByteAt, IsOpenAt, IsPlaceholder, ReadsParts, MayDefine, or_empty, written}
 use Rattle.grok.specs.Tiles.{Tile}
 use Rattle.grok.specs.declared.parser.GrokPatternError.{GrokPatternError}
-use Rattle.grok.specs.Joined.{joined, AreWellFormed, AreRegular}
+use Rattle.grok.specs.Joined.{joined_pieces, AreWellFormed, AreRegular}
 use Rattle.grok.proofs.Pieces.PiecesAreUnique.{pieces_are, pieces_are_only, open_from, regular_within, placeholder_within}
 
 -- a range of the text, and the text after it
@@ -20,14 +20,14 @@ range_and_rest T s e l =
     ap (λ k. take m (drop s T) ++ drop k T) (sym same_end) ∙ (ap (λ xs. take m (drop s T) ++ xs) (sym (drop-drop m s T)) ∙ take-append-drop m (drop s T))
 
 -- the texts of the pieces join to the text
-pub joined_clean : (T : List ℕ) (s : ℕ) (items : List Piece) → ArePieces T s items → AreWellFormed items → joined items ≡ drop s T
+pub joined_clean : (T : List ℕ) (s : ℕ) (items : List Piece) → ArePieces T s items → AreWellFormed items → joined_pieces items ≡ drop s T
 joined_clean T s [] h c = sym (ap (λ k. drop k T) h ∙ drop_all (length T) T (omega arith))
 joined_clean T s (Regular a e text ∷ ps) h c =
     let b = regular_within T s e h.1 in
-    ap (λ t. t ++ joined ps) h.2 ∙ (ap (λ xs. slice_range T s e ++ xs) (joined_clean T e ps h.3 c) ∙ range_and_rest T s e (omega arith))
+    ap (λ t. t ++ joined_pieces ps) h.2 ∙ (ap (λ xs. slice_range T s e ++ xs) (joined_clean T e ps h.3 c) ∙ range_and_rest T s e (omega arith))
 joined_clean T s (Placeholder a e text parts ∷ ps) h c =
     let b = placeholder_within T s e parts h.1 in
-    ap (λ t. t ++ joined ps) h.2 ∙ (ap (λ xs. slice_range T s e ++ xs) (joined_clean T e ps h.3 c) ∙ range_and_rest T s e (omega arith))
+    ap (λ t. t ++ joined_pieces ps) h.2 ∙ (ap (λ xs. slice_range T s e ++ xs) (joined_clean T e ps h.3 c) ∙ range_and_rest T s e (omega arith))
 joined_clean T s (Malformed f ∷ ps) h c = absurd c
 
 none_at : (p : ℕ → Bool) (T : List ℕ) (i : ℕ) → NonePass p T → i < length T → p (get_or T i 0) ≡ false
@@ -133,10 +133,10 @@ clean (Regular a e text ∷ ps) h = clean ps h
 clean (Placeholder a e text parts ∷ ps) h = absurd h
 clean (Malformed f ∷ ps) h = absurd h
 
-pub joined_pieces : (T : List ℕ) → AreWellFormed (pieces T) → joined (pieces T) ≡ T
-joined_pieces T c = joined_clean T 0 (pieces T) (pieces_are T) c
+pub pieces_are_joined : (T : List ℕ) → AreWellFormed (pieces T) → joined_pieces (pieces T) ≡ T
+pieces_are_joined T c = joined_clean T 0 (pieces T) (pieces_are T) c
 
-pub regular_pieces : (T : List ℕ) → NonePass is_brace T → AreRegular (pieces T) × (joined (pieces T) ≡ T)
-regular_pieces T n = let h = regular_alone T 0 (pieces T) n (pieces_are T) in (h, joined_pieces T (clean (pieces T) h))
+pub regular_pieces : (T : List ℕ) → NonePass is_brace T → AreRegular (pieces T) × (joined_pieces (pieces T) ≡ T)
+regular_pieces T n = let h = regular_alone T 0 (pieces T) n (pieces_are T) in (h, pieces_are_joined T (clean (pieces T) h))
 
-pub ruleset laws = (tiles, fault_last, joined_pieces, regular_pieces, inline_without_braces, placeholder_alone)
+pub ruleset laws = (tiles, fault_last, pieces_are_joined, regular_pieces, inline_without_braces, placeholder_alone)

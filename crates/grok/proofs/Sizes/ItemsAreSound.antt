@@ -4,7 +4,7 @@ use Rattle.std.specs.Prelude.{not}
 use Rattle.std.specs.Str.{bytes_eq}
 use Rattle.grok.specs.Pieces.{Parts, Piece, Regular, Placeholder, Malformed, pieces, is_brace}
 use Rattle.grok.specs.Grammar.{NonePass, MayDefine, or_empty, ArePieces}
-use Rattle.grok.specs.Joined.{joined, AreRegular}
+use Rattle.grok.specs.Joined.{joined_pieces, AreRegular}
 use Rattle.grok.specs.Tree.{Definitions, no_definitions, with_written, resolved, label_of, is_absent, items_after, items_of, Item}
 use Rattle.grok.proofs.Pieces.PiecesAreUnique.{pieces_are}
 use Rattle.grok.proofs.Pieces.PieceLaws.{regular_pieces}
@@ -28,9 +28,9 @@ bytes_after stored written (Regular a e text ∷ ps) h = bytes_after stored writ
 bytes_after stored written (Placeholder a e text parts ∷ ps) h = absurd h
 bytes_after stored written (Malformed f ∷ ps) h = absurd h
 
-adds_up_after : (stored written : Definitions) (ps : List Piece) → AreRegular ps → bytes_in (items_after stored written ps) ≡ length (joined ps)
+adds_up_after : (stored written : Definitions) (ps : List Piece) → AreRegular ps → bytes_in (items_after stored written ps) ≡ length (joined_pieces ps)
 adds_up_after stored written [] h = refl
-adds_up_after stored written (Regular a e text ∷ ps) h = omega (arith, adds_up_after stored written ps h, length-append text (joined ps))
+adds_up_after stored written (Regular a e text ∷ ps) h = omega (arith, adds_up_after stored written ps h, length-append text (joined_pieces ps))
 adds_up_after stored written (Placeholder a e text parts ∷ ps) h = absurd h
 adds_up_after stored written (Malformed f ∷ ps) h = absurd h
 

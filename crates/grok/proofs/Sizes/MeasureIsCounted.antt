@@ -17,11 +17,11 @@ use Rattle.grok.specs.Tree.{Item, items_of, Event, deepest, tree, first_structur
 use Rattle.grok.specs.NumberedBases.{opens_numbered_from, is_base_in}
 use Rattle.grok.specs.declared.expand.numbered_bases.NumberedBases.{NumberedBases}
 use Rattle.grok.specs.MeasuredOnce.{Reading, items_within, nothing_measured, measure_within}
-use Rattle.grok.specs.Measured.{reached_pieces, reached_texts, counted}
+use Rattle.grok.specs.Measured.{reached_pieces, reached_texts, saturated}
 use Rattle.grok.specs.MeasureCache.{reading_of, progress_view, ShowsState, StopsReading}
 use Rattle.grok.proofs.Sizes.ItemsAreSound.{length-items_of, sound_texts}
 use Rattle.grok.proofs.Texts.EntriesAreTable.{table_of}
-use Rattle.grok.proofs.Sizes.MeasureLoop.{HasSameCounters, stopped_counters}
+use Rattle.grok.proofs.Sizes.MeasureLoopIsReading.{HasSameCounters, stopped_counters}
 use Rattle.grok.proofs.Sizes.ReadIsReached.{ReadsTree, reads_tree, table_weight}
 
 pub shows_nothing : (by_name : BTreeMap (Bor (List ℕ)) Progress) (numbered : NumberedBases) → by_name.entries ≡ [] → ((base : List ℕ) → is_base_in numbered base ≡ false)
@@ -59,23 +59,23 @@ module _ (texts : Texts) (alias_only : Bool) (pattern : List ℕ) where
     counters : HasSameCounters answer.1 given.now
     counters = stopped_counters deepest r frames cache answer given
 
-    pub pieces_most : cache.looks.pieces ≤ counted (reached_pieces texts pattern)
+    pub pieces_most : cache.looks.pieces ≤ saturated (reached_pieces texts pattern)
     pieces_most = omega (arith, given.shows.pieces, counters.looks, theorem.looks, weight_same)
 
-    pub ends_most : cache.looks.ends ≤ counted (reached_texts texts pattern)
+    pub ends_most : cache.looks.ends ≤ saturated (reached_texts texts pattern)
     ends_most = omega (arith, given.shows.ends, counters.ends, theorem.ends)
 
-    pub pieces_all : first_structural whole ≡ None → cache.looks.pieces ≡ counted (reached_pieces texts pattern)
-    pieces_all clean = given.shows.pieces ∙ ap counted (sym counters.looks ∙ theorem.looks_exact clean ∙ weight_same)
+    pub pieces_all : first_structural whole ≡ None → cache.looks.pieces ≡ saturated (reached_pieces texts pattern)
+    pieces_all clean = given.shows.pieces ∙ ap saturated (sym counters.looks ∙ theorem.looks_exact clean ∙ weight_same)
 
-    pub ends_all : first_structural whole ≡ None → cache.looks.ends ≡ counted (reached_texts texts pattern)
-    ends_all clean = given.shows.ends ∙ ap counted (sym counters.ends ∙ theorem.ends_exact clean)
+    pub ends_all : first_structural whole ≡ None → cache.looks.ends ≡ saturated (reached_texts texts pattern)
+    ends_all clean = given.shows.ends ∙ ap saturated (sym counters.ends ∙ theorem.ends_exact clean)
 
-    pub pieces_read : cache.looks.pieces ≡ counted (reading_of texts alias_only pattern).looks
-    pieces_read = given.shows.pieces ∙ ap counted (sym counters.looks)
+    pub pieces_read : cache.looks.pieces ≡ saturated (reading_of texts alias_only pattern).looks
+    pieces_read = given.shows.pieces ∙ ap saturated (sym counters.looks)
 
-    pub ends_read : cache.looks.ends ≡ counted (reading_of texts alias_only pattern).ends
-    ends_read = given.shows.ends ∙ ap counted (sym counters.ends)
+    pub ends_read : cache.looks.ends ≡ saturated (reading_of texts alias_only pattern).ends
+    ends_read = given.shows.ends ∙ ap saturated (sym counters.ends)
 
     pub numbered_is : (base : List ℕ) → is_base_in cache.numbered base ≡ opens_numbered_from base (reached whole)
     numbered_is base = given.shows.numbered base ∙ ap (λ (numbered : List ℕ → Bool). numbered base) (sym counters.numbered) ∙ theorem.numbered base

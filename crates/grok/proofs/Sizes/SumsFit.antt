@@ -6,7 +6,7 @@ use Rattle.grok.specs.Sizes.{Size, length_of}
 use Rattle.grok.specs.Measured.{Sized, TooLong, size_within}
 use Rattle.grok.specs.MeasureCache.{fit, shown}
 use Rattle.grok.specs.declared.measure.partial_size.PartialSize.{PartialSize}
-use Rattle.grok.proofs.Sizes.DigitsOfNumbers.{digits_least}
+use Rattle.grok.proofs.Sizes.DigitsAddUp.{digits_least}
 
 pub fit_some : (n m : ℕ) → Some m ≡ fit n → (m ≡ n) × (n < 2 ^ 64)
 fit_some n m e = go (nat_lt n (2 ^ 64)) refl e

@@ -12,7 +12,7 @@ use Rattle.grok.specs.MeasureCache.{shown, shown_result, measure_view}
 use Rattle.grok.specs.Pieces.{Piece}
 use Rattle.grok.specs.Views.{piece_view}
 use Rattle.grok.specs.Measured.{Measured, Faulty, Sized, TooLong, size_within, fault_or, measured_tree}
-use Rattle.grok.specs.FaultLocations.{StandsAt, end_of, fault_within}
+use Rattle.grok.specs.FaultLocations.{IsPieceAt, end_of, fault_within}
 use Rattle.grok.specs.ByteLocations.{IsOwnEvent, Regular, Opening, Closing, IsEventAt, Here, Inside, IsByteLocation}
 use Rattle.grok.specs.ByteSteps.{IsLater, IsSizedItem, IsSizeOfDefinition, IsWrittenByItem, IsWrittenInside}
 use Rattle.grok.specs.declared.measure.partial_size.PartialSize.{PartialSize}
@@ -150,7 +150,7 @@ own_follows stored levels item own event (Opening _ label meaning) = (inside (it
 own_follows stored levels item own event (Closing n label meaning) =
     ([], ap (λ es. Open label meaning ∷ es) (append-nil (events (inside (items_of stored) n) (items_of stored (meaning_text meaning)) ++ Close ∷ [])))
 
-item_follows : (stored : Definitions) (levels : ℕ) (text : List ℕ) (items : List Item) (from to : ℕ) (item : Item) (own : List Event) (event : Event) → StandsAt stored text items from to item
+item_follows : (stored : Definitions) (levels : ℕ) (text : List ℕ) (items : List Item) (from to : ℕ) (item : Item) (own : List Event) (event : Event) → IsPieceAt stored text items from to item
     → Follows (events (inside (items_of stored) levels) (item ∷ [])) own event
     → Follows (events (inside (items_of stored) levels) (items_of stored text)) (events (inside (items_of stored) levels) items ++ own) event
 item_follows stored levels text items from to item own event stands (after, is) =
@@ -203,7 +203,7 @@ way_starts stored alias_only pattern byte sum shows clean = record {
 module _ (stored : Definitions) (alias_only : Bool) (pattern : List ℕ) (byte : ℕ) (path : List (List ℕ)) (text : List ℕ) where
   -- the byte is written by an item of the text itself
   pub way_ends : (levels : ℕ) (sum : PartialSize) (from to : ℕ) (part : WrittenByte) (items : List Item) (item : Item) (way : IsWayTo stored alias_only pattern byte path levels text sum)
-      → first_structural (tree stored pattern) ≡ None → StandsAt stored text items from to item
+      → first_structural (tree stored pattern) ≡ None → IsPieceAt stored text items from to item
       → IsWrittenByItem stored alias_only levels (way.xs ++ events (inside (items_of stored) levels) items) byte item part
       → IsByteLocation stored alias_only pattern byte path text from to part
   unfolding tree
@@ -228,7 +228,7 @@ module _ (stored : Definitions) (alias_only : Bool) (pattern : List ℕ) (byte :
       }
 
   goes_inside : (n : ℕ) (sum head : PartialSize) (from to : ℕ) (items : List Item) (label : Label) (meaning : Meaning) (way : IsWayTo stored alias_only pattern byte path (suc n) text sum)
-      → StandsAt stored text items from to (PlaceholderItem label meaning)
+      → IsPieceAt stored text items from to (PlaceholderItem label meaning)
       → IsLater alias_only ((way.xs ++ events (inside (items_of stored) (suc n)) items) ++ Open label meaning ∷ []) byte head
       → byte < length (expanded alias_only (((way.xs ++ events (inside (items_of stored) (suc n)) items) ++ Open label meaning ∷ []) ++ events (inside (items_of stored) n) (items_of stored (meaning_text meaning))))
       → IsWayTo stored alias_only pattern byte (path ++ label.name ∷ []) n (meaning_text meaning) head
@@ -258,7 +258,7 @@ module _ (stored : Definitions) (alias_only : Bool) (pattern : List ℕ) (byte :
 
   -- the byte is written by what a placeholder of the text stands for
   pub way_goes_on : (levels : ℕ) (sum head : PartialSize) (from to : ℕ) (items : List Item) (item : Item) (name definition : List ℕ) (way : IsWayTo stored alias_only pattern byte path levels text sum)
-      → StandsAt stored text items from to item
+      → IsPieceAt stored text items from to item
       → IsWrittenInside stored alias_only levels (way.xs ++ events (inside (items_of stored) levels) items) byte item name definition head
       → IsWayTo stored alias_only pattern byte (path ++ name ∷ []) (levels - 1) definition head
   way_goes_on zero sum head from to items item name definition way stands w = let bad : 0 ≡ suc w.below = w.room in absurd (omega arith)
@@ -268,7 +268,7 @@ module _ (stored : Definitions) (alias_only : Bool) (pattern : List ℕ) (byte :
       let below : m ≡ suc m - 1 = omega arith in
       let ends = subst (λ text. byte < length (expanded alias_only (((way.xs ++ events (inside (items_of stored) (suc m)) items) ++ Open w.label w.meaning ∷ []) ++ events (inside (items_of stored) m) (items_of stored text)))) (sym w.means)
       (subst (λ k. byte < length (expanded alias_only (((way.xs ++ events (inside (items_of stored) (suc m)) items) ++ Open w.label w.meaning ∷ []) ++ events (inside (items_of stored) k) (items_of stored definition)))) (sym same) w.ends) in
-      let there = goes_inside m sum head from to items w.label w.meaning way (subst (StandsAt stored text items from to) w.is stands) w.later ends in
+      let there = goes_inside m sum head from to items w.label w.meaning way (subst (IsPieceAt stored text items from to) w.is stands) w.later ends in
       subst (λ k. IsWayTo stored alias_only pattern byte (path ++ name ∷ []) k definition head) below
       (subst (λ text. IsWayTo stored alias_only pattern byte (path ++ name ∷ []) m text head) w.means
       (subst (λ first. IsWayTo stored alias_only pattern byte (path ++ first ∷ []) m (meaning_text w.meaning) head) w.named there))

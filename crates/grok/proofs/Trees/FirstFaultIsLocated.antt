@@ -19,7 +19,7 @@ use Rattle.grok.specs.declared.locate.Wrong.TheVariants as wrong
 use Rattle.grok.specs.declared.locate.FirstWrong.{FirstWrong}
 use Rattle.grok.specs.Items.{fault_view}
 use Rattle.grok.specs.Views.{piece_view}
-use Rattle.grok.specs.FaultLocations.{fault_within, end_of, StandsAt, IsOwnFault, Broken, Deep, IsFaultAt, Here, Inside}
+use Rattle.grok.specs.FaultLocations.{fault_within, end_of, IsPieceAt, IsOwnFault, Broken, Deep, IsFaultAt, Here, Inside}
 use Rattle.grok.specs.FirstWrong.{fault_in, IsResolvedItem, IsFaultInside, IsWrong, IsFirstWrong}
 use Rattle.grok.proofs.Sizes.SizeIsThatOfTree.{first_structural-append, or_else, fits_inside}
 use Rattle.grok.proofs.Sizes.TextsWithoutPlaceholders.{flat_measured, AreSound}
@@ -157,7 +157,7 @@ module _ (stored : Definitions) (pattern : List ℕ) (path : List (List ℕ)) (t
   goes_inside : (n : ℕ) → IsWayDown stored pattern path (suc n) text → (f : IsFirstWrong stored (suc n) text first) → IsFaultInside stored (suc n) f.item name definition → IsWayDown stored pattern (path ++ name ∷ []) n definition
   goes_inside n way f w = record {
     leads = λ rest faulty from to fault at.
-        let stands : StandsAt stored text f.before first.range.start first.range.end (PlaceholderItem w.label (Stored definition)) = subst (StandsAt stored text f.before first.range.start first.range.end) w.is f.stands in
+        let stands : IsPieceAt stored text f.before first.range.start first.range.end (PlaceholderItem w.label (Stored definition)) = subst (IsPieceAt stored text f.before first.range.start first.range.end) w.is f.stands in
         let here : IsFaultAt stored (suc n) text (w.label.name ∷ rest) faulty from to fault =
         Inside n text f.before first.range.start first.range.end w.label definition rest faulty from to fault stands (ap stored w.named ∙ w.stored_is) f.clean at in
         let whole : IsFaultAt stored deepest pattern (path ++ name ∷ rest) faulty from to fault = way.leads (name ∷ rest) faulty from to fault (subst (λ first. IsFaultAt stored (suc n) text (first ∷ rest) faulty from to fault) w.named here) in

@@ -5,7 +5,7 @@ use Rattle.std.specs.Iterator.{YieldsFirstBy}
 use Rattle.grok.specs.Pieces.{Piece, pieces}
 use Rattle.grok.specs.Tree.{Definitions, Item, items_of}
 use Rattle.grok.specs.Views.{piece_view}
-use Rattle.grok.specs.FaultLocations.{end_of, end_of_all, StandsAt}
+use Rattle.grok.specs.FaultLocations.{end_of, end_of_all, IsPieceAt}
 use Rattle.grok.specs.declared.parser.GrokComponent.{GrokComponent}
 use Rattle.grok.proofs.Sizes.TextsWithoutPlaceholders.{AreSound, sound_rest}
 use Rattle.grok.proofs.Sizes.ItemsAreSound.{length-items_of, sound_texts}
@@ -76,7 +76,7 @@ module _ (stored : Definitions) (text : List ℕ) (left : List Piece) (items : L
     unfolding reading_goes_on
     one_more_before = refl
 
-    pub reading_stands : StandsAt stored text r.before begin end item
+    pub reading_stands : IsPieceAt stored text r.before begin end item
     reading_stands = record {
       pieces_before = r.pieces_before;
       piece = next.piece;

@@ -55,7 +55,7 @@ pub trait HasMatcher<'e>: Engine {
     /// Makes a search that finds in each line what the engine finds.
     fn matcher(&'e self, alloc: Global) -> Result<Self::Matcher, AllocError>
         ensures answers { IfOk result
-            (λ matcher. Self.Matcher.finds matcher ≡ Self.answer_to self.now) }
+            (λ matcher. Self.Matcher.finds matcher ≡ Self.finds self.now) }
         ensures count { IfOk result
             (λ matcher. Self.Matcher.group_count matcher ≡ length (Self.group_names self.now)) };
 }

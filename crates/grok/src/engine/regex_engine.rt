@@ -44,7 +44,7 @@ impl Engine for RegexEngine {
 
     ghost group_names = { λ engine. regex_names (engine_regex engine) };
 
-    ghost answer_to = { λ engine. captures_by (engine_regex engine) };
+    ghost finds = { λ engine. captures_by (engine_regex engine) };
 
     ghost may_refuse = { MayRefuse };
 

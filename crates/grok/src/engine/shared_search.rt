@@ -10,15 +10,15 @@ use regex_vm::Declined;
 use std::alloc::Global;
 use std::sync::Mutex;
 
-/// How far the shared search has come.
+/// How many calls there were, and the search from the second call on.
 #[derive(Drop)]
-enum Kept {
+enum Stage {
     /// There was no call yet. A single call is fastest with a matcher of its own.
-    No,
+    Unused,
     /// There was one call, and the next one builds the search.
-    Next,
+    UsedOnce,
     /// The search is built.
-    Yes(Box<OwnSearch>),
+    Built(Box<OwnSearch>),
 }
 
 /// The search that all calls of one pattern share. The second call builds it, and later calls use
@@ -26,14 +26,14 @@ enum Kept {
 /// searches without it.
 #[derive(Drop)]
 pub(crate) struct SharedSearch {
-    kept: Mutex<Kept>,
+    stage: Mutex<Stage>,
 }
 
 impl SharedSearch {
     /// Makes a shared search that no call has used yet.
     pub(crate) fn new() -> SharedSearch {
         SharedSearch {
-            kept: Mutex::new(Kept::No),
+            stage: Mutex::new(Stage::Unused),
         }
     }
 
@@ -53,14 +53,14 @@ impl SharedSearch {
         ensures { IfOk result (λ found. IsMatchIn line.now (captures_by regex.now)
             (length (regex_names regex.now)) (found_texts found)) }
     {
-        match self.kept.try_lock() {
-            Some(mut kept) => kept.captures(alloc, regex, line),
+        match self.stage.try_lock() {
+            Some(mut stage) => stage.captures(alloc, regex, line),
             None => Err(Declined),
         }
     }
 }
 
-impl Kept {
+impl Stage {
     /// Returns what `SharedSearch::captures` returns.
     fn captures<'t>(
         &mut self,
@@ -73,14 +73,14 @@ impl Kept {
             (length (regex_names regex.now)) (found_texts found)) }
     {
         match self {
-            Kept::No => *self = Kept::Next,
-            Kept::Next => {
+            Stage::Unused => *self = Stage::UsedOnce,
+            Stage::UsedOnce => {
                 let mut search = boxed(alloc, regex.as_str())?;
-                let answer = search.captures(alloc, regex, line);
-                *self = Kept::Yes(search);
-                return answer;
+                let found = search.captures(alloc, regex, line);
+                *self = Stage::Built(search);
+                return found;
             }
-            Kept::Yes(search) => return search.captures(alloc, regex, line),
+            Stage::Built(search) => return search.captures(alloc, regex, line),
         }
         Err(Declined)
     }

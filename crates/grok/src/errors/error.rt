@@ -3,9 +3,11 @@ ghost use Rattle.std.specs.Prelude.{◌≡◌, IfOk, Some};
 ghost use Rattle.grok.specs.Errors.{error_value, error_text};
 ghost use Rattle.grok.specs.declared.errors.error.Error.TheVariants.{Memory};
 ghost use Rattle.grok.specs.Items.{fault_view};
-ghost use Rattle.grok.specs.Compiled.{IsFaultError};
+ghost use Rattle.grok.specs.FirstFaultSteps.{tree_fault_view};
+ghost use Rattle.grok.specs.Compiled.{IsFaultError, IsErrorOf, error_of_refusal};
 
-use crate::errors::fault::Fault;
+use crate::engine::Refusal;
+use crate::errors::fault::{Fault, TreeFault};
 use std::alloc::{AllocError, AllocFailed, Global};
 use std::{error, fmt};
 
@@ -42,9 +44,11 @@ impl Error {
                 Error::CompiledPatternIsEmpty(pattern.clone()?)
             }
             Error::DefinitionNotFound(name) => Error::DefinitionNotFound(name.clone()?),
-            Error::RegexCompilationFailed(words) => Error::RegexCompilationFailed(words.clone()?),
-            Error::GenericCompilationFailure(words) => {
-                Error::GenericCompilationFailure(words.clone()?)
+            Error::RegexCompilationFailed(message) => Error::RegexCompilationFailed(
+                message.clone()?,
+            ),
+            Error::GenericCompilationFailure(message) => {
+                Error::GenericCompilationFailure(message.clone()?)
             }
             Error::Memory => Error::Memory,
         })
@@ -68,13 +72,13 @@ impl fmt::Display for Error {
                 f,
                 "The given pattern definition name \"{name}\" could not be found in the definition map"
             ),
-            Error::RegexCompilationFailed(words) => write!(
+            Error::RegexCompilationFailed(message) => write!(
                 f,
-                "The given regex \"{words}\" failed compilation in the underlying engine"
+                "The given regex \"{message}\" failed compilation in the underlying engine"
             ),
-            Error::GenericCompilationFailure(words) => write!(
+            Error::GenericCompilationFailure(message) => write!(
                 f,
-                "Something unexpected happened during the compilation phase: \"{words}\""
+                "Something unexpected happened during the compilation phase: \"{message}\""
             ),
             Error::Memory => write!(f, "Out of memory"),
         }
@@ -115,5 +119,39 @@ impl Fault<'_> {
             Fault::Missing(name) => Error::DefinitionNotFound(String::from_str(alloc, name)?),
             Fault::TooDeep => Error::RecursionTooDeep,
         })
+    }
+}
+
+impl TreeFault<'_> {
+    /// Returns the error that compiling returns for this fault.
+    pub(crate) fn to_error(&self, alloc: Global) -> Result<Error, AllocError>
+        ensures { IfOk result (λ error. IsErrorOf (tree_fault_view self.now) (error_value error)) }
+    {
+        match self {
+            TreeFault::Structural(fault) => fault.to_error(alloc),
+            TreeFault::Clash(key) => Ok(Error::GenericCompilationFailure(format!(in alloc;
+                "Alias {key} already exists"
+            )?)),
+        }
+    }
+}
+
+/// Returns the error for a text that the engine refused.
+pub(crate) fn refused(alloc: Global, text: &str) -> Result<Error, AllocError>
+    ensures { IfOk result (λ error. error_value error
+        ≡ error_of_refusal Refusal.Refused text.now) }
+{
+    Ok(Error::RegexCompilationFailed(format!(in alloc; "Regex compilation failed:\n{text}")?))
+}
+
+impl Refusal {
+    /// Returns the error that compiling returns if the engine refuses `text` for this reason.
+    pub(crate) fn to_error(self, alloc: Global, text: &str) -> Result<Error, AllocError>
+        ensures { IfOk result (λ error. error_value error ≡ error_of_refusal self text.now) }
+    {
+        match self {
+            Refusal::Memory => Ok(Error::Memory),
+            Refusal::Refused => refused(alloc, text),
+        }
     }
 }

@@ -33,13 +33,13 @@ pub(crate) struct CountedItems<'a> {
 /// What all steps of a compilation share: the definitions, whether only placeholders with an alias
 /// capture, and, in `numbered`, each base key `x` for which an alias such as `x[1]` is reached.
 #[derive(Clone, Copy)]
-pub(crate) struct CompileMode<'a, 'f> {
+pub(crate) struct CompileSettings<'a, 'f> {
     pub grok: &'a Grok,
     pub with_alias_only: bool,
     pub numbered: &'f NumberedBases<'a>,
 }
 
-impl<'a> CompileMode<'a, '_> {
+impl<'a> CompileSettings<'a, '_> {
     /// Returns whether the placeholder with this label captures and has a base key that can take
     /// part in a clash. Only then is its use of the base key counted.
     pub fn is_counted(self, label: Label<'a>) -> bool
@@ -81,14 +81,18 @@ impl<'a> CountedItems<'a> {
     }
 
     /// Counts that the placeholder with this label uses its base key, if `is_counted` holds for it.
-    fn add_open(&mut self, mode: CompileMode<'a, '_>, label: Label<'a>) -> Result<(), AllocError>
+    fn add_open(
+        &mut self,
+        settings: CompileSettings<'a, '_>,
+        label: Label<'a>,
+    ) -> Result<(), AllocError>
         ensures height { OnOk result (self.new.height ≡ self.old.height) }
         ensures counts { OnOk result ((uses : List ℕ → ℕ) → CountsUses self.old.uses uses →
-            CountsUses self.new.uses (λ key. (if is_counted mode.entry (label_view label.entry)
+            CountsUses self.new.uses (λ key. (if is_counted settings.entry (label_view label.entry)
             then (if bytes_eq (base_key_of (label_view label.entry)) key then 1 else 0) else 0)
             + uses key)) }
     {
-        if mode.is_counted(label) {
+        if settings.is_counted(label) {
             self.uses.add(base_key(label))?;
         }
         Ok(())
@@ -119,13 +123,13 @@ impl<'a> CountedItems<'a> {
     /// would be used more than `usize::MAX` times.
     fn add_placeholder(
         &mut self,
-        mode: CompileMode<'a, '_>,
+        settings: CompileSettings<'a, '_>,
         label: Label<'a>,
         inner: &CountedItems<'a>,
     ) -> Result<bool, AllocError>
         ensures { IfOk result (λ added. (meaning : tree.Meaning) (items : List tree.Item)
-            → IsCountOfText mode.entry (tree.meaning_text meaning) inner.now
-            → IsCountOfItems mode.entry items self.old → IsCountOfItems mode.entry
+            → IsCountOfText settings.entry (tree.meaning_text meaning) inner.now
+            → IsCountOfItems settings.entry items self.old → IsCountOfItems settings.entry
             (with_item added items (tree.PlaceholderItem (label_view label.entry) meaning)) self.new) }
     {
         let key = base_key(label);
@@ -136,7 +140,7 @@ impl<'a> CountedItems<'a> {
         if !self.add_opened(inner)? {
             return Ok(false);
         }
-        self.add_open(mode, label)?;
+        self.add_open(settings, label)?;
         Ok(true)
     }
 }
@@ -145,8 +149,8 @@ impl<'a> CountedDefinitions<'a> {
     /// Returns the counted part of the definition of a name, if there is one.
     pub fn of_name(&self, name: &'a str) -> Option<&CountedPart<'a>>
         ensures kept { option_copied result ≡ counted_part_of self.now.by_name name.now }
-        ensures part { IfSome result (λ part. (mode : CompileMode) → AreCounted mode self.now → (text : List ℕ)
-            → finite.get mode.grok.now name.now ≡ Some text → IsCountedPartOf mode text part.now) }
+        ensures part { IfSome result (λ part. (settings : CompileSettings) → AreCounted settings self.now → (text : List ℕ)
+            → finite.get settings.grok.now name.now ≡ Some text → IsCountedPartOf settings text part.now) }
     {
         self.by_name.get(&name)
     }
@@ -155,26 +159,26 @@ impl<'a> CountedDefinitions<'a> {
     /// adds nothing if it isn't known that the item has no fault.
     fn count_item(
         &self,
-        mode: CompileMode<'a, '_>,
+        settings: CompileSettings<'a, '_>,
         item: Item<'a>,
         counted: &mut CountedItems<'a>,
     ) -> Result<bool, AllocError>
-        requires { AreCounted mode self.now }
-        ensures { IfOk result (λ known. IsSoundItem mode.entry (item_view item.entry)
-            → (items : List tree.Item) → IsCountOfItems mode.entry items counted.old →
-            IsCountOfItems mode.entry (with_item known items (item_view item.entry)) counted.new) }
+        requires { AreCounted settings self.now }
+        ensures { IfOk result (λ known. IsSoundItem settings.entry (item_view item.entry)
+            → (items : List tree.Item) → IsCountOfItems settings.entry items counted.old →
+            IsCountOfItems settings.entry (with_item known items (item_view item.entry)) counted.new) }
     {
         match item {
             Item::Text(_) => Ok(true),
             Item::Fault(_) => Ok(false),
             Item::Placeholder(label, meaning) => match meaning {
                 Meaning::Inline(_) => {
-                    let nothing = CountedItems::new(mode.grok.alloc());
-                    counted.add_placeholder(mode, label, &nothing)
+                    let nothing = CountedItems::new(settings.grok.alloc());
+                    counted.add_placeholder(settings, label, &nothing)
                 }
                 Meaning::Stored(_) => match self.of_name(label.name) {
                     Some(part) if part.uncounted.is_none() => {
-                        counted.add_placeholder(mode, label, &part.counted)
+                        counted.add_placeholder(settings, label, &part.counted)
                     }
                     _ => Ok(false),
                 },
@@ -186,15 +190,15 @@ impl<'a> CountedDefinitions<'a> {
     /// if it reads more than `usize::MAX` items.
     fn count_text(
         &self,
-        mode: CompileMode<'a, '_>,
+        settings: CompileSettings<'a, '_>,
         stored: &'a Definition,
     ) -> Result<Option<CountedPart<'a>>, AllocError>
-        requires { AreCounted mode self.now }
+        requires { AreCounted settings self.now }
         ensures { IfOk result (λ counted. IfSome counted
-            (λ part. IsCountedPartOf mode.entry stored.now part)) }
+            (λ part. IsCountedPartOf settings.entry stored.now part)) }
     {
-        let alloc = mode.grok.alloc();
-        let mut items = Items::of_stored(alloc, mode.grok, stored);
+        let alloc = settings.grok.alloc();
+        let mut items = Items::of_stored(alloc, settings.grok, stored);
         let mut part = CountedPart {
             counted: CountedItems::new(alloc),
             uncounted: None,
@@ -205,7 +209,7 @@ impl<'a> CountedDefinitions<'a> {
                 return Ok(None);
             };
             part.read = read;
-            if !self.count_item(mode, item, &mut part.counted)? {
+            if !self.count_item(settings, item, &mut part.counted)? {
                 part.uncounted = Some(item);
                 return Ok(Some(part));
             }
@@ -215,14 +219,18 @@ impl<'a> CountedDefinitions<'a> {
 
     /// Counts the definition of a name, if it has one, and keeps what was counted under that name.
     /// Keeps nothing if the definition has more than `usize::MAX` items.
-    fn add_name(&mut self, mode: CompileMode<'a, '_>, name: &'a str) -> Result<(), AllocError>
-        requires { AreCounted mode self.old }
-        ensures { OnOk result (AreCounted mode.entry self.new) }
+    fn add_name(
+        &mut self,
+        settings: CompileSettings<'a, '_>,
+        name: &'a str,
+    ) -> Result<(), AllocError>
+        requires { AreCounted settings self.old }
+        ensures { OnOk result (AreCounted settings.entry self.new) }
     {
-        let Some(stored) = mode.grok.definition(name) else {
+        let Some(stored) = settings.grok.definition(name) else {
             return Ok(());
         };
-        if let Some(part) = self.count_text(mode, stored)? {
+        if let Some(part) = self.count_text(settings, stored)? {
             self.by_name.insert(name, part)?;
         }
         Ok(())
@@ -232,16 +240,16 @@ impl<'a> CountedDefinitions<'a> {
     /// uses. Otherwise its definition is counted only up to the first placeholder whose name wasn't
     /// counted before.
     pub fn of_names(
-        mode: CompileMode<'a, '_>,
+        settings: CompileSettings<'a, '_>,
         names: &[(usize, &'a str)],
     ) -> Result<CountedDefinitions<'a>, AllocError>
-        ensures { IfOk result (λ definitions. AreCounted mode.entry definitions) }
+        ensures { IfOk result (λ definitions. AreCounted settings.entry definitions) }
     {
         let mut definitions = CountedDefinitions {
-            by_name: BTreeMap::new(mode.grok.alloc()),
+            by_name: BTreeMap::new(settings.grok.alloc()),
         };
         'names: for &(_, name) in names {
-            definitions.add_name(mode, name)?;
+            definitions.add_name(settings, name)?;
         }
         Ok(definitions)
     }

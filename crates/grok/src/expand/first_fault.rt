@@ -15,7 +15,7 @@ use crate::defs::deferred_items::DeferredItems;
 use crate::defs::items::{Item, Items, Label, Meaning};
 use crate::errors::fault::{Fault, LEVELS, TreeFault};
 use crate::expand::counted_definitions::{
-    CompileMode, CountedDefinitions, CountedItems, CountedPart,
+    CompileSettings, CountedDefinitions, CountedItems, CountedPart,
 };
 use crate::expand::key_assigner::{base_key, numbered_key};
 use crate::expand::key_uses::KeyUses;
@@ -40,14 +40,14 @@ enum ItemStep<'a> {
 ///
 /// If an allocation fails, or if a base key is used more than `usize::MAX` times.
 fn count_use<'a>(
-    mode: CompileMode<'a, '_>,
+    settings: CompileSettings<'a, '_>,
     total: &mut KeyUses<'a>,
     label: Label<'a>,
 ) -> Result<Option<String>, AllocError>
     ensures { IfOk result (λ clash. (before : List tree.Label) → IsCountOf total.old before →
         CountsUse before (label_view label.entry) total.new clash) }
 {
-    let alloc = mode.grok.alloc();
+    let alloc = settings.grok.alloc();
     let base = base_key(label);
     let mut own = KeyUses::new(alloc);
     own.add(base)?;
@@ -71,9 +71,9 @@ fn skip_counted<'a>(
     counted: &CountedItems<'a>,
     levels: usize,
 ) -> Result<bool, AllocError>
-    ensures { IfOk result (λ passed. (mode : CompileMode) (items : List tree.Item)
-        → IsCountOfItems mode items counted.now → (before : List tree.Label) → IsCountOf total.old before →
-        SkipsCounted mode items levels before total.old total.new passed) }
+    ensures { IfOk result (λ passed. (settings : CompileSettings) (items : List tree.Item)
+        → IsCountOfItems settings items counted.now → (before : List tree.Label) → IsCountOf total.old before →
+        SkipsCounted settings items levels before total.old total.new passed) }
 {
     if counted.height >= levels {
         return Ok(false);
@@ -94,9 +94,9 @@ fn open_after_counted<'a>(
     levels: usize,
 ) -> Result<ItemStep<'a>, AllocError>
     requires { 0 < levels }
-    ensures step { IfOk result (λ step. (mode : CompileMode) (text : List ℕ) → IsCountedPartOf mode text part.now
-        → items.entry ≡ resolve mode text → (before : List tree.Label) → IsCountOf total.old before →
-        StepsAtText mode levels text before total.new step) }
+    ensures step { IfOk result (λ step. (settings : CompileSettings) (text : List ℕ) → IsCountedPartOf settings text part.now
+        → items.entry ≡ resolve settings text → (before : List tree.Label) → IsCountOf total.old before →
+        StepsAtText settings levels text before total.new step) }
     ensures number { IfOk result (λ step. ReportsCountable step) }
 {
     if !skip_counted(total, &part.counted, levels)? {
@@ -114,31 +114,31 @@ fn open_after_counted<'a>(
 /// Returns whether the search skips the definition of a placeholder, enters it, or reports that it
 /// is nested too deeply. The placeholder and what it uses may be nested up to `levels` levels deep.
 fn open_placeholder<'a>(
-    mode: CompileMode<'a, '_>,
+    settings: CompileSettings<'a, '_>,
     definitions: &CountedDefinitions<'a>,
     total: &mut KeyUses<'a>,
     label: Label<'a>,
     meaning: Meaning<'a>,
     levels: usize,
 ) -> Result<ItemStep<'a>, AllocError>
-    requires { AreCounted mode definitions.now }
-    ensures step { IfOk result (λ step. IsSoundItem mode.entry (tree.PlaceholderItem
+    requires { AreCounted settings definitions.now }
+    ensures step { IfOk result (λ step. IsSoundItem settings.entry (tree.PlaceholderItem
         (label_view label.entry) (meaning_view meaning.entry)) → (before : List tree.Label) →
-        IsCountOf total.old before → StepsAtText mode.entry levels
+        IsCountOf total.old before → StepsAtText settings.entry levels
         (tree.meaning_text (meaning_view meaning.entry)) before total.new step) }
     ensures number { IfOk result (λ step. ReportsCountable step) }
 {
-    let alloc = mode.grok.alloc();
+    let alloc = settings.grok.alloc();
     if levels == 0 {
         return Ok(ItemStep::Report(TreeFault::Structural(Fault::TooDeep)));
     }
     match meaning {
         Meaning::Inline(text) => {
-            let items = Items::of_text(alloc, mode.grok, text);
+            let items = Items::of_text(alloc, settings.grok, text);
             Ok(ItemStep::Enter(DeferredItems::of_items(items)))
         }
         Meaning::Stored(stored) => {
-            let items = Items::of_stored(alloc, mode.grok, stored);
+            let items = Items::of_stored(alloc, settings.grok, stored);
             match definitions.of_name(label.name) {
                 Some(part) => open_after_counted(total, part, items, levels),
                 None => Ok(ItemStep::Enter(DeferredItems::of_items(items))),
@@ -150,16 +150,16 @@ fn open_placeholder<'a>(
 /// Reads an item, whose placeholders may be nested up to `levels` levels deep. Returns whether the
 /// search skips the item, enters its definition, or reports its fault.
 fn read_item<'a>(
-    mode: CompileMode<'a, '_>,
+    settings: CompileSettings<'a, '_>,
     definitions: &CountedDefinitions<'a>,
     total: &mut KeyUses<'a>,
     item: Item<'a>,
     levels: usize,
 ) -> Result<ItemStep<'a>, AllocError>
-    requires { AreCounted mode definitions.now }
-    ensures step { IfOk result (λ step. IsSoundItem mode.entry (item_view item.entry) →
+    requires { AreCounted settings definitions.now }
+    ensures step { IfOk result (λ step. IsSoundItem settings.entry (item_view item.entry) →
         (before : List tree.Label) → IsCountOf total.old before →
-        StepsAtItem mode.entry levels (item_view item.entry) before total.new step) }
+        StepsAtItem settings.entry levels (item_view item.entry) before total.new step) }
     ensures number { IfOk result (λ step. (before : List tree.Label) → IsCountOf total.old before →
         ReportsCountable step) }
 {
@@ -167,12 +167,12 @@ fn read_item<'a>(
         Item::Text(_) => Ok(ItemStep::Skip),
         Item::Fault(fault) => Ok(ItemStep::Report(TreeFault::Structural(fault))),
         Item::Placeholder(label, meaning) => {
-            if mode.is_counted(label) {
-                if let Some(key) = count_use(mode, total, label)? {
+            if settings.is_counted(label) {
+                if let Some(key) = count_use(settings, total, label)? {
                     return Ok(ItemStep::Report(TreeFault::Clash(key)));
                 }
             }
-            open_placeholder(mode, definitions, total, label, meaning, levels)
+            open_placeholder(settings, definitions, total, label, meaning, levels)
         }
     }
 }
@@ -180,25 +180,25 @@ fn read_item<'a>(
 /// Returns the first fault of a pattern in reading order, a structural fault or a clash, if it has
 /// one.
 pub(crate) fn find_first_fault<'a>(
-    mode: CompileMode<'a, '_>,
+    settings: CompileSettings<'a, '_>,
     definitions: &CountedDefinitions<'a>,
     pattern: &'a str,
 ) -> Result<Option<TreeFault<'a>>, AllocError>
-    requires counted { AreCounted mode definitions.now }
-    requires known { (base : List ℕ) → is_base_in mode.numbered.now base ≡ opens_numbered_from base
-        (reached (tree_of (finite.get mode.grok.now) pattern.now)) }
+    requires counted { AreCounted settings definitions.now }
+    requires known { (base : List ℕ) → is_base_in settings.numbered.now base ≡ opens_numbered_from base
+        (reached (tree_of (finite.get settings.grok.now) pattern.now)) }
     ensures fault { IfOk result (λ found. option_map tree_fault_view found ≡ first_fault
-        mode.entry.with_alias_only (tree_of (finite.get mode.entry.grok.now) pattern.now)) }
+        settings.entry.with_alias_only (tree_of (finite.get settings.entry.grok.now) pattern.now)) }
     ensures number { IfOk result (λ found. IfSome found (λ tree_fault. IsCountableFault tree_fault)) }
 {
-    let alloc = mode.grok.alloc();
+    let alloc = settings.grok.alloc();
     let mut total = KeyUses::new(alloc);
     let mut around = Vec::new(alloc);
-    let mut items = DeferredItems::of_items(Items::of_text(alloc, mode.grok, pattern));
+    let mut items = DeferredItems::of_items(Items::of_text(alloc, settings.grok, pattern));
     'items: loop {
         match items.next()? {
             Some(item) => match read_item(
-                mode,
+                settings,
                 definitions,
                 &mut total,
                 item,

@@ -2,7 +2,7 @@
 //! laws are its contract, and that is proved.
 ghost use Rattle.std.specs.Prelude.{◌≡◌, ℕ, ◌++◌, List, [], ◌∷◌, length};
 ghost use Rattle.grok.specs.Grammar.{NonePass};
-ghost use Rattle.grok.specs.Joined.{joined, AreWellFormed, AreRegular};
+ghost use Rattle.grok.specs.Joined.{joined_pieces, AreWellFormed, AreRegular};
 ghost use Rattle.grok.specs.Pieces.{Piece, Parts, Placeholder, Malformed, pieces, is_brace};
 ghost use Rattle.grok.specs.Tiles.{Tile};
 
@@ -20,9 +20,9 @@ pub fn pieces()
     ensures tile { (text : List ℕ) → Tile text 0 (pieces text) }
     ensures last { (text : List ℕ) (before after : List Piece) (fault : GrokPatternError)
         → pieces text ≡ before ++ Malformed fault ∷ after → after ≡ [] }
-    ensures join { (text : List ℕ) → AreWellFormed (pieces text) → joined (pieces text) ≡ text }
+    ensures join { (text : List ℕ) → AreWellFormed (pieces text) → joined_pieces (pieces text) ≡ text }
     ensures regular { (text : List ℕ) → NonePass is_brace text → AreRegular (pieces text)
-        × (joined (pieces text) ≡ text) }
+        × (joined_pieces (pieces text) ≡ text) }
     ensures inline { (text : List ℕ) (before after : List Piece) (from to : ℕ) (pattern : List ℕ)
         (parts : Parts) →
         pieces text ≡ before ++ Placeholder from to pattern parts ∷ after

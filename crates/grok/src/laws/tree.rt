@@ -4,7 +4,7 @@ ghost use Rattle.grok.specs.TreeLaws.{OwnDefinitionHolds, EarlierDefinitionHolds
 
 /// An inline definition holds from its placeholder to the next one that defines the same name, or
 /// to the end of its text. It holds in no other text.
-#[tactic(auto, using(crate::proofs::Trees::FaultsOfTrees::tree_laws))]
+#[tactic(auto, using(crate::proofs::Trees::TreeLawsHold::tree_laws))]
 pub fn laws_of_definitions()
     ensures own { OwnDefinitionHolds }
     ensures earlier { EarlierDefinitionHolds }
@@ -13,7 +13,7 @@ pub fn laws_of_definitions()
 
 /// A fault in a definition that isn't reached is never reported. Both modes have the same first
 /// structural fault, and the same text except for the heads of its groups.
-#[tactic(auto, using(crate::proofs::Trees::FaultsOfTrees::tree_laws))]
+#[tactic(auto, using(crate::proofs::Trees::TreeLawsHold::tree_laws))]
 pub fn laws_of_faults()
     ensures unused { UnusedDefinitionsDoNotMatter }
     ensures modes { ModesFaultAlike }

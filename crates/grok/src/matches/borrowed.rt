@@ -6,7 +6,7 @@ ghost use Rattle.std.specs.Cmp.Lexicographic.{slice_cmp};
 ghost use Rattle.std.specs.Ordering.{nat_cmp};
 ghost use Rattle.grok.specs.Captures.{text_of};
 ghost use Rattle.grok.specs.Debugs.{debug_pairs};
-ghost use Rattle.grok.specs.Answers.{answer_of, walk};
+ghost use Rattle.grok.specs.Answers.{value_of, walk};
 
 use crate::key_table::KeyTable;
 use crate::matches::groups::{GroupTexts, Located};
@@ -36,7 +36,7 @@ impl<'m> MatchesRef<'m> {
     /// Returns the text that the group of a key captured, or `None` if there is no such key or that
     /// group took no part in the match.
     pub fn get(&self, name: &str) -> Option<&'m str>
-        ensures { option_map text_of result ≡ answer_of (borrowed_keys self.now)
+        ensures { option_map text_of result ≡ value_of (borrowed_keys self.now)
             (borrowed_captures self.now) name.now }
     {
         let keys = self.keys;

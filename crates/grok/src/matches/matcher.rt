@@ -61,7 +61,7 @@ impl<'p, E: HasMatcher<'p>> MatcherOf<'p, E> {
     ) -> Result<Option<MatchesOf<'a, E>>, AllocError>
     where
         'p: 'a,
-        ensures captures { IfOk result (λ found. IsMatchIn text.now (E.answer_to self.old.engine)
+        ensures captures { IfOk result (λ found. IsMatchIn text.now (E.finds self.old.engine)
             (length (E.group_names self.old.engine))
             (option_map (λ matches. matches.captures) found)) }
         ensures pattern { IfOk result
@@ -83,7 +83,7 @@ impl<'p, E: HasMatcher<'p>> MatcherOf<'p, E> {
     pub fn find<'m>(&'m mut self, text: &'m str) -> Result<Option<MatchesRef<'m>>, AllocError>
     where
         'p: 'm,
-        ensures captures { IfOk result (λ found. IsMatchIn text.now (E.answer_to self.old.engine)
+        ensures captures { IfOk result (λ found. IsMatchIn text.now (E.finds self.old.engine)
             (length (E.group_names self.old.engine)) (option_map borrowed_captures found)) }
         ensures keys { IfOk result
             (λ found. IfSome found (λ matches. borrowed_keys matches ≡ self.old.keys)) }

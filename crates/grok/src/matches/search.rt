@@ -17,7 +17,7 @@ pub(crate) struct KeptSearch<'p, E: HasMatcher<'p>> {
     pub(crate) pattern: &'p PatternOf<E>,
     pub(crate) matcher: E::Matcher,
     locations: Vec<Option<(usize, usize)>>,
-    ghost answers: { E.Matcher.finds matcher ≡ E.answer_to pattern.now.engine },
+    ghost answers: { E.Matcher.finds matcher ≡ E.finds pattern.now.engine },
     ghost count: { E.Matcher.group_count matcher ≡ length (E.group_names pattern.now.engine) },
 }
 
@@ -51,7 +51,7 @@ impl<'p, E: HasMatcher<'p>> KeptSearch<'p, E> {
     pub(crate) fn read(&mut self, line: &str) -> Result<bool, AllocError>
         ensures answer { IfOk result (λ is_match. (if is_match
             then Some (located_texts line.now self.new.locations.items) else None)
-            ≡ E.answer_to self.old.pattern.now.engine line.now) }
+            ≡ E.finds self.old.pattern.now.engine line.now) }
         ensures all_groups { IfOk result (λ is_match. IsTrue is_match
             → vec_len self.new.locations ≡ length (E.group_names self.old.pattern.now.engine)) }
         ensures inside { IfOk result (λ is_match. IsTrue is_match
@@ -73,7 +73,7 @@ impl<'p, E: HasMatcher<'p>> KeptSearch<'p, E> {
         line: &'t str,
     ) -> Result<Option<Vec<Option<&'t str>>>, AllocError>
         ensures captures { IfOk result (λ found. IsMatchIn line.now
-            (E.answer_to self.old.pattern.now.engine)
+            (E.finds self.old.pattern.now.engine)
             (length (E.group_names self.old.pattern.now.engine)) (found_texts found)) }
         ensures pattern { self.new.pattern.now ≡ self.old.pattern.now }
     {

@@ -10,8 +10,8 @@ use crate::errors::fault::LEVELS;
 use crate::expand::numbered_bases::NumberedBases;
 use crate::measure::cache::Progress;
 use crate::measure::measurer::Measurer;
-use crate::measure::mode::MeasureMode;
 use crate::measure::partial_size::measure_of_result;
+use crate::measure::settings::MeasureSettings;
 use crate::measure::{Looks, Measure};
 use std::alloc::{AllocError, Global};
 use std::collections::BTreeMap;
@@ -65,7 +65,7 @@ impl Grok {
         ensures numbered { IfOk result (λ found. (base : List ℕ) → is_base_in found.numbered base
             ≡ opens_numbered_from base (reached (tree_of self.now pattern.now))) }
     {
-        let mut measurer = Measurer::new(MeasureMode {
+        let mut measurer = Measurer::new(MeasureSettings {
             grok: self,
             alloc: self.alloc(),
             with_alias_only,

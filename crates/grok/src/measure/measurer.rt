@@ -5,7 +5,7 @@ ghost use Rattle.std.specs.FinMap as finite;
 ghost use Rattle.grok.specs.Tree.{first_structural, inside, items_of};
 ghost use Rattle.grok.specs.Sizes.{sizes, size_or_fault};
 ghost use Rattle.grok.specs.MeasuredOnce.{State, items_within, nothing_measured};
-ghost use Rattle.grok.specs.Measured.{tree_of, measured_tree, counted};
+ghost use Rattle.grok.specs.Measured.{tree_of, measured_tree, saturated};
 ghost use Rattle.grok.specs.MeasureCache.{items_in, shown_result, result_view, measure_view, ShowsState, unwound, AreLow, StopsReading, IsIdle, HasCorrectCache};
 ghost use Rattle.grok.specs.Items.{fault_view, item_view, label_view};
 ghost use Rattle.grok.specs.Keys.{is_capturing};
@@ -14,11 +14,11 @@ use crate::defs::definition::Definition;
 use crate::defs::items::{Item, Items, Label};
 use crate::errors::fault::{Fault, LEVELS};
 use crate::measure::cache::{MeasureCache, Progress, progress_of_failure};
-use crate::measure::mode::MeasureMode;
 use crate::measure::partial_size::{
     Failure, PartialSize, add, bracketed, fault_after, fault_of, measure_of_result, size_of_text,
 };
 use crate::measure::placeholders::{PlaceholderSize, measure_placeholder};
+use crate::measure::settings::MeasureSettings;
 use crate::measure::{Looks, Measure};
 use std::alloc::AllocError;
 
@@ -39,7 +39,7 @@ pub(crate) struct Frame<'a> {
 /// was nested too deeply before and more levels are left now.
 #[derive(Drop)]
 pub(crate) struct Measurer<'a> {
-    mode: MeasureMode<'a>,
+    settings: MeasureSettings<'a>,
     pub(super) cache: MeasureCache<'a>,
     /// The texts that wait, the innermost last. The list is empty between two calls.
     frames: Vec<Frame<'a>>,
@@ -53,10 +53,10 @@ fn next_counted<'a>(
 ) -> Result<Option<Item<'a>>, AllocError>
     ensures { IfOk result (λ found. MatchOption found
         ((items.old ≡ [])
-        × (looks.new ≡ record { pieces = looks.old.pieces; ends = counted (looks.old.ends + 1) }))
+        × (looks.new ≡ record { pieces = looks.old.pieces; ends = saturated (looks.old.ends + 1) }))
         (λ item. (items.old ≡ item_view item ∷ items.new)
         × (looks.new ≡ record {
-          pieces = counted
+          pieces = saturated
               (looks.old.pieces + 1);
           ends = looks.old.ends;
         }))) }
@@ -71,30 +71,30 @@ fn next_counted<'a>(
 
 impl<'a> Measurer<'a> {
     /// Makes a measurer that remembers no definition.
-    pub fn new(mode: MeasureMode<'a>) -> Measurer<'a>
-        ensures mode { result.mode ≡ mode.entry }
+    pub fn new(settings: MeasureSettings<'a>) -> Measurer<'a>
+        ensures settings { result.settings ≡ settings.entry }
         ensures nothing { ShowsState result.cache nothing_measured }
         ensures idle { IsIdle result }
     {
         Measurer {
-            mode,
-            cache: MeasureCache::new(mode.alloc),
-            frames: Vec::new(mode.alloc),
+            settings,
+            cache: MeasureCache::new(settings.alloc),
+            frames: Vec::new(settings.alloc),
         }
     }
 
     /// Returns whether a placeholder captures.
     pub fn is_capturing(&self, label: Label<'a>) -> bool
-        ensures { result ≡ is_capturing self.now.mode.with_alias_only (label_view label.entry) }
+        ensures { result ≡ is_capturing self.now.settings.with_alias_only (label_view label.entry) }
     {
-        label.is_capturing(self.mode.with_alias_only)
+        label.is_capturing(self.settings.with_alias_only)
     }
 
     /// Returns the items of a text, resolved by the library of the measurer.
     pub fn items_of(&self, text: &'a str) -> Items<'a>
-        ensures { result ≡ items_of (finite.get self.now.mode.grok.now) text.now }
+        ensures { result ≡ items_of (finite.get self.now.settings.grok.now) text.now }
     {
-        Items::of_text(self.mode.alloc, self.mode.grok, text)
+        Items::of_text(self.settings.alloc, self.settings.grok, text)
     }
 
     /// Measures a text with `levels` levels left: returns its size, or its first fault. If it uses
@@ -112,17 +112,17 @@ impl<'a> Measurer<'a> {
         requires few { levels < 2 ^ 31 }
         requires idle { IsIdle self.old }
         ensures stops { IfOk result (λ r. (st : State) → ShowsState self.old.cache st →
-            StopsReading levels r self.new.frames.items self.new.cache (items_within self.old.mode.with_alias_only
-            (items_in self.old.mode.grok.now) levels
-            (items_in self.old.mode.grok.now text.now) st)) }
+            StopsReading levels r self.new.frames.items self.new.cache (items_within self.old.settings.with_alias_only
+            (items_in self.old.settings.grok.now) levels
+            (items_in self.old.settings.grok.now text.now) st)) }
         ensures ended { IfOk result (λ r. IfOk r (λ sum. self.new.frames.items ≡ [])) }
         ensures reach { IfOk result (λ r. IfErr r (λ failure. failure.height ≤ levels + 1)) }
         ensures low { IfOk result (λ r. AreLow levels self.new.frames.items) }
         ensures few { IfOk result (λ r. length self.new.frames.items ≤ levels) }
-        ensures mode { IfOk result (λ r. self.new.mode ≡ self.old.mode) }
+        ensures settings { IfOk result (λ r. self.new.settings ≡ self.old.settings) }
     {
-        let mode = self.mode;
-        let mut items = Items::of_text(mode.alloc, mode.grok, text);
+        let settings = self.settings;
+        let mut items = Items::of_text(settings.alloc, settings.grok, text);
         let mut sum = size_of_text("");
         'items: loop {
             match next_counted(&mut items, &mut self.cache.looks)? {
@@ -132,7 +132,13 @@ impl<'a> Measurer<'a> {
                 }
                 Some(Item::Placeholder(label, meaning)) => {
                     let levels_left = levels - self.frames.len();
-                    match measure_placeholder(mode, &mut self.cache, label, meaning, levels_left)? {
+                    match measure_placeholder(
+                        settings,
+                        &mut self.cache,
+                        label,
+                        meaning,
+                        levels_left,
+                    )? {
                         PlaceholderSize::Measured(Ok(one)) => sum = add(sum, one),
                         PlaceholderSize::Measured(Err(failure)) => return Ok(Err(fault_after(
                             sum, failure,
@@ -140,11 +146,11 @@ impl<'a> Measurer<'a> {
                         PlaceholderSize::Unread(stored) => {
                             self.frames.push(Frame {
                                 name: label.name,
-                                is_capturing: label.is_capturing(mode.with_alias_only),
+                                is_capturing: label.is_capturing(settings.with_alias_only),
                                 items,
                                 sum,
                             })?;
-                            items = Items::of_stored(mode.alloc, mode.grok, stored);
+                            items = Items::of_stored(settings.alloc, settings.grok, stored);
                             sum = size_of_text("");
                         }
                     }
@@ -172,7 +178,7 @@ impl<'a> Measurer<'a> {
             ≡ failure.entry.height →
             ShowsState self.new.cache (unwound levels self.old.frames.items (fault_view failure.entry.fault) st)) }
         ensures idle { OnOk result (IsIdle self.new) }
-        ensures mode { OnOk result (self.new.mode ≡ self.old.mode) }
+        ensures settings { OnOk result (self.new.settings ≡ self.old.settings) }
     {
         'frames: while let Some(frame) = self.frames.pop() {
             let progress = progress_of_failure(failure, levels - self.frames.len());
@@ -192,14 +198,14 @@ impl<'a> Measurer<'a> {
         requires few { levels < 2 ^ 31 }
         requires idle { IsIdle self.old }
         ensures size { IfOk result (λ r. HasCorrectCache self.old →
-            result_view r ≡ shown_result (sizes self.old.mode.with_alias_only
-            (size_or_fault self.old.mode.with_alias_only (items_in self.old.mode.grok.now) levels)
-            (items_in self.old.mode.grok.now text.now))) }
+            result_view r ≡ shown_result (sizes self.old.settings.with_alias_only
+            (size_or_fault self.old.settings.with_alias_only (items_in self.old.settings.grok.now) levels)
+            (items_in self.old.settings.grok.now text.now))) }
         ensures cache { IfOk result
             (λ r. HasCorrectCache self.old →
             HasCorrectCache self.new) }
         ensures idle { IfOk result (λ r. IsIdle self.new) }
-        ensures mode { IfOk result (λ r. self.new.mode ≡ self.old.mode) }
+        ensures settings { IfOk result (λ r. self.new.settings ≡ self.old.settings) }
     {
         let answer = self.measure_text(text, levels)?;
         match answer {
@@ -220,13 +226,13 @@ impl<'a> Measurer<'a> {
         requires { IsIdle self.old }
         ensures answer { IfOk result
             (λ measure. HasCorrectCache self.old →
-            measure_view measure ≡ measured_tree self.old.mode.with_alias_only
-            (tree_of self.old.mode.grok.now pattern.now)) }
+            measure_view measure ≡ measured_tree self.old.settings.with_alias_only
+            (tree_of self.old.settings.grok.now pattern.now)) }
         ensures cache { IfOk result
             (λ measure. HasCorrectCache self.old →
             HasCorrectCache self.new) }
         ensures idle { IfOk result (λ measure. IsIdle self.new) }
-        ensures mode { IfOk result (λ measure. self.new.mode ≡ self.old.mode) }
+        ensures settings { IfOk result (λ measure. self.new.settings ≡ self.old.settings) }
     {
         let answer = self.measure_within(pattern, LEVELS)?;
         Ok(measure_of_result(answer))
@@ -249,14 +255,14 @@ impl<'a> Measurer<'a> {
         requires idle { IsIdle self.old }
         ensures size { IfOk result (λ r.
             HasCorrectCache self.old →
-            finite.get self.old.mode.grok.now name.now ≡ Some stored.now →
-            result_view r ≡ shown_result (size_or_fault self.old.mode.with_alias_only
-            (items_in self.old.mode.grok.now) levels stored.now)) }
+            finite.get self.old.settings.grok.now name.now ≡ Some stored.now →
+            result_view r ≡ shown_result (size_or_fault self.old.settings.with_alias_only
+            (items_in self.old.settings.grok.now) levels stored.now)) }
         ensures cache { IfOk result
             (λ r. HasCorrectCache self.old →
             HasCorrectCache self.new) }
         ensures idle { IfOk result (λ r. IsIdle self.new) }
-        ensures mode { IfOk result (λ r. self.new.mode ≡ self.old.mode) }
+        ensures settings { IfOk result (λ r. self.new.settings ≡ self.old.settings) }
     {
         if let Some(known) = self.cache.known(name, levels) {
             return Ok(known);
@@ -281,14 +287,14 @@ impl<'a> Measurer<'a> {
         requires idle { IsIdle self.old }
         ensures fault { IfOk result (λ fault.
             HasCorrectCache self.old →
-            finite.get self.old.mode.grok.now name.now ≡ Some stored.now →
+            finite.get self.old.settings.grok.now name.now ≡ Some stored.now →
             option_map fault_view fault ≡ first_structural
-            (inside (items_in self.old.mode.grok.now) levels stored.now)) }
+            (inside (items_in self.old.settings.grok.now) levels stored.now)) }
         ensures cache { IfOk result
             (λ fault. HasCorrectCache self.old →
             HasCorrectCache self.new) }
         ensures idle { IfOk result (λ fault. IsIdle self.new) }
-        ensures mode { IfOk result (λ fault. self.new.mode ≡ self.old.mode) }
+        ensures settings { IfOk result (λ fault. self.new.settings ≡ self.old.settings) }
     {
         let answer = self.size_of_definition(name, stored, levels)?;
         Ok(fault_of(answer))

@@ -3,14 +3,14 @@ ghost use Rattle.std.specs.Prelude.{◌≡◌, ℕ, ◌+◌, ◌<◌, ◌≤◌,
 ghost use Rattle.grok.specs.Tree.{Fault as ItemFault, PlaceholderItem};
 ghost use Rattle.grok.specs.Sizes.{Size, wrapped};
 ghost use Rattle.grok.specs.MeasuredOnce.{State, inlined, item_within, stored_within, deeper};
-ghost use Rattle.grok.specs.MeasureCache.{items_in, shown_result, result_view, ShowsState, ReturnsReading, HasReach, ReturnsSize, HasBegun, MustBeMeasured, MatchPlaceholderSize, IfMeasured};
+ghost use Rattle.grok.specs.MeasureCache.{items_in, shown_result, result_view, ShowsState, ReturnsReading, HasReach, ReturnsSize, BeginsMeasuring, MustBeMeasured, MatchPlaceholderSize, IfMeasured};
 ghost use Rattle.grok.specs.Items.{label_view, meaning_view};
 
 use crate::defs::definition::Definition;
 use crate::defs::items::{Label, Meaning};
 use crate::measure::cache::{MeasureCache, Progress};
-use crate::measure::mode::MeasureMode;
 use crate::measure::partial_size::{Failure, PartialSize, bracketed, size_of_text, too_deep};
+use crate::measure::settings::MeasureSettings;
 use std::alloc::AllocError;
 
 /// One placeholder: its size or fault is known, or its definition has to be measured first.
@@ -37,7 +37,7 @@ fn measure_inline<'a>(text: &'a str, levels: usize) -> Result<PartialSize, Failu
 
 /// Returns the size or fault of a placeholder whose definition has the size or fault `inner`.
 fn size_of_placeholder<'a>(
-    mode: MeasureMode<'a>,
+    settings: MeasureSettings<'a>,
     label: Label<'a>,
     inner: Result<PartialSize, Failure<'a>>,
 ) -> Result<PartialSize, Failure<'a>>
@@ -45,14 +45,14 @@ fn size_of_placeholder<'a>(
     requires reach { IfErr inner (λ failure. failure.height < 2 ^ 32) }
     ensures reading { (st : State) (r : Result Size ItemFault) → result_view inner.entry
         ≡ shown_result r → HasReach inner.entry st →
-        ReturnsSize result (wrapped mode.entry.with_alias_only (label_view label.entry) r) (deeper st) }
+        ReturnsSize result (wrapped settings.entry.with_alias_only (label_view label.entry) r) (deeper st) }
     ensures low { (most : ℕ) → IfOk inner.entry (λ sum. sum.height < most) →
         IfOk result (λ sum. sum.height ≤ most) }
     ensures reach { (most : ℕ) → IfErr inner.entry (λ failure. failure.height ≤ most) →
         IfErr result (λ failure. failure.height ≤ most + 1) }
 {
     match inner {
-        Ok(sum) => Ok(bracketed(label.is_capturing(mode.with_alias_only), sum)),
+        Ok(sum) => Ok(bracketed(label.is_capturing(settings.with_alias_only), sum)),
         Err(failure) => Err(Failure {
             fault: failure.fault,
             height: failure.height + 1,
@@ -63,7 +63,7 @@ fn size_of_placeholder<'a>(
 /// Measures a placeholder that stands for a stored definition. `levels` levels are left, its own
 /// among them.
 fn measure_stored<'a>(
-    mode: MeasureMode<'a>,
+    settings: MeasureSettings<'a>,
     cache: &mut MeasureCache<'a>,
     label: Label<'a>,
     stored: &'a Definition,
@@ -72,10 +72,10 @@ fn measure_stored<'a>(
     requires { levels < 2 ^ 31 }
     ensures reading { IfOk result (λ size. MatchPlaceholderSize size
         (λ r. (st : State) → ShowsState cache.old st → ReturnsReading r cache.new
-        (stored_within mode.entry.with_alias_only (items_in mode.entry.grok.now) levels
+        (stored_within settings.entry.with_alias_only (items_in settings.entry.grok.now) levels
         (label_view label.entry) stored.now st))
         (λ text. (text ≡ stored.now) × (0 < levels)
-        × HasBegun label.entry.name.now levels cache.old cache.new)) }
+        × BeginsMeasuring label.entry.name.now levels cache.old cache.new)) }
     ensures by_name { IfOk result (λ size. IfMeasured size (λ r. cache.new.by_name ≡ cache.old.by_name)) }
     ensures low { IfOk result
         (λ size. IfMeasured size (λ r. IfOk r (λ sum. sum.height ≤ levels))) }
@@ -83,10 +83,10 @@ fn measure_stored<'a>(
         (λ size. IfMeasured size (λ r. IfErr r (λ failure. failure.height ≤ levels + 1))) }
 {
     if levels == 0 {
-        return Ok(PlaceholderSize::Measured(size_of_placeholder(mode, label, Err(too_deep()))));
+        return Ok(PlaceholderSize::Measured(size_of_placeholder(settings, label, Err(too_deep()))));
     }
     if let Some(known) = cache.known(label.name, levels) {
-        return Ok(PlaceholderSize::Measured(size_of_placeholder(mode, label, known)));
+        return Ok(PlaceholderSize::Measured(size_of_placeholder(settings, label, known)));
     }
     cache.set_progress(label.name, Progress::InProgress)?;
     Ok(PlaceholderSize::Unread(stored))
@@ -99,7 +99,7 @@ fn measure_stored<'a>(
 ///
 /// If an allocation fails.
 pub(super) fn measure_placeholder<'a>(
-    mode: MeasureMode<'a>,
+    settings: MeasureSettings<'a>,
     cache: &mut MeasureCache<'a>,
     label: Label<'a>,
     meaning: Meaning<'a>,
@@ -108,7 +108,7 @@ pub(super) fn measure_placeholder<'a>(
     requires { levels < 2 ^ 31 }
     ensures reading { IfOk result (λ size. MatchPlaceholderSize size
         (λ r. (st : State) → ShowsState cache.old st → ReturnsReading r cache.new
-        (item_within mode.entry.with_alias_only (items_in mode.entry.grok.now) levels
+        (item_within settings.entry.with_alias_only (items_in settings.entry.grok.now) levels
         (PlaceholderItem (label_view label.entry) (meaning_view meaning.entry)) st))
         (λ text. MustBeMeasured levels label.entry (meaning_view meaning.entry) text cache.old cache.new)) }
     ensures by_name { IfOk result (λ size. IfMeasured size (λ r. cache.new.by_name ≡ cache.old.by_name)) }
@@ -121,10 +121,10 @@ pub(super) fn measure_placeholder<'a>(
     match meaning {
         Meaning::Inline(text) => {
             let inner = measure_inline(text, levels);
-            Ok(PlaceholderSize::Measured(size_of_placeholder(mode, label, inner)))
+            Ok(PlaceholderSize::Measured(size_of_placeholder(settings, label, inner)))
         }
         Meaning::Stored(stored) => {
-            let size = measure_stored(mode, cache, label, stored, levels)?;
+            let size = measure_stored(settings, cache, label, stored, levels)?;
             Ok(size)
         }
     }

@@ -2,14 +2,14 @@ use Rattle.std.proofs.Common.{◌≡◌, ◌⊎◌, inl, inr, ℕ, List, Option,
 use Rattle.std.specs.FinMap as finite
 use Rattle.std.specs.Io.KnownBytes.{Keeps}
 use Rattle.grok.specs.Pieces.{pieces}
-use Rattle.grok_commands.specs.Answers.{HasAnswered, HasBegun}
+use Rattle.grok_commands.specs.Answers.{HasAnswered, HasAnsweredFirst}
 use Rattle.grok_commands.specs.Commands.{CommandValue, Split, Check, texts, command_of}
 use Rattle.grok_commands.specs.Library.{library_of}
 use Rattle.grok_commands.specs.Runs.{Answer, Job, Each, PieceLine, CheckLine, IsAnswer, HasJob, IsDone, IsCutShort, IsWriteFault, EndsAs, IsRunOf}
 use Rattle.grok_commands.specs.declared.fault.ToolFault.{ToolFault}
 use Rattle.grok_commands.specs.declared.fault.ToolFault.TheVariants as fault
 use Rattle.grok_lines.specs.Traffic.{traffic}
-use Rattle.grok_commands.proofs.Answering.{answered_mapped, begun_mapped}
+use Rattle.grok_commands.proofs.FirstAnswersHaveGoneOut.{answered_mapped, begun_mapped}
 use Rattle.grok_commands.proofs.run.Goals as goal
 
 -- what nobody touched stays as it was
@@ -22,7 +22,7 @@ each_ended : {A : Type 0} (answer : A → Answer) (xs : List A) (r w v : Option 
     → ((Is : Job → Type 0) → Is (Each (map answer xs)) → HasJob command Is)
     → (result : Result (Unit {0}) ToolFault)
     → OnOk result (HasAnswered (λ x. IsAnswer (answer x)) xs w v)
-    → (IsErrOf result fault.Memory → HasBegun (λ x. IsAnswer (answer x)) xs w v)
+    → (IsErrOf result fault.Memory → HasAnsweredFirst (λ x. IsAnswer (answer x)) xs w v)
     → IfErr result (λ f. (f ≡ fault.Memory) ⊎ (f ≡ fault.Write))
     → EndsAs command result (traffic r r w v)
 each_ended answer xs r w v command has (Ok _) ok memory kind =

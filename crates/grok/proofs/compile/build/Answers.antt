@@ -1,5 +1,5 @@
 use Rattle.std.proofs.Common.{Err, ap}
-use Rattle.grok.proofs.Trees.CompileResults.{unbuilt}
+use Rattle.grok.proofs.Trees.StepsCompile.{unbuilt}
 use Rattle.grok.proofs.compile.build.Goals as goal
 
 pub returns-in-Err : goal.returns-in-Err

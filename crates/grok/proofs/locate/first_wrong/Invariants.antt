@@ -7,9 +7,9 @@ use Rattle.grok.proofs.locate.first_wrong.Given as goal
 abbrev pub invariant-items : goal.invariant-items
 invariant-items l = record {
   idle : IsIdle l.measurer;
-  mode : l.measurer.mode ≡ l.fn.measurer.mode;
+  settings : l.measurer.settings ≡ l.fn.measurer.settings;
   known : HasCorrectCache l.fn.measurer → HasCorrectCache l.measurer;
-  locating : HasCorrectCache l.fn.measurer → IsLocating (finite.get l.fn.measurer.mode.grok.now) l.levels l.text l.pieces l.items l.begin;
+  locating : HasCorrectCache l.fn.measurer → IsLocating (finite.get l.fn.measurer.settings.grok.now) l.levels l.text l.pieces l.items l.begin;
 }
 
 abbrev pub decreases-items : goal.decreases-items

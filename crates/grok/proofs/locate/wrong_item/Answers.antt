@@ -21,7 +21,7 @@ returns-then-levels-eq0-clause-wrong c true_before sound =
 
 pub returns-in-Inline-clause-wrong : goal.returns-in-Inline-clause-wrong
 returns-in-Inline-clause-wrong c true_before sound =
-    let stored = finite.get c.args.measurer.now.mode.grok.now in
+    let stored = finite.get c.args.measurer.now.settings.grok.now in
     let some : 0 < c.args.levels = omega arith in
     let label = label_view c.in-Placeholder.label in
     let text = c.in-Inline.field-0.now in
@@ -31,7 +31,7 @@ returns-in-Inline-clause-wrong c true_before sound =
 
 pub returns-in-None-clause-wrong : goal.returns-in-None-clause-wrong
 returns-in-None-clause-wrong c true_before sound =
-    let stored = finite.get c.args.measurer.now.mode.grok.now in
+    let stored = finite.get c.args.measurer.now.settings.grok.now in
     let label = label_view c.in-Placeholder.label in
     let text = c.in-Stored.stored.now in
     let whole : item_view c.args.item ≡ PlaceholderItem label (Stored text) =

@@ -5,8 +5,8 @@ use Rattle.grok.proofs.locate_clash.find_use.Given as goal
 
 abbrev pub invariant-items : goal.invariant-items
 invariant-items l = record {
-  searching : IsSearching l.mode l.keys l.pattern l.fn.so_far l.path.items l.around.items l.inner l.so_far;
+  searching : IsSearching l.settings l.keys l.pattern l.fn.so_far l.path.items l.around.items l.inner l.so_far;
 }
 
 abbrev pub decreases-items : goal.decreases-items
-decreases-items l = length (left_of l.mode (items_left l.around.items) l.inner.items)
+decreases-items l = length (left_of l.settings (items_left l.around.items) l.inner.items)

@@ -5,8 +5,8 @@ use Rattle.std.proofs.lemmas.List.{drop_more, drop_all}
 use Rattle.grok_commands.specs.Commands.{texts}
 use Rattle.grok_commands.specs.Library.{library_of}
 use Rattle.grok_commands.specs.SizeTexts.{placeholder_of, IsCheckLine}
-use Rattle.grok_commands.proofs.Answering.{answered_start, answered_step, answered_whole}
-use Rattle.grok_commands.proofs.Measures.{as_many, line_at}
+use Rattle.grok_commands.proofs.FirstAnswersHaveGoneOut.{answered_start, answered_step, answered_whole}
+use Rattle.grok_commands.proofs.LinesHaveTheirMeasures.{as_many, line_at}
 use Rattle.grok.specs.Measured.{tree_of, measured_tree}
 use Rattle.grok.specs.MeasureCache.{measure_view}
 use Rattle.grok_commands.proofs.check.hold_definitions.Goals as goal

@@ -3,7 +3,7 @@ use Rattle.std.specs.FinMap as finite
 use Rattle.std.specs.Io.KnownBytes.{append_known}
 use Rattle.grok_commands.specs.Commands.{texts}
 use Rattle.grok_commands.specs.Library.{library_of}
-use Rattle.grok_commands.proofs.Answering.{Answered}
+use Rattle.grok_commands.proofs.FirstAnswersHaveGoneOut.{Answered}
 use Rattle.grok_commands.specs.SizeTexts.{IsCheckLine}
 use Rattle.grok_commands.proofs.check.hold_definitions.Given as goal
 

@@ -1,4 +1,4 @@
-use Rattle.grok_commands.proofs.Equals.{is_cut}
+use Rattle.grok_commands.proofs.WordsAreCutAtEquals.{is_cut}
 use Rattle.grok_commands.proofs.definitions.cut.Goals as goal
 
 pub unwrap-requires : goal.unwrap-requires

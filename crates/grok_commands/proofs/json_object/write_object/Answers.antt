@@ -2,7 +2,7 @@ use Rattle.std.proofs.Common.{◌≡◌, rules}
 use Rattle.grok.specs.Answers.{walk}
 use Rattle.grok.specs.BorrowedMatches.{borrowed_keys, borrowed_captures}
 use Rattle.grok_commands.specs.JsonObjects.{object_text, ReadsBack}
-use Rattle.grok_commands.proofs.Objects.{text_of_sent, reads_back}
+use Rattle.grok_commands.proofs.ObjectsReadBack.{text_of_sent, reads_back}
 use Rattle.grok_commands.proofs.json_object.write_object.Goals as goal
 
 pub returns-in-Ok-clause-object : goal.returns-in-Ok-clause-object

@@ -3,7 +3,7 @@ use Rattle.std.specs.Io.KnownBytes.{Appends, append_known}
 use Rattle.grok.specs.Pieces.{pieces}
 use Rattle.grok.specs.Views.{piece_view}
 use Rattle.grok_commands.specs.Split.{IsPieceLine}
-use Rattle.grok_commands.proofs.Answering.{answered_step}
+use Rattle.grok_commands.proofs.FirstAnswersHaveGoneOut.{answered_step}
 use Rattle.grok_commands.proofs.split.hold_pieces.Goals as goal
 
 pub pieces-preserved : goal.pieces-preserved

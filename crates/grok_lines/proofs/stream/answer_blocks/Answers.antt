@@ -1,8 +1,8 @@
 use Rattle.std.proofs.Common.{◌<◌, length, take, sym, ◌∙◌, arith}
 use Rattle.std.proofs.lemmas.Result.{err_from_is_err_and}
 use Rattle.std.specs.Io.KnownBytes.{append_known}
-use Rattle.grok_lines.proofs.Held.{held_more, held_same, held_sent}
-use Rattle.grok_lines.proofs.Steps.{streamed_end, streamed_last, streamed_sent, streamed_some, streamed_step, streamed_still, consumes_zero, nothing_yet}
+use Rattle.grok_lines.proofs.HeldBytesAreKept.{held_more, held_same, held_sent}
+use Rattle.grok_lines.proofs.AnswersHaveGoneOut.{streamed_end, streamed_last, streamed_sent, streamed_some, streamed_step, streamed_still, consumes_zero, nothing_yet}
 use Rattle.grok_lines.proofs.stream.answer_blocks.Goals.{in-Some+in_ok-feed-in-Some, in-None}
 use Rattle.grok_lines.proofs.stream.answer_blocks.Goals as goal
 

@@ -1,7 +1,7 @@
 use Rattle.std.proofs.Common.{◌<◌, length}
 use Rattle.std.specs.Io.KnownBytes.{append_known}
 use Rattle.grok_lines.specs.Traffic.{traffic}
-use Rattle.grok_lines.proofs.Steps.{Streamed}
+use Rattle.grok_lines.proofs.AnswersHaveGoneOut.{Streamed}
 use Rattle.grok_lines.proofs.stream.answer_blocks.Given as goal
 
 abbrev pub invariant-reads : goal.invariant-reads

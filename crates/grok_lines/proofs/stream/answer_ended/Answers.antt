@@ -4,11 +4,11 @@ use Rattle.std.specs.Result.{result_ok}
 use Rattle.simdutf8.specs.declared.basic.Utf8Error.{Utf8Error}
 use Rattle.std.specs.Str.{IsUtf8, IsCharBoundary}
 use Rattle.std.proofs.lemmas.Str.{IsCharBoundary-start, IsCharBoundary-before_ascii, IsCharBoundary-after_ascii}
-use Rattle.grok_lines.proofs.LineFeeds.{next_line, no_line}
-use Rattle.grok_lines.proofs.Appending.{appends_still}
-use Rattle.grok_lines.proofs.Held.{held_more}
+use Rattle.grok_lines.proofs.LineFeedsEndLines.{next_line, no_line}
+use Rattle.grok_lines.proofs.AppendsAddUp.{appends_still}
+use Rattle.grok_lines.proofs.HeldBytesAreKept.{held_more}
 use Rattle.grok_lines.specs.Streams.{AreAnswersAfter}
-use Rattle.grok_lines.proofs.Steps.{fed_start, fed_step, fed_end, fed_end_next}
+use Rattle.grok_lines.proofs.AnswersHaveGoneOut.{fed_start, fed_step, fed_end, fed_end_next}
 use Rattle.grok_lines.proofs.stream.answer_ended.Goals.{in-Some-utf8+in_ok-answer_str-in-Some-utf8, in-None-utf8+in_ok-answer_line-in-None-utf8}
 use Rattle.grok_lines.proofs.stream.answer_ended.Goals as goal
 

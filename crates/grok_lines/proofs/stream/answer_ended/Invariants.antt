@@ -2,7 +2,7 @@ use Rattle.std.proofs.Common.{◌≡◌, ◌≤◌, IfSome, drop, length}
 use Rattle.std.specs.Str.{IsUtf8, IsCharBoundary}
 use Rattle.memchr.specs.Find.{is_byte, places_between}
 use Rattle.std.specs.Io.KnownBytes.{append_known}
-use Rattle.grok_lines.proofs.Steps.{Fed}
+use Rattle.grok_lines.proofs.AnswersHaveGoneOut.{Fed}
 use Rattle.grok_lines.proofs.stream.answer_ended.Given as goal
 
 abbrev pub invariant-lines : goal.invariant-lines

@@ -1,11 +1,11 @@
 use Rattle.std.proofs.Common.{◌++◌, sym, ◌∙◌}
 use Rattle.std.proofs.lemmas.Result.{err_from_is_err_and}
 use Rattle.std.specs.Io.KnownBytes.{append_known}
-use Rattle.grok_lines.proofs.Held.{held_more}
+use Rattle.grok_lines.proofs.HeldBytesAreKept.{held_more}
 use Rattle.grok_lines.specs.Lines.{IsLine, ended_lines_of}
-use Rattle.grok_lines.proofs.LineLemmas.{line-append}
+use Rattle.grok_lines.proofs.LinesOfTwoParts.{line-append}
 use Rattle.grok_lines.proofs.LineLaws.{no_line_holds_a_line_feed}
-use Rattle.grok_lines.proofs.Steps.{fed_start, fed_first, fed_end, fed_end_next, fed_whole, fed_whole_next, fed_begun, begun_whole}
+use Rattle.grok_lines.proofs.AnswersHaveGoneOut.{fed_start, fed_first, fed_end, fed_end_next, fed_whole, fed_whole_next, fed_begun, begun_whole}
 use Rattle.grok_lines.proofs.stream.feed.Goals as goal
 
 pub returns-in_default-clause-ok : goal.returns-in_default-clause-ok

@@ -1,4 +1,4 @@
-use Rattle.grok_lines.proofs.Cuts.{line_cut}
+use Rattle.grok_lines.proofs.LineEndsAtLineFeed.{line_cut}
 use Rattle.grok_lines.proofs.stream.first_line.Goals as goal
 
 pub returns-in-Some : goal.returns-in-Some

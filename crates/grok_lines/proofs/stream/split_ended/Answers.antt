@@ -1,4 +1,4 @@
-use Rattle.grok_lines.proofs.LineFeeds.{no_feed, last_feed}
+use Rattle.grok_lines.proofs.LineFeedsEndLines.{no_feed, last_feed}
 use Rattle.grok_lines.proofs.stream.split_ended.Goals as goal
 
 pub returns-in-None-clause-ended : goal.returns-in-None-clause-ended

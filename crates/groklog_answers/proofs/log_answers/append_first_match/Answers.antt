@@ -5,7 +5,7 @@ use Rattle.groklog_answers.specs.Layouts.{layout_value}
 use Rattle.groklog_answers.specs.Patterns.{first_match}
 use Rattle.groklog_answers.specs.LogAnswers.{answer_by}
 use Rattle.groklog_answers.specs.Views.{searched}
-use Rattle.groklog_answers.proofs.FirstMatches.{found_at, left_after}
+use Rattle.groklog_answers.proofs.FirstMatchIsOfFirstPattern.{found_at, left_after}
 use Rattle.groklog_answers.proofs.log_answers.append_first_match.Goals as goal
 
 pub returns-in_err-append_answer-clause-same : goal.returns-in_err-append_answer-clause-same

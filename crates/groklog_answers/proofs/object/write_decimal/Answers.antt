@@ -1,7 +1,7 @@
 use Rattle.std.proofs.Common.{◌≡◌, ◌++◌, [], ◌∷◌, sym, ap, ◌∙◌, arith}
 use Rattle.std.proofs.lemmas.Result.{on_ok_weaker}
 use Rattle.json.specs.Token.{Token}
-use Rattle.groklog_answers.proofs.Numerals.{numeral_is_decimal}
+use Rattle.groklog_answers.proofs.NumeralsAreJson.{numeral_is_decimal}
 use Rattle.groklog_answers.proofs.object.write_decimal.Goals as goal
 
 pub returns-clause-value : goal.returns-clause-value

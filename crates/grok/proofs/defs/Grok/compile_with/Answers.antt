@@ -1,5 +1,5 @@
 use Rattle.grok.specs.Compiled.{expansion_of}
-use Rattle.grok.proofs.Trees.CompileResults.{unexpanded_answer, built_answer}
+use Rattle.grok.proofs.Trees.StepsCompile.{unexpanded_answer, built_answer}
 use Rattle.grok.proofs.defs.Grok.compile_with.Goals as goal
 
 pub returns-in_err-text : goal.returns-in_err-text

@@ -8,7 +8,7 @@ use Rattle.grok.specs.Errors.{error_value, CompiledPatternIsEmpty}
 use Rattle.grok.specs.Compiled.{expansion_of, IsCompileError, Empty, First, NoMemory}
 use Rattle.grok.specs.Expansions.{NeverRefuses}
 use Rattle.grok.specs.MeasureCache.{measure_view}
-use Rattle.grok.proofs.Trees.CompileResults.{expansion_without_memory, faulty_is, structural_error, sized_is, sized_fits, some_bytes, no_bytes}
+use Rattle.grok.proofs.Trees.StepsCompile.{expansion_without_memory, faulty_is, structural_error, sized_is, sized_fits, some_bytes, no_bytes}
 use Rattle.grok.proofs.defs.Grok.expand.Goals as goal
 
 pub returns-then-is_empty : goal.returns-then-is_empty

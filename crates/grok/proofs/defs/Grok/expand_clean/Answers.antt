@@ -2,7 +2,7 @@ use Rattle.std.proofs.Common.{arith}
 use Rattle.std.specs.FinMap as finite
 use Rattle.grok.specs.Tree.{tree}
 use Rattle.grok.specs.Compiled.{expansion_of}
-use Rattle.grok.proofs.Trees.CompileResults.{expansion_without_memory, no_structural}
+use Rattle.grok.proofs.Trees.StepsCompile.{expansion_without_memory, no_structural}
 use Rattle.grok.proofs.defs.Grok.expand_clean.Goals as goal
 
 pub write-requires-clause-clean : goal.write-requires-clause-clean

@@ -7,7 +7,7 @@ use Rattle.grok.specs.FirstFaultSteps.{tree_fault_view}
 use Rattle.grok.specs.declared.errors.fault.TreeFault.{TreeFault}
 use Rattle.grok.proofs.Keys.KeysAreDistinct.{clash_needs_number}
 use Rattle.grok.proofs.Keys.BasesAreKept.{no_numbered_alias}
-use Rattle.grok.proofs.Trees.CompileResults.{none_at_all}
+use Rattle.grok.proofs.Trees.StepsCompile.{none_at_all}
 use Rattle.grok.proofs.defs.Grok.first_error.Goals as goal
 
 pub returns-then-is_empty : goal.returns-then-is_empty

@@ -1,7 +1,7 @@
 use Rattle.std.proofs.Common.{◌≡◌, ◌-◌, ◌≤◌, None, [], ◌∷◌, ◌++◌, sym, ◌∙◌, ap, subst, arith}
 use Rattle.std.proofs.lemmas.List.{map-append}
 use Rattle.std.specs.FinMap as finite
-use Rattle.grok.specs.declared.measure.mode.MeasureMode.{MeasureMode}
+use Rattle.grok.specs.declared.measure.settings.MeasureSettings.{MeasureSettings}
 use Rattle.grok.specs.Maps.{Texts}
 use Rattle.grok.specs.Tree.{tree, deepest, items_of}
 use Rattle.grok.specs.Items.{fault_view}
@@ -45,7 +45,7 @@ texts-preserved c =
     record {
       utf8 = c.text-text.utf8;
       idle = c.in_ok-first.ensures.idle;
-      grok = ap (λ (mode : MeasureMode). mode.grok.now) c.in_ok-first.ensures.mode ∙ c.texts.invariant.grok;
+      grok = ap (λ (settings : MeasureSettings). settings.grok.now) c.in_ok-first.ensures.settings ∙ c.texts.invariant.grok;
       few = let few : c.texts.levels ≤ deepest = c.texts.invariant.few in omega arith;
       known = c.in_ok-first.ensures.cache c.texts.invariant.known;
       way = subst (λ names. IsWayDown stored c.args.pattern.now names (c.texts.levels - 1) c.text-text.result.now) (sym longer)

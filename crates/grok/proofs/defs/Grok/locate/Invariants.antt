@@ -12,7 +12,7 @@ abbrev pub invariant-texts : goal.invariant-texts
 invariant-texts l = record {
   utf8 : shadow (Utf8 l.text);
   idle : IsIdle l.measurer;
-  grok : l.measurer.mode.grok.now ≡ l.self;
+  grok : l.measurer.settings.grok.now ≡ l.self;
   few : l.levels ≤ deepest;
   known : HasCorrectCache l.measurer;
   way : IsWayDown (finite.get l.self) l.pattern (path_view l.path.items) l.levels l.text;

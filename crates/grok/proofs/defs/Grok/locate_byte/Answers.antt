@@ -1,7 +1,7 @@
 use Rattle.std.proofs.Common.{◌≡◌, ◌-◌, ◌≤◌, ◌<◌, Some, None, [], ◌∷◌, ◌++◌, length, sym, ◌∙◌, ap, subst, arith, rules}
 use Rattle.std.proofs.lemmas.List.{map-append}
 use Rattle.std.specs.FinMap as finite
-use Rattle.grok.specs.declared.measure.mode.MeasureMode.{MeasureMode}
+use Rattle.grok.specs.declared.measure.settings.MeasureSettings.{MeasureSettings}
 use Rattle.grok.specs.Maps.{Texts}
 use Rattle.grok.specs.Tree.{tree, deepest, items_of, events, inside, first_structural}
 use Rattle.grok.specs.Expanded.{expanded}
@@ -21,8 +21,8 @@ returns-in-Fault c has =
     let alias_only = c.args.with_alias_only in
     let whole = tree stored c.args.pattern.now in
     let known : HasCorrectCache c.new-measurer.result =
-    record { st = nothing_measured; shows = c.new-measurer.ensures.nothing; is_true = nothing_true c.new-measurer.result.mode.grok.now c.new-measurer.result.mode.with_alias_only } in
-    let measured = subst (λ (mode : MeasureMode). measure_view c.in_ok-measure.measure ≡ measured_tree mode.with_alias_only (tree_of mode.grok.now c.args.pattern.now)) c.new-measurer.ensures.mode
+    record { st = nothing_measured; shows = c.new-measurer.ensures.nothing; is_true = nothing_true c.new-measurer.result.settings.grok.now c.new-measurer.result.settings.with_alias_only } in
+    let measured = subst (λ (settings : MeasureSettings). measure_view c.in_ok-measure.measure ≡ measured_tree settings.with_alias_only (tree_of settings.grok.now c.args.pattern.now)) c.new-measurer.ensures.settings
     (c.in_ok-measure.ensures.answer known) in
     measured_faulty alias_only whole (fault_view c.in-Fault.field-0) (rw c.in-Fault.is at measured) has.clean
 
@@ -32,16 +32,16 @@ texts-init c =
     let alias_only = c.args.with_alias_only in
     let whole = tree stored c.args.pattern.now in
     let known : HasCorrectCache c.new-measurer.result =
-    record { st = nothing_measured; shows = c.new-measurer.ensures.nothing; is_true = nothing_true c.new-measurer.result.mode.grok.now c.new-measurer.result.mode.with_alias_only } in
-    let measured = subst (λ (mode : MeasureMode). measure_view c.in_ok-measure.measure ≡ measured_tree mode.with_alias_only (tree_of mode.grok.now c.args.pattern.now)) c.new-measurer.ensures.mode
+    record { st = nothing_measured; shows = c.new-measurer.ensures.nothing; is_true = nothing_true c.new-measurer.result.settings.grok.now c.new-measurer.result.settings.with_alias_only } in
+    let measured = subst (λ (settings : MeasureSettings). measure_view c.in_ok-measure.measure ≡ measured_tree settings.with_alias_only (tree_of settings.grok.now c.args.pattern.now)) c.new-measurer.ensures.settings
     (c.in_ok-measure.ensures.answer known) in
-    let mode = c.in_ok-measure.ensures.mode ∙ c.new-measurer.ensures.mode in
+    let settings = c.in_ok-measure.ensures.settings ∙ c.new-measurer.ensures.settings in
     let clean : first_structural whole ≡ None = measured_clean alias_only whole c.in_ok-measure.measure c.in_default.not-Fault measured in
     record {
       utf8 = c.utf8.pattern;
       idle = c.in_ok-measure.ensures.idle;
-      grok = ap (λ (mode : MeasureMode). mode.grok.now) mode;
-      alias_only = ap (λ (mode : MeasureMode). mode.with_alias_only) mode;
+      grok = ap (λ (settings : MeasureSettings). settings.grok.now) settings;
+      alias_only = ap (λ (settings : MeasureSettings). settings.with_alias_only) settings;
       few = omega arith;
       known = c.in_ok-measure.ensures.cache known;
       clean = clean;
@@ -59,7 +59,7 @@ returns-in-Piece c =
     let byte = c.args.byte in
     let piece = c.in-Some.piece in
     let finds = subst (λ alias_only. FindsWritingPiece stored alias_only levels text c.texts.before byte (Some piece)) inv.alias_only
-    (subst (λ (texts : Texts). FindsWritingPiece (finite.get texts) c.texts.measurer.mode.with_alias_only levels text c.texts.before byte (Some piece)) inv.grok
+    (subst (λ (texts : Texts). FindsWritingPiece (finite.get texts) c.texts.measurer.settings.with_alias_only levels text c.texts.before byte (Some piece)) inv.grok
     (rw c.in-Some.is at (c.in_ok-piece.ensures.piece inv.known))) in
     let p : IsWritingPiece stored alias_only levels text inv.way.xs byte piece = finds inv.way.xs inv.way.later inv.way.clean in
     way_ends stored alias_only c.args.pattern.now byte (path_view c.texts.path.items) text levels c.texts.before piece.range.start piece.range.end c.in-Piece.part p.items p.item inv.way inv.clean p.stands (rw c.in-Piece.is at p.writer)
@@ -74,7 +74,7 @@ overflow_sub-levels c =
     let byte = c.args.byte in
     let piece = c.in-Some.piece in
     let finds = subst (λ alias_only. FindsWritingPiece stored alias_only levels text c.texts.before byte (Some piece)) inv.alias_only
-    (subst (λ (texts : Texts). FindsWritingPiece (finite.get texts) c.texts.measurer.mode.with_alias_only levels text c.texts.before byte (Some piece)) inv.grok
+    (subst (λ (texts : Texts). FindsWritingPiece (finite.get texts) c.texts.measurer.settings.with_alias_only levels text c.texts.before byte (Some piece)) inv.grok
     (rw c.in-Some.is at (c.in_ok-piece.ensures.piece inv.known))) in
     let p : IsWritingPiece stored alias_only levels text inv.way.xs byte piece = finds inv.way.xs inv.way.later inv.way.clean in
     let name = c.in-Definition.name in
@@ -92,7 +92,7 @@ texts-smaller c =
     let byte = c.args.byte in
     let piece = c.in-Some.piece in
     let finds = subst (λ alias_only. FindsWritingPiece stored alias_only levels text c.texts.before byte (Some piece)) inv.alias_only
-    (subst (λ (texts : Texts). FindsWritingPiece (finite.get texts) c.texts.measurer.mode.with_alias_only levels text c.texts.before byte (Some piece)) inv.grok
+    (subst (λ (texts : Texts). FindsWritingPiece (finite.get texts) c.texts.measurer.settings.with_alias_only levels text c.texts.before byte (Some piece)) inv.grok
     (rw c.in-Some.is at (c.in_ok-piece.ensures.piece inv.known))) in
     let p : IsWritingPiece stored alias_only levels text inv.way.xs byte piece = finds inv.way.xs inv.way.later inv.way.clean in
     let name = c.in-Definition.name in
@@ -110,7 +110,7 @@ texts-preserved c =
     let byte = c.args.byte in
     let piece = c.in-Some.piece in
     let finds = subst (λ alias_only. FindsWritingPiece stored alias_only levels text c.texts.before byte (Some piece)) inv.alias_only
-    (subst (λ (texts : Texts). FindsWritingPiece (finite.get texts) c.texts.measurer.mode.with_alias_only levels text c.texts.before byte (Some piece)) inv.grok
+    (subst (λ (texts : Texts). FindsWritingPiece (finite.get texts) c.texts.measurer.settings.with_alias_only levels text c.texts.before byte (Some piece)) inv.grok
     (rw c.in-Some.is at (c.in_ok-piece.ensures.piece inv.known))) in
     let p : IsWritingPiece stored alias_only levels text inv.way.xs byte piece = finds inv.way.xs inv.way.later inv.way.clean in
     let name = c.in-Definition.name in
@@ -119,12 +119,12 @@ texts-preserved c =
     let path = path_view c.texts.path.items in
     let longer : path_view c.push.new.self.items ≡ path ++ name.now ∷ [] = ap path_view c.in_ok-push-in-Definition.ensures.items ∙ map-append _ c.texts.path.items (name ∷ []) in
     let below = way_goes_on stored alias_only c.args.pattern.now byte path text levels c.texts.before c.in-Definition.head piece.range.start piece.range.end p.items p.item name.now definition.now inv.way p.stands w in
-    let mode = c.in_ok-piece.ensures.mode in
+    let settings = c.in_ok-piece.ensures.settings in
     record {
       utf8 = search rules;
       idle = c.in_ok-piece.ensures.idle;
-      grok = ap (λ (mode : MeasureMode). mode.grok.now) mode ∙ inv.grok;
-      alias_only = ap (λ (mode : MeasureMode). mode.with_alias_only) mode ∙ inv.alias_only;
+      grok = ap (λ (settings : MeasureSettings). settings.grok.now) settings ∙ inv.grok;
+      alias_only = ap (λ (settings : MeasureSettings). settings.with_alias_only) settings ∙ inv.alias_only;
       few = let few : levels ≤ deepest = inv.few in omega arith;
       known = c.in_ok-piece.ensures.cache inv.known;
       clean = inv.clean;
@@ -140,7 +140,7 @@ returns c has =
     let text = c.texts.text.now in
     let byte = c.args.byte in
     let finds = subst (λ alias_only. FindsWritingPiece stored alias_only levels text c.texts.before byte None) inv.alias_only
-    (subst (λ (texts : Texts). FindsWritingPiece (finite.get texts) c.texts.measurer.mode.with_alias_only levels text c.texts.before byte None) inv.grok
+    (subst (λ (texts : Texts). FindsWritingPiece (finite.get texts) c.texts.measurer.settings.with_alias_only levels text c.texts.before byte None) inv.grok
     (rw c.in_default-2.is at (c.in_ok-piece.ensures.piece inv.known))) in
     let past : length (expanded alias_only (tree stored c.args.pattern.now)) ≤ byte = inv.way.passes (finds inv.way.xs inv.way.later inv.way.clean) in
     let within : byte < length (expanded alias_only (tree stored c.args.pattern.now)) = has.within in

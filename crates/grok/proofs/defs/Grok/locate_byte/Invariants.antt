@@ -12,8 +12,8 @@ abbrev pub invariant-texts : goal.invariant-texts
 invariant-texts l = record {
   utf8 : shadow (Utf8 l.text);
   idle : IsIdle l.measurer;
-  grok : l.measurer.mode.grok.now ≡ l.self;
-  alias_only : l.measurer.mode.with_alias_only ≡ l.with_alias_only;
+  grok : l.measurer.settings.grok.now ≡ l.self;
+  alias_only : l.measurer.settings.with_alias_only ≡ l.with_alias_only;
   few : l.levels ≤ deepest;
   known : HasCorrectCache l.measurer;
   clean : first_structural (tree (finite.get l.self) l.pattern) ≡ None;

@@ -2,7 +2,7 @@ use Rattle.std.proofs.Common.{◌≡◌, ℕ, ◌+◌, ◌<◌, List, [], ◌∷
 use Rattle.std.proofs.lemmas.List.{map-append, take_more}
 use Rattle.grok.specs.MeasuredOnce.{nothing_measured}
 use Rattle.grok.specs.Measured.{tree_of, measured_tree}
-use Rattle.grok.specs.declared.measure.mode.MeasureMode.{MeasureMode}
+use Rattle.grok.specs.declared.measure.settings.MeasureSettings.{MeasureSettings}
 use Rattle.grok.specs.MeasureCache.{measure_view}
 use Rattle.grok.proofs.Sizes.MeasuringAgain.{nothing_true}
 use Rattle.grok.proofs.defs.Grok.measure_all.Goals as goal
@@ -14,9 +14,9 @@ one_more f g done last all i d more same so_far =
 
 pub patterns-init : goal.patterns-init
 patterns-init c = record {
-  grok = ap (λ (mode : MeasureMode). mode.grok.now) c.new-measurer.ensures.mode;
-  alias_only = ap (λ (mode : MeasureMode). mode.with_alias_only) c.new-measurer.ensures.mode;
-  remembers = record { st = nothing_measured; shows = c.new-measurer.ensures.nothing; is_true = nothing_true c.new-measurer.result.mode.grok.now c.new-measurer.result.mode.with_alias_only };
+  grok = ap (λ (settings : MeasureSettings). settings.grok.now) c.new-measurer.ensures.settings;
+  alias_only = ap (λ (settings : MeasureSettings). settings.with_alias_only) c.new-measurer.ensures.settings;
+  remembers = record { st = nothing_measured; shows = c.new-measurer.ensures.nothing; is_true = nothing_true c.new-measurer.result.settings.grok.now c.new-measurer.result.settings.with_alias_only };
   idle = c.new-measurer.ensures.idle;
   measured = ap (map measure_view) c.new-measures.ensures.items;
 }
@@ -24,11 +24,11 @@ patterns-init c = record {
 pub patterns-preserved : goal.patterns-preserved
 patterns-preserved c =
     let invariant = c.patterns.invariant in
-    let mode = c.in_ok-measure.ensures.mode in
+    let settings = c.in_ok-measure.ensures.settings in
     let pattern : Bor (List ℕ) = get_or c.args.patterns.now c.patterns.pattern-index (record { ref_ptr = (0, 0); now = [] }) in
     record {
-      grok = ap (λ (mode : MeasureMode). mode.grok.now) mode ∙ invariant.grok;
-      alias_only = ap (λ (mode : MeasureMode). mode.with_alias_only) mode ∙ invariant.alias_only;
+      grok = ap (λ (settings : MeasureSettings). settings.grok.now) settings ∙ invariant.grok;
+      alias_only = ap (λ (settings : MeasureSettings). settings.with_alias_only) settings ∙ invariant.alias_only;
       remembers = c.in_ok-measure.ensures.cache invariant.remembers;
       idle = c.in_ok-measure.ensures.idle;
       measured = ap (map measure_view) c.in_ok-push.ensures.items

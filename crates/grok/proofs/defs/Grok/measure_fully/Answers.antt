@@ -1,6 +1,6 @@
 use Rattle.std.proofs.Common.{subst}
 use Rattle.std.specs.FinMap as finite
-use Rattle.grok.specs.declared.measure.mode.MeasureMode.{MeasureMode}
+use Rattle.grok.specs.declared.measure.settings.MeasureSettings.{MeasureSettings}
 use Rattle.grok.specs.Tree as tree
 use Rattle.grok.specs.MeasuredOnce.{State, items_within, nothing_measured}
 use Rattle.grok.specs.MeasureCache.{ShowsState, StopsReading, measure_view}
@@ -18,8 +18,8 @@ returns c =
     let resolve = tree.items_of (finite.get texts) in
     let frames = c.measure_text.new.self.frames.items in
     let each : (st : State) → ShowsState c.new-measurer.result.cache st → StopsReading tree.deepest r frames cache (items_within alias_only resolve tree.deepest (resolve pattern) st) =
-    subst (λ (mode : MeasureMode). (st : State) → ShowsState c.new-measurer.result.cache st → StopsReading tree.deepest r frames cache
-    (items_within mode.with_alias_only (tree.items_of (finite.get mode.grok.now)) tree.deepest (tree.items_of (finite.get mode.grok.now) pattern) st)) c.new-measurer.ensures.mode c.in_ok-answer.ensures.stops in
+    subst (λ (settings : MeasureSettings). (st : State) → ShowsState c.new-measurer.result.cache st → StopsReading tree.deepest r frames cache
+    (items_within settings.with_alias_only (tree.items_of (finite.get settings.grok.now)) tree.deepest (tree.items_of (finite.get settings.grok.now) pattern) st)) c.new-measurer.ensures.settings c.in_ok-answer.ensures.stops in
     let stops = each nothing_measured c.new-measurer.ensures.nothing in
     record {
       measured = record {

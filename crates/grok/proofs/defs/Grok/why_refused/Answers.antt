@@ -1,7 +1,7 @@
 use Rattle.std.proofs.Common.{subst, ◌∙◌}
 use Rattle.grok.specs.Compiled.{expansion_of}
 use Rattle.grok.specs.Refusals.{IsReasonFor}
-use Rattle.grok.proofs.Trees.CompileResults.{examined_without_memory}
+use Rattle.grok.proofs.Trees.StepsCompile.{examined_without_memory}
 use Rattle.grok.proofs.defs.Grok.why_refused.Goals as goal
 
 pub returns-in_err-reason : goal.returns-in_err-reason

@@ -10,11 +10,11 @@ use Rattle.grok.proofs.expand.write.write.Goals as goal
 
 pub events-init : goal.events-init
 events-init c =
-    let mode = c.args.with_alias_only in
+    let settings = c.args.with_alias_only in
     let all = c.of_pattern-events.result in
     let clean : first_structural all ≡ None = rw c.of_pattern-events.ensures c.requires.clean in
-    let room : length (expanded mode all) ≤ string_capacity c.args.text = rw c.of_pattern-events.ensures c.requires.room in
-    written_none mode all (record { text = c.args.text; groups = 0 }) c.new-keys.result (ready_whole mode all c.args.text clean c.requires.empty room) c.new-keys.ensures
+    let room : length (expanded settings all) ≤ string_capacity c.args.text = rw c.of_pattern-events.ensures c.requires.room in
+    written_none settings all (record { text = c.args.text; groups = 0 }) c.new-keys.result (ready_whole settings all c.args.text clean c.requires.empty room) c.new-keys.ensures
 
 pub assign_key-requires : goal.assign_key-requires
 assign_key-requires c =
@@ -34,8 +34,8 @@ events-preserved c =
 
 pub returns-clause-keys : goal.returns-clause-keys
 returns-clause-keys c =
-    let mode = c.args.with_alias_only in
+    let settings = c.args.with_alias_only in
     let start : Output = record { text = c.args.text; groups = 0 } in
     let over = rw c.in_default.is at c.in_ok-event.ensures in
-    subst (λ es. HasKeys mode es c.events.keys) c.of_pattern-events.ensures
-    (written_keys mode c.of_pattern-events.result start c.events.events c.events.output c.events.keys over.0 c.events.invariant)
+    subst (λ es. HasKeys settings es c.events.keys) c.of_pattern-events.ensures
+    (written_keys settings c.of_pattern-events.result start c.events.events c.events.output c.events.keys over.0 c.events.invariant)

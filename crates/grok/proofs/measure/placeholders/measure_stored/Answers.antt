@@ -2,13 +2,13 @@ use Rattle.std.proofs.Common.{◌≡◌, ◌<◌, Err, refl, sym, ap, arith}
 use Rattle.grok.specs.MeasuredOnce.{InProgress}
 use Rattle.grok.specs.Items.{fault_view, label_view}
 use Rattle.grok.specs.MeasureCache.{items_in}
-use Rattle.grok.proofs.Sizes.MeasureLoop.{known_gives, none_gives}
+use Rattle.grok.proofs.Sizes.MeasureLoopIsReading.{known_gives, none_gives}
 use Rattle.grok.proofs.measure.placeholders.measure_stored.Goals as goal
 
 pub returns-in-Some-clause-reading : goal.returns-in-Some-clause-reading
 returns-in-Some-clause-reading c st shows =
     let some : 0 < c.args.levels = omega arith in
-    known_gives c.args.mode.with_alias_only (items_in c.args.mode.grok.now) c.args.levels (label_view c.args.label) c.args.stored.now st c.args.cache.now some shows c.in-Some.known c.size_of_placeholder-in-Some.result
+    known_gives c.args.settings.with_alias_only (items_in c.args.settings.grok.now) c.args.levels (label_view c.args.label) c.args.stored.now st c.args.cache.now some shows c.in-Some.known c.size_of_placeholder-in-Some.result
     (c.in-Some.ensures.known st shows) c.size_of_placeholder-in-Some.ensures.reading
 
 pub returns-in-Some-clause-low : goal.returns-in-Some-clause-low
@@ -22,7 +22,7 @@ returns-clause-reading c =
 pub returns-then-levels-eq0-clause-reading : goal.returns-then-levels-eq0-clause-reading
 returns-then-levels-eq0-clause-reading c st shows =
     let none : c.args.levels ≡ 0 = omega arith in
-    none_gives c.args.mode.with_alias_only (items_in c.args.mode.grok.now) c.args.levels (label_view c.args.label) c.args.stored.now st c.args.cache.now none shows (Err c.too_deep.result) c.size_of_placeholder.result
+    none_gives c.args.settings.with_alias_only (items_in c.args.settings.grok.now) c.args.levels (label_view c.args.label) c.args.stored.now st c.args.cache.now none shows (Err c.too_deep.result) c.size_of_placeholder.result
     (ap (λ f. Err (fault_view f)) c.too_deep.ensures.fault) (sym c.too_deep.ensures.reach) c.size_of_placeholder.ensures.reading
 
 pub returns-then-levels-eq0-clause-low : goal.returns-then-levels-eq0-clause-low

@@ -2,7 +2,7 @@ use Rattle.std.proofs.Common.{◌≡◌, Some, subst, ⊎_elim, arith}
 use Rattle.std.proofs.lemmas.Bool.{cases_lt, false≢true}
 use Rattle.regex_literal.specs.declared.bounded.Bounded.TheVariants.{Found, Missing, Tired}
 use Rattle.regex_meta.proofs.PlansLemmas.{IsNext-of_IsBounded}
-use Rattle.grok.specs.OwnSearches.{StandsAt}
+use Rattle.grok.specs.OwnSearches.{HasLiteralAt}
 use Rattle.grok.proofs.engine.match_facts.Needles.next.Goals as goal
 
 pub returns-in-Missing : goal.returns-in-Missing
@@ -28,6 +28,6 @@ literals-preserved c =
       omega (arith, next.high),
       λ k low high it. ⊎_elim (λ early. next.before k low early it)
           (λ late. let same : k ≡ c.in-Found.at = omega arith in
-          false≢true (c.if-fits.ensures.passes (subst (StandsAt c.args.self.now c.args.hay.now) same it).1))
+          false≢true (c.if-fits.ensures.passes (subst (HasLiteralAt c.args.self.now c.args.hay.now) same it).1))
           (cases_lt k c.in-Found.at),
     )

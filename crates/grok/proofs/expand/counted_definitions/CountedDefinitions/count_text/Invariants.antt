@@ -7,9 +7,9 @@ use Rattle.grok.proofs.expand.counted_definitions.CountedDefinitions.count_text.
 
 abbrev pub invariant-items : goal.invariant-items
 invariant-items l = record {
-  sound : AreSound (resolve l.mode) (finite.get l.mode.grok.now) l.items;
+  sound : AreSound (resolve l.settings) (finite.get l.settings.grok.now) l.items;
   whole : l.part.uncounted ≡ None;
-  counting : IsCounting l.mode l.stored l.items l.part.read l.part.counted;
+  counting : IsCounting l.settings l.stored l.items l.part.read l.part.counted;
 }
 
 abbrev pub decreases-items : goal.decreases-items

@@ -13,8 +13,8 @@ returns c meaning items t h =
     let kept : new.height ≡ c.add_opened.new.self.height = c.in_ok-add_open.ensures.height in
     let above : c.args.self.now.height ≤ new.height = omega (arith, high.1, kept) in
     let deep : c.args.inner.now.height < new.height = omega (arith, high.0, kept) in
-    meaning_counted c.args.mode items c.args.self.now new h above label meaning c.args.inner.now t deep
+    meaning_counted c.args.settings items c.args.self.now new h above label meaning c.args.inner.now t deep
     (λ others uses has_others has_uses. c.in_ok-add_open.ensures.counts (λ key. others key + uses key) (c.in_ok-add_opened.ensures.counts added uses others has_uses has_others))
 
 pub returns-then-not-branch : goal.returns-then-not-branch
-returns-then-not-branch c meaning items t h = subst (IsCountOfItems c.args.mode items) (sym (c.in_ok-add_opened.ensures.unchanged c.if-not-branch.true)) h
+returns-then-not-branch c meaning items t h = subst (IsCountOfItems c.args.settings items) (sym (c.in_ok-add_opened.ensures.unchanged c.if-not-branch.true)) h

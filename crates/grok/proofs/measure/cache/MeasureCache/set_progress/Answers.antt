@@ -1,6 +1,6 @@
 use Rattle.std.proofs.lemmas.Map.Text.{btree_map_updates_str}
 use Rattle.std.proofs.Common.{Some}
-use Rattle.grok.proofs.Sizes.MeasureLoop.{progress_shows}
+use Rattle.grok.proofs.Sizes.MeasureLoopIsReading.{progress_shows}
 use Rattle.grok.specs.MeasureCache.{HasProgress}
 use Rattle.grok.proofs.measure.cache.MeasureCache.set_progress.Goals as goal
 

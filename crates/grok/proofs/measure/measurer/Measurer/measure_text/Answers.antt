@@ -6,7 +6,7 @@ use Rattle.grok.specs.MeasuredOnce.{State, items_within, with_progress, item_wit
 use Rattle.grok.specs.MeasuredOnce as kept
 use Rattle.grok.specs.Sizes.{Size, in_brackets, plus}
 use Rattle.grok.specs.declared.measure.cache.Progress.TheVariants.{HasSize}
-use Rattle.grok.specs.Measured.{counted}
+use Rattle.grok.specs.Measured.{saturated}
 use Rattle.grok.specs.MeasureCache.{items_in, shown, ShowsState, ReturnsReading, MustBeMeasured, StopsReading}
 use Rattle.grok.specs.declared.measure.Looks.{Looks}
 use Rattle.grok.specs.declared.measure.partial_size.Failure.{Failure}
@@ -14,23 +14,23 @@ use Rattle.grok.specs.declared.measure.measurer.Frame.{Frame}
 use Rattle.grok.proofs.Sizes.TextsWithoutPlaceholders.{AreSound, sound_rest}
 use Rattle.grok.proofs.Texts.EntriesAreTable.{table_of}
 use Rattle.grok.proofs.Sizes.ItemsAreSound.{sound_texts}
-use Rattle.grok.proofs.Sizes.MeasureLoop.{ContinuesReading, piece_counted, text_gives, fault_gives, goes_on_start, fault_stops, sum_goes_on, text_goes_on, end_goes_on}
+use Rattle.grok.proofs.Sizes.MeasureLoopIsReading.{ContinuesReading, piece_counted, text_gives, fault_gives, goes_on_start, fault_stops, sum_goes_on, text_goes_on, end_goes_on}
 use Rattle.grok.proofs.Sizes.MeasureLoopEnds.{AreFit, work_left, fit_low, fit_push, fit_pop, less_opened, less_ended}
 use Rattle.grok.proofs.measure.measurer.Measurer.measure_text.Goals as goal
 
 pub items-init : goal.items-init
 items-init c =
-    let texts = c.args.self.now.mode.grok.now in
+    let texts = c.args.self.now.settings.grok.now in
     let none : c.args.self.now.frames.items ≡ [] = c.requires.idle in
     let resolve = items_in texts in
     record {
-      mode = refl;
+      settings = refl;
       goes_on = λ st shows.
-          subst (λ items. ContinuesReading c.args.self.now.mode.with_alias_only resolve c.args.levels (items_within c.args.self.now.mode.with_alias_only resolve c.args.levels (resolve c.args.text.now) st) c.args.self.now.frames.items items c.size_of_text-sum.result c.args.self.now.cache)
+          subst (λ items. ContinuesReading c.args.self.now.settings.with_alias_only resolve c.args.levels (items_within c.args.self.now.settings.with_alias_only resolve c.args.levels (resolve c.args.text.now) st) c.args.self.now.frames.items items c.size_of_text-sum.result c.args.self.now.cache)
           (sym c.of_text-items.ensures)
-          (subst (λ frames. ContinuesReading c.args.self.now.mode.with_alias_only resolve c.args.levels (items_within c.args.self.now.mode.with_alias_only resolve c.args.levels (resolve c.args.text.now) st) frames (resolve c.args.text.now) c.size_of_text-sum.result c.args.self.now.cache)
+          (subst (λ frames. ContinuesReading c.args.self.now.settings.with_alias_only resolve c.args.levels (items_within c.args.self.now.settings.with_alias_only resolve c.args.levels (resolve c.args.text.now) st) frames (resolve c.args.text.now) c.size_of_text-sum.result c.args.self.now.cache)
           (sym none)
-          (goes_on_start c.args.self.now.mode.with_alias_only resolve c.args.levels (resolve c.args.text.now) st c.size_of_text-sum.result c.args.self.now.cache c.size_of_text-sum.ensures.shown shows));
+          (goes_on_start c.args.self.now.settings.with_alias_only resolve c.args.levels (resolve c.args.text.now) st c.size_of_text-sum.result c.args.self.now.cache c.size_of_text-sum.ensures.shown shows));
       fit = subst (AreFit resolve (finite.get texts) c.args.levels) (sym none) tt;
       low = omega arith;
       sound = subst (AreSound resolve (finite.get texts)) (sym c.of_text-items.ensures) ((sound_texts (finite.get texts)).sound c.args.text.now);
@@ -39,19 +39,19 @@ items-init c =
 
 pub items-preserved-in-Some-Text : goal.items-preserved-in-Some-Text
 items-preserved-in-Some-Text c =
-    let alias_only = c.args.self.now.mode.with_alias_only in
-    let texts = c.args.self.now.mode.grok.now in
+    let alias_only = c.args.self.now.settings.with_alias_only in
+    let texts = c.args.self.now.settings.grok.now in
     let resolve = items_in texts in
     let levels = c.args.levels in
     let frames = c.items.self.frames.items in
     let text = c.in-Some-Text.text.now in
     let item = item_view c.in-Some-Text.field-0 in
     let cache = c.items.self.cache in
-    let taken : (c.items.items ≡ item ∷ c.next_counted.new.items) × (c.next_counted.new.looks ≡ record { pieces = counted (cache.looks.pieces + 1); ends = cache.looks.ends }) = rw c.in-Some-Text.is at c.in_ok-text.ensures in
+    let taken : (c.items.items ≡ item ∷ c.next_counted.new.items) × (c.next_counted.new.looks ≡ record { pieces = saturated (cache.looks.pieces + 1); ends = cache.looks.ends }) = rw c.in-Some-Text.is at c.in_ok-text.ensures in
     let one = c.size_of_text.result in
     let sound : AreSound resolve (finite.get texts) (item ∷ c.next_counted.new.items) = subst (AreSound resolve (finite.get texts)) taken.0 c.items.invariant.sound in
     record {
-      mode = c.items.invariant.mode;
+      settings = c.items.invariant.settings;
       goes_on = λ st shows.
           let whole = items_within alias_only resolve levels (resolve c.args.text.now) st in
           subst (λ (looks : Looks). ContinuesReading alias_only resolve levels whole frames c.next_counted.new.items c.add-sum.result (record cache { looks = looks })) (sym taken.1)
@@ -66,8 +66,8 @@ items-preserved-in-Some-Text c =
 
 pub items-preserved-in-Measured-Ok : goal.items-preserved-in-Measured-Ok
 items-preserved-in-Measured-Ok c =
-    let alias_only = c.args.self.now.mode.with_alias_only in
-    let texts = c.args.self.now.mode.grok.now in
+    let alias_only = c.args.self.now.settings.with_alias_only in
+    let texts = c.args.self.now.settings.grok.now in
     let resolve = items_in texts in
     let levels = c.args.levels in
     let frames = c.items.self.frames.items in
@@ -75,7 +75,7 @@ items-preserved-in-Measured-Ok c =
     let is : item ≡ PlaceholderItem (label_view c.in-Some-Placeholder.label) (meaning_view c.in-Some-Placeholder.meaning) = ap item_view c.in-Some-Placeholder.field-0-is in
     let cache = c.items.self.cache in
     let after = c.measure_placeholder.new.cache in
-    let taken : (c.items.items ≡ item ∷ c.next_counted.new.items) × (c.next_counted.new.looks ≡ record { pieces = counted (cache.looks.pieces + 1); ends = cache.looks.ends }) = rw c.in-Some-Placeholder.is at c.in_ok-text.ensures in
+    let taken : (c.items.items ≡ item ∷ c.next_counted.new.items) × (c.next_counted.new.looks ≡ record { pieces = saturated (cache.looks.pieces + 1); ends = cache.looks.ends }) = rw c.in-Some-Placeholder.is at c.in_ok-text.ensures in
     let room : levels - c.len.result ≡ levels - length frames = omega arith in
     let gives : (st : State) → ShowsState (record cache { looks = c.next_counted.new.looks }) st → ReturnsReading c.in-Measured-Ok.field-0 after (item_within alias_only resolve (levels - c.len.result) item st) =
     subst (λ i. (st : State) → ShowsState (record cache { looks = c.next_counted.new.looks }) st → ReturnsReading c.in-Measured-Ok.field-0 after (item_within alias_only resolve (levels - c.len.result) i st)) (sym is) (rw c.in-Measured-Ok.is at c.in_ok-inner-in-Some-Placeholder.ensures.reading) in
@@ -88,7 +88,7 @@ items-preserved-in-Measured-Ok c =
     let height : c.add-sum-in-Measured-Ok.result.height ≡ max c.items.sum.height c.in-Measured-Ok.one.height = rw c.in-Measured-Ok.field-0-is at c.add-sum-in-Measured-Ok.ensures.height in
     let sound : AreSound resolve (finite.get texts) (item ∷ c.next_counted.new.items) = subst (AreSound resolve (finite.get texts)) taken.0 c.items.invariant.sound in
     record {
-      mode = c.items.invariant.mode;
+      settings = c.items.invariant.settings;
       goes_on = λ st shows.
           let whole = items_within alias_only resolve levels (resolve c.args.text.now) st in
           sum_goes_on alias_only resolve levels whole frames item c.next_counted.new.items c.items.sum cache after (subst (λ items. ContinuesReading alias_only resolve levels whole frames items c.items.sum cache) taken.0 (c.items.invariant.goes_on st shows))
@@ -101,8 +101,8 @@ items-preserved-in-Measured-Ok c =
 
 pub items-smaller-in-Unread : goal.items-smaller-in-Unread
 items-smaller-in-Unread c =
-    let alias_only = c.args.self.now.mode.with_alias_only in
-    let texts = c.args.self.now.mode.grok.now in
+    let alias_only = c.args.self.now.settings.with_alias_only in
+    let texts = c.args.self.now.settings.grok.now in
     let resolve = items_in texts in
     let levels = c.args.levels in
     let frames = c.items.self.frames.items in
@@ -113,7 +113,7 @@ items-smaller-in-Unread c =
     let label = c.in-Some-Placeholder.label in
     let meaning = meaning_view c.in-Some-Placeholder.meaning in
     let text = c.in-Unread.stored.now in
-    let taken : (c.items.items ≡ item ∷ c.next_counted.new.items) × (c.next_counted.new.looks ≡ record { pieces = counted (cache.looks.pieces + 1); ends = cache.looks.ends }) = rw c.in-Some-Placeholder.is at c.in_ok-text.ensures in
+    let taken : (c.items.items ≡ item ∷ c.next_counted.new.items) × (c.next_counted.new.looks ≡ record { pieces = saturated (cache.looks.pieces + 1); ends = cache.looks.ends }) = rw c.in-Some-Placeholder.is at c.in_ok-text.ensures in
     let room : levels - c.len.result ≡ levels - length frames = omega arith in
     let opened : MustBeMeasured (levels - c.len.result) label meaning text (record cache { looks = c.next_counted.new.looks }) after = rw c.in-Unread.is at c.in_ok-inner-in-Some-Placeholder.ensures.reading in
     let frame : Frame = record { name = label.name; is_capturing = c.is_capturing.result; items = c.next_counted.new.items; sum = c.items.sum } in
@@ -126,8 +126,8 @@ items-smaller-in-Unread c =
 
 pub items-preserved-in-Unread : goal.items-preserved-in-Unread
 items-preserved-in-Unread c =
-    let alias_only = c.args.self.now.mode.with_alias_only in
-    let texts = c.args.self.now.mode.grok.now in
+    let alias_only = c.args.self.now.settings.with_alias_only in
+    let texts = c.args.self.now.settings.grok.now in
     let resolve = items_in texts in
     let levels = c.args.levels in
     let frames = c.items.self.frames.items in
@@ -138,7 +138,7 @@ items-preserved-in-Unread c =
     let label = c.in-Some-Placeholder.label in
     let meaning = meaning_view c.in-Some-Placeholder.meaning in
     let text = c.in-Unread.stored.now in
-    let taken : (c.items.items ≡ item ∷ c.next_counted.new.items) × (c.next_counted.new.looks ≡ record { pieces = counted (cache.looks.pieces + 1); ends = cache.looks.ends }) = rw c.in-Some-Placeholder.is at c.in_ok-text.ensures in
+    let taken : (c.items.items ≡ item ∷ c.next_counted.new.items) × (c.next_counted.new.looks ≡ record { pieces = saturated (cache.looks.pieces + 1); ends = cache.looks.ends }) = rw c.in-Some-Placeholder.is at c.in_ok-text.ensures in
     let room : levels - c.len.result ≡ levels - length frames = omega arith in
     let opened : MustBeMeasured (levels - c.len.result) label meaning text (record cache { looks = c.next_counted.new.looks }) after = rw c.in-Unread.is at c.in_ok-inner-in-Some-Placeholder.ensures.reading in
     let frame : Frame = record { name = label.name; is_capturing = c.is_capturing.result; items = c.next_counted.new.items; sum = c.items.sum } in
@@ -149,7 +149,7 @@ items-preserved-in-Unread c =
     (subst (λ (looks : Looks). MustBeMeasured (levels - c.len.result) label meaning text (record cache { looks = looks }) after) taken.1 opened) in
     let some = opened.room in
     record {
-      mode = c.items.invariant.mode;
+      settings = c.items.invariant.settings;
       goes_on = λ st shows.
           let whole = items_within alias_only resolve levels (resolve c.args.text.now) st in
           subst (λ items. ContinuesReading alias_only resolve levels whole c.push.new.self.items items c.size_of_text-sum-in-Unread.result after) (sym c.of_stored-items.ensures)
@@ -164,11 +164,11 @@ items-preserved-in-Unread c =
 
 pub items-smaller : goal.items-smaller
 items-smaller c =
-    let texts = c.args.self.now.mode.grok.now in
+    let texts = c.args.self.now.settings.grok.now in
     let resolve = items_in texts in
     let frames = c.pop.new.self.items in
     let frame = c.in-Some.frame in
-    let taken : (c.items.items ≡ []) × (c.next_counted.new.looks ≡ record { pieces = c.items.self.cache.looks.pieces; ends = counted (c.items.self.cache.looks.ends + 1) }) = rw c.in-None.is at c.in_ok-text.ensures in
+    let taken : (c.items.items ≡ []) × (c.next_counted.new.looks ≡ record { pieces = c.items.self.cache.looks.pieces; ends = saturated (c.items.self.cache.looks.ends + 1) }) = rw c.in-None.is at c.in_ok-text.ensures in
     let popped : c.items.self.frames.items ≡ frames ++ frame ∷ [] = c.in-Some.ensures.items in
     subst (λ items. work_left resolve (finite.get texts) (finite.entries texts) c.set_progress.new.self frame.items frames < work_left resolve (finite.get texts) (finite.entries texts) c.items.self.cache items c.items.self.frames.items) (sym taken.0)
     (subst (λ fs. work_left resolve (finite.get texts) (finite.entries texts) c.set_progress.new.self frame.items frames < work_left resolve (finite.get texts) (finite.entries texts) c.items.self.cache [] fs) (sym popped)
@@ -176,19 +176,19 @@ items-smaller c =
 
 pub items-preserved : goal.items-preserved
 items-preserved c =
-    let alias_only = c.args.self.now.mode.with_alias_only in
-    let texts = c.args.self.now.mode.grok.now in
+    let alias_only = c.args.self.now.settings.with_alias_only in
+    let texts = c.args.self.now.settings.grok.now in
     let resolve = items_in texts in
     let levels = c.args.levels in
     let frames = c.pop.new.self.items in
     let frame = c.in-Some.frame in
     let cache = c.items.self.cache in
-    let taken : (c.items.items ≡ []) × (c.next_counted.new.looks ≡ record { pieces = cache.looks.pieces; ends = counted (cache.looks.ends + 1) }) = rw c.in-None.is at c.in_ok-text.ensures in
+    let taken : (c.items.items ≡ []) × (c.next_counted.new.looks ≡ record { pieces = cache.looks.pieces; ends = saturated (cache.looks.ends + 1) }) = rw c.in-None.is at c.in_ok-text.ensures in
     let popped : c.items.self.frames.items ≡ frames ++ frame ∷ [] = c.in-Some.ensures.items in
     let p = fit_pop resolve (finite.get texts) levels frames frame (subst (AreFit resolve (finite.get texts) levels) popped c.items.invariant.fit) in
     let long : length c.items.self.frames.items ≡ length frames + 1 = ap length popped ∙ length-append frames (frame ∷ []) in
     record {
-      mode = c.items.invariant.mode;
+      settings = c.items.invariant.settings;
       goes_on = λ st shows.
           let whole = items_within alias_only resolve levels (resolve c.args.text.now) st in
           let g = subst (λ items. ContinuesReading alias_only resolve levels whole c.items.self.frames.items items c.items.sum cache) taken.0 (c.items.invariant.goes_on st shows) in
@@ -203,8 +203,8 @@ items-preserved c =
 
 pub returns-in-Measured-Err-clause-stops : goal.returns-in-Measured-Err-clause-stops
 returns-in-Measured-Err-clause-stops c =
-    let alias_only = c.args.self.now.mode.with_alias_only in
-    let texts = c.args.self.now.mode.grok.now in
+    let alias_only = c.args.self.now.settings.with_alias_only in
+    let texts = c.args.self.now.settings.grok.now in
     let resolve = items_in texts in
     let levels = c.args.levels in
     let frames = c.items.self.frames.items in
@@ -212,7 +212,7 @@ returns-in-Measured-Err-clause-stops c =
     let is : item ≡ PlaceholderItem (label_view c.in-Some-Placeholder.label) (meaning_view c.in-Some-Placeholder.meaning) = ap item_view c.in-Some-Placeholder.field-0-is in
     let cache = c.items.self.cache in
     let after = c.measure_placeholder.new.cache in
-    let taken : (c.items.items ≡ item ∷ c.next_counted.new.items) × (c.next_counted.new.looks ≡ record { pieces = counted (cache.looks.pieces + 1); ends = cache.looks.ends }) = rw c.in-Some-Placeholder.is at c.in_ok-text.ensures in
+    let taken : (c.items.items ≡ item ∷ c.next_counted.new.items) × (c.next_counted.new.looks ≡ record { pieces = saturated (cache.looks.pieces + 1); ends = cache.looks.ends }) = rw c.in-Some-Placeholder.is at c.in_ok-text.ensures in
     let room : levels - c.len.result ≡ levels - length frames = omega arith in
     let gives : (st : State) → ShowsState (record cache { looks = c.next_counted.new.looks }) st → ReturnsReading c.in-Measured-Err.field-0 after (item_within alias_only resolve (levels - c.len.result) item st) =
     subst (λ i. (st : State) → ShowsState (record cache { looks = c.next_counted.new.looks }) st → ReturnsReading c.in-Measured-Err.field-0 after (item_within alias_only resolve (levels - c.len.result) i st)) (sym is) (rw c.in-Measured-Err.is at c.in_ok-inner-in-Some-Placeholder.ensures.reading) in
@@ -227,14 +227,14 @@ returns-in-Measured-Err-clause-stops c =
 
 pub returns-in-Some-Fault-clause-stops : goal.returns-in-Some-Fault-clause-stops
 returns-in-Some-Fault-clause-stops c =
-    let alias_only = c.args.self.now.mode.with_alias_only in
-    let texts = c.args.self.now.mode.grok.now in
+    let alias_only = c.args.self.now.settings.with_alias_only in
+    let texts = c.args.self.now.settings.grok.now in
     let resolve = items_in texts in
     let levels = c.args.levels in
     let frames = c.items.self.frames.items in
     let item = item_view c.in-Some-Fault.field-0 in
     let cache = c.items.self.cache in
-    let taken : (c.items.items ≡ item ∷ c.next_counted.new.items) × (c.next_counted.new.looks ≡ record { pieces = counted (cache.looks.pieces + 1); ends = cache.looks.ends }) = rw c.in-Some-Fault.is at c.in_ok-text.ensures in
+    let taken : (c.items.items ≡ item ∷ c.next_counted.new.items) × (c.next_counted.new.looks ≡ record { pieces = saturated (cache.looks.pieces + 1); ends = cache.looks.ends }) = rw c.in-Some-Fault.is at c.in_ok-text.ensures in
     let failure : Failure = record { fault = c.in-Some-Fault.fault; height = 0 } in
     λ st shows.
     let whole = items_within alias_only resolve levels (resolve c.args.text.now) st in
@@ -244,7 +244,7 @@ returns-in-Some-Fault-clause-stops c =
     (fault_gives alias_only resolve (levels - length frames) now (piece_counted cache) failure refl s)) failure c.fault_after.result refl c.fault_after.ensures.fault c.fault_after.ensures.reach)
 
 pub returns-in-Measured-Err-clause-low : goal.returns-in-Measured-Err-clause-low
-returns-in-Measured-Err-clause-low c = fit_low (items_in c.args.self.now.mode.grok.now) (finite.get c.args.self.now.mode.grok.now) c.args.levels c.args.levels c.items.self.frames.items (omega arith) c.items.invariant.fit
+returns-in-Measured-Err-clause-low c = fit_low (items_in c.args.self.now.settings.grok.now) (finite.get c.args.self.now.settings.grok.now) c.args.levels c.args.levels c.items.self.frames.items (omega arith) c.items.invariant.fit
 
 pub returns-in-Some-Fault-clause-low : goal.returns-in-Some-Fault-clause-low
-returns-in-Some-Fault-clause-low c = fit_low (items_in c.args.self.now.mode.grok.now) (finite.get c.args.self.now.mode.grok.now) c.args.levels c.args.levels c.items.self.frames.items (omega arith) c.items.invariant.fit
+returns-in-Some-Fault-clause-low c = fit_low (items_in c.args.self.now.settings.grok.now) (finite.get c.args.self.now.settings.grok.now) c.args.levels c.args.levels c.items.self.frames.items (omega arith) c.items.invariant.fit

@@ -2,7 +2,7 @@ use Rattle.std.proofs.Common.{◌≡◌, ◌∷◌, [], ◌++◌, ◌+◌, ◌-�
 use Rattle.grok.specs.Items.{fault_view}
 use Rattle.grok.specs.MeasuredOnce.{failed_progress}
 use Rattle.grok.specs.MeasureCache.{AreLow}
-use Rattle.grok.proofs.Sizes.MeasureLoop.{Unwinds, unwinds_more}
+use Rattle.grok.proofs.Sizes.MeasureLoopIsReading.{Unwinds, unwinds_more}
 use Rattle.grok.proofs.Sizes.MeasureLoopEnds.{low_pop}
 use Rattle.grok.proofs.measure.measurer.Measurer.remember_fault.Goals as goal
 
@@ -19,7 +19,7 @@ frames-preserved c =
     let low = low_pop levels left frame (subst (AreLow levels) popped c.frames.invariant.low) in
     let room : levels - c.len.result ≡ levels - length left = omega arith in
     record {
-      mode = c.frames.invariant.mode;
+      settings = c.frames.invariant.settings;
       fault = c.fault_after-failure.ensures.fault ∙ c.frames.invariant.fault;
       unwinds = λ st shows reach.
           unwinds_more levels (levels - c.len.result) all left frame fault st c.frames.self.cache c.set_progress.new.self c.progress_of_failure-progress.result height c.fault_after-failure.result.height

@@ -2,12 +2,12 @@ use Rattle.std.proofs.Common.{◌≡◌, ◌+◌, ◌≤◌, length}
 use Rattle.grok.specs.Items.{fault_view}
 use Rattle.grok.specs.MeasuredOnce.{State}
 use Rattle.grok.specs.MeasureCache.{ShowsState, AreLow}
-use Rattle.grok.proofs.Sizes.MeasureLoop.{Unwinds}
+use Rattle.grok.proofs.Sizes.MeasureLoopIsReading.{Unwinds}
 use Rattle.grok.proofs.measure.measurer.Measurer.remember_fault.Given as goal
 
 abbrev pub invariant-frames : goal.invariant-frames
 invariant-frames l = record {
-  mode : l.self.mode ≡ l.fn.self.mode;
+  settings : l.self.settings ≡ l.fn.self.settings;
   fault : l.failure.fault ≡ l.fn.failure.fault;
   unwinds : (st : State) → ShowsState l.fn.self.cache st → st.reach ≡ l.fn.failure.height → Unwinds l.levels l.fn.self.frames.items l.self.frames.items (fault_view l.fn.failure.fault) st l.self.cache l.failure.height;
   few : length l.self.frames.items ≤ l.levels;

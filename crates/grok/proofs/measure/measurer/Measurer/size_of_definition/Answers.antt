@@ -11,13 +11,13 @@ if_ok P Q (Err e) more is = is
 
 pub returns-in-Some-clause-size : goal.returns-in-Some-clause-size
 returns-in-Some-clause-size c true_before stored =
-    known_is c.args.self.now.mode.grok.now c.args.self.now.mode.with_alias_only c.args.name.now c.args.stored.now c.args.levels c.in-Some.known true_before.st true_before.is_true stored
+    known_is c.args.self.now.settings.grok.now c.args.self.now.settings.with_alias_only c.args.name.now c.args.stored.now c.args.levels c.in-Some.known true_before.st true_before.is_true stored
     (c.in-Some.ensures.known true_before.st true_before.shows)
 
 pub returns-clause-size : goal.returns-clause-size
 returns-clause-size c =
-    let texts = c.args.self.now.mode.grok.now in
-    let alias_only = c.args.self.now.mode.with_alias_only in
+    let texts = c.args.self.now.settings.grok.now in
+    let alias_only = c.args.self.now.settings.with_alias_only in
     let inner = c.args.levels - 1 in
     let more : suc inner ≡ c.args.levels = let some = c.requires.some in omega arith in
     if_ok _ _ c.measure_within.result

@@ -3,7 +3,7 @@
 use Rattle.std.proofs.Common.{◌≡◌, ℕ, List, [], ◌∷◌, ◌++◌, Option, Some, None, refl, sym, ap, map, ◌∙◌, append_assoc, append-nil}
 use Rattle.std.specs.Io.KnownBytes.{Appends, Keeps}
 use Rattle.grok_lines.proofs.Appending.{appends_both, appends_same}
-use Rattle.grok_commands.specs.Answers.{AreAnswers, HasAnswered, HasBegun}
+use Rattle.grok_commands.specs.Answers.{AreAnswers, HasAnswered, HasAnsweredFirst}
 
 -- `sent` are the first of `all`, their answers have gone out, and `left` are the others
 pub record Answered {A : Type 0} (IsAnswer : A → List ℕ → Type 0) (all left : List A)
@@ -53,6 +53,6 @@ map_append f [] ys = refl
 map_append f (x ∷ xs) ys = ap (λ zs. f x ∷ zs) (map_append f xs ys)
 
 pub begun_mapped : {A B : Type 0} (IsAnswer : B → List ℕ → Type 0) (f : A → B) (xs : List A) (old new : Option (List ℕ))
-    → HasBegun (λ x. IsAnswer (f x)) xs old new → HasBegun IsAnswer (map f xs) old new
+    → HasAnsweredFirst (λ x. IsAnswer (f x)) xs old new → HasAnsweredFirst IsAnswer (map f xs) old new
 begun_mapped IsAnswer f xs old new (sent, unsent, are, answered) =
     (map f sent, map f unsent, ap (map f) are ∙ map_append f sent unsent, answered_mapped IsAnswer f sent old new answered)

@@ -22,8 +22,8 @@ use Rattle.groklog_answers.specs.declared.layout.Lines.{Lines}
 use Rattle.groklog_answers.specs.declared.layout.Lines.TheVariants.{All, Matched, Unmatched}
 use Rattle.groklog_answers.specs.declared.layout.OutputFormat.{OutputFormat}
 use Rattle.groklog_answers.specs.declared.layout.OutputFormat.TheVariants.{Json, Pairs}
-use Rattle.groklog_answers.proofs.NumberLines.{number_is_line}
-use Rattle.groklog_answers.proofs.ReadsBack.{IsFlat, match_is_flat, unmatched_is_flat, have_numbers}
+use Rattle.groklog_answers.proofs.NumbersHoldNoLineFeed.{number_is_line}
+use Rattle.groklog_answers.proofs.ObjectsReadBack.{IsFlat, match_is_flat, unmatched_is_flat, have_numbers}
 
 -- ---- the escape of a byte
 

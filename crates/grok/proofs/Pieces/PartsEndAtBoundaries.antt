@@ -8,13 +8,13 @@ use Rattle.std.proofs.lemmas.List.Elements.{All-nil, All-cons}
 use Rattle.std.proofs.lemmas.Bool.Decides.{nat_tests}
 use Rattle.grok.specs.Pieces.{Parts, Piece, Regular, Placeholder, Malformed, pieces}
 use Rattle.grok.specs.Grammar.{or_empty, MayStand, HasByteAt, IsRegularPiece, Plain, Last, Percent, IsPlaceholder, ArePieces}
-use Rattle.grok.specs.Spans.{range_from, text_in, IsRangeOf, StandsAt, PartsStand, PieceStands, IsPieceOf}
+use Rattle.grok.specs.Spans.{range_from, text_in, IsRangeOf, IsPartAt, PartsStand, PieceStands, IsPieceOf}
 use Rattle.grok.proofs.Pieces.WrittenPlaceholderIsRead.{after_name, last_byte, last_rest, written_is}
 use Rattle.grok.proofs.Pieces.PiecesAreUnique.{regular_within, placeholder_within, pieces_are}
 
 -- a part that begins at a character boundary and is followed by an ASCII byte
 pub record EndsBefore (T : List ℕ) (from : ℕ) (part rest : List ℕ) : Type 0 where
-  pub stands : StandsAt T from part
+  pub stands : IsPartAt T from part
   pub next : IsCharBoundary T (from + length part + 1)
   pub more : drop (from + length part + 1) T ≡ rest
 
@@ -25,14 +25,14 @@ range_from_some : (from n : ℕ) → (n == 0) ≡ false → range_from from n �
 range_from_some from n e = rw e refl
 
 module _ (T : List ℕ) (u : IsUtf8 T) where
-  stands_by : (from : ℕ) (part : List ℕ) → IsCharBoundary T from → IsCharBoundary T (from + length part) → slice_range T from (from + length part) ≡ part → StandsAt T from part
+  stands_by : (from : ℕ) (part : List ℕ) → IsCharBoundary T from → IsCharBoundary T (from + length part) → slice_range T from (from + length part) ≡ part → IsPartAt T from part
   stands_by from [] b e s = record { range = record { ordered = omega arith; begins = IsCharBoundary-start T u; ends = IsCharBoundary-start T u }; reads = refl }
   stands_by from (x ∷ xs) b e s =
       let is = range_from_some from (length (x ∷ xs)) (some_bytes x xs) in
       let here : IsRangeOf T (record { from = from; to = from + length (x ∷ xs) }) = record { ordered = omega arith; begins = b; ends = e } in
       record { range = subst (IsRangeOf T) (sym is) here; reads = subst (λ p. text_in T p ≡ x ∷ xs) (sym is) s }
 
-  pub stands_nowhere : (from : ℕ) → StandsAt T from []
+  pub stands_nowhere : (from : ℕ) → IsPartAt T from []
   stands_nowhere from = record { range = record { ordered = omega arith; begins = IsCharBoundary-start T u; ends = IsCharBoundary-start T u }; reads = refl }
 
   pub ends_before : (from : ℕ) (part rest : List ℕ) (b : ℕ) → IsCharBoundary T from → drop from T ≡ part ++ b ∷ rest → b < 128 → EndsBefore T from part rest
@@ -59,10 +59,10 @@ module _ (T : List ℕ) (u : IsUtf8 T) where
   -- The last word begins at `from`. After it comes the end of the placeholder, with its definition if it has
   -- one, up to e.
   pub record LastStands (from e : ℕ) (word definition : List ℕ) : Type 0 where
-    pub word_at : StandsAt T from word
+    pub word_at : IsPartAt T from word
     pub enough : from + length word + 1 + length definition ≤ e
     pub ends : IsCharBoundary T e
-    pub definition_at : StandsAt T (e - 1 - length definition) definition
+    pub definition_at : IsPartAt T (e - 1 - length definition) definition
 
   pub last_stands : (from e : ℕ) (word : List ℕ) (d : Option (List ℕ)) → IsCharBoundary T from → e ≤ length T → drop from T ≡ word ++ last_byte d ∷ last_rest d (drop e T) → LastStands from e word (or_empty d)
   last_stands from e word None h l x =

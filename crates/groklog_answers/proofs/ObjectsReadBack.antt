@@ -10,8 +10,8 @@ use Rattle.groklog_answers.specs.Patterns.{MatchText}
 use Rattle.groklog_answers.specs.Values.{is_written_as_number, json_value}
 use Rattle.groklog_answers.specs.Objects.{KeyValues, members_of, typed_pair, extract_for, optional_member, number_member, match_members, unmatched_members, object_text}
 use Rattle.groklog_answers.specs.AnswerLaws.{MatchesReadBack, UnmatchedLinesReadBack}
-use Rattle.groklog_answers.proofs.Numbers.{written_is_number}
-use Rattle.groklog_answers.proofs.Numerals.{numeral_is_number}
+use Rattle.groklog_answers.proofs.NumbersAreJson.{written_is_number}
+use Rattle.groklog_answers.proofs.NumeralsAreJson.{numeral_is_number}
 
 -- The value of the member is a string, or a number whose text is a JSON number.
 abbrev pub IsFlat : List ℕ × Json → Type 0

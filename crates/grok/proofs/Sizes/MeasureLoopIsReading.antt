@@ -19,8 +19,8 @@ use Rattle.grok.specs.Keys.{is_capturing}
 use Rattle.grok.specs.Sizes.{Size, no_size, size_of_bytes, plus, in_brackets, sum_in_brackets, wrapped}
 use Rattle.grok.specs.MeasuredOnce as kept
 use Rattle.grok.specs.MeasuredOnce.{InProgress, HasSize, HasFault, NeedsMoreThan, known_result, reach_within, failed_progress, State, Reading, piece_read, ended, labelled, with_progress, with_reach, deeper, inlined, then_rest, finish, by_result, by_progress, visit, item_within, stored_within, items_within}
-use Rattle.grok.specs.Measured.{counted}
-use Rattle.grok.specs.MeasureCache.{shown, shown_progress, shown_result, result_view, progress_view, progress_of, is_kept, ShowsState, HasReach, ReturnsSize, ReturnsReading, RemembersReading, HasProgress, HasBegun, MustBeMeasured, MatchPlaceholderSize, unwound, StopsReading}
+use Rattle.grok.specs.Measured.{saturated}
+use Rattle.grok.specs.MeasureCache.{shown, shown_progress, shown_result, result_view, progress_view, progress_of, is_kept, ShowsState, HasReach, ReturnsSize, ReturnsReading, RemembersReading, HasProgress, BeginsMeasuring, MustBeMeasured, MatchPlaceholderSize, unwound, StopsReading}
 use Rattle.grok.proofs.Sizes.ReadingInduction.{after_size}
 use Rattle.grok.proofs.Sizes.SizesAdd.{both_none, both_assoc, same_size}
 
@@ -47,10 +47,10 @@ with_reach_shows cache st reach s = record { by_name = s.by_name; pieces = s.pie
 -- ---- looks
 
 abbrev pub piece_counted : MeasureCache → MeasureCache
-piece_counted cache = record cache { looks = record { pieces = counted (cache.looks.pieces + 1); ends = cache.looks.ends } }
+piece_counted cache = record cache { looks = record { pieces = saturated (cache.looks.pieces + 1); ends = cache.looks.ends } }
 
 abbrev pub end_counted : MeasureCache → MeasureCache
-end_counted cache = record cache { looks = record { pieces = cache.looks.pieces; ends = counted (cache.looks.ends + 1) } }
+end_counted cache = record cache { looks = record { pieces = cache.looks.pieces; ends = saturated (cache.looks.ends + 1) } }
 
 shows_piece : (cache : MeasureCache) (st : State) → ShowsState cache st → ShowsState (piece_counted cache) (piece_read st)
 shows_piece cache st s = record { by_name = s.by_name; pieces = omega (arith, s.pieces); ends = s.ends; numbered = s.numbered }
@@ -264,7 +264,7 @@ module _ (alias_only : Bool) (resolve : List ℕ → List Item) where
   abbrev IsStoredSize : ℕ → CodeLabel → List ℕ → MeasureCache → MeasureCache → PlaceholderSize → Type 0
   IsStoredSize levels label text before after size = MatchPlaceholderSize size
       (λ r. (st : State) → ShowsState before st → ReturnsReading r after (stored_within alias_only resolve levels (label_view label) text st))
-      (λ it. (it ≡ text) × (0 < levels) × HasBegun label.name.now levels before after)
+      (λ it. (it ≡ text) × (0 < levels) × BeginsMeasuring label.name.now levels before after)
 
   abbrev IsLabelledSize : ℕ → CodeLabel → Meaning → MeasureCache → MeasureCache → PlaceholderSize → Type 0
   IsLabelledSize levels label meaning before after size = MatchPlaceholderSize size

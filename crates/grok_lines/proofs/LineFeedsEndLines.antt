@@ -4,8 +4,8 @@ use Rattle.std.proofs.lemmas.Bool.{cases_Bool, cases_eq, eqb-true}
 use Rattle.std.proofs.lemmas.List.{get_or-drop, drop-drop, drop_more, take_more, take-append-drop, take_rest, append-nil}
 use Rattle.memchr.specs.Find.{Nowhere, NoneBefore, Passes, is_byte, places_from, places_between}
 use Rattle.grok_lines.specs.Lines.{IsLine, ended_lines_of, unended_of}
-use Rattle.grok_lines.proofs.Cuts.{line_below, line_none}
-use Rattle.grok_lines.proofs.LineLemmas.{ended-append, unended-append, ended-none, unended-none, unended-line}
+use Rattle.grok_lines.proofs.LineEndsAtLineFeed.{line_below, line_none}
+use Rattle.grok_lines.proofs.LinesOfTwoParts.{ended-append, unended-append, ended-none, unended-none, unended-line}
 use Rattle.grok_lines.proofs.LineLaws.{no_line_holds_a_line_feed}
 
 -- the first of the positions, and the positions after it

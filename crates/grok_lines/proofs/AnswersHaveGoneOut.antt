@@ -5,9 +5,9 @@ use Rattle.std.specs.Io.KnownBytes.{Appends, Consumes, Keeps, IsAtEnd}
 use Rattle.grok_lines.specs.Lines.{IsLine, ended_lines_of, unended_of, lines_of, last_line}
 use Rattle.grok_lines.specs.Traffic.{Traffic, traffic}
 use Rattle.grok_lines.specs.Streams.{answers_of, AreAnswersAfter, HasBegunLines, HasAnsweredInputThen, HasAnsweredSome}
-use Rattle.grok_lines.proofs.Appending.{appends_both, appends_same, appends_still}
-use Rattle.grok_lines.proofs.LineLemmas.{ended-line, unended-line, line-append, ended-none, unended-none, ended-append, unended-append, lines-split}
-use Rattle.grok_lines.proofs.Numbering.{answers_append, after_none, after_both}
+use Rattle.grok_lines.proofs.AppendsAddUp.{appends_both, appends_same, appends_still}
+use Rattle.grok_lines.proofs.LinesOfTwoParts.{ended-line, unended-line, line-append, ended-none, unended-none, ended-append, unended-append, lines-split}
+use Rattle.grok_lines.proofs.AnswersAreNumberedOn.{answers_append, after_none, after_both}
 
 -- `sent` are the first lines of `all`, their answers by `f` have gone out, `left` follows them, and `g` answers the lines
 -- that come next

@@ -228,12 +228,12 @@ not_fault length groups nesting fault e = go (nat_lt length (2 ^ 64)) e
     go false e = cc
 
 pub modes_fault_alike : ModesFaultAlike
-modes_fault_alike tree mode other fault e = go (first_structural tree) e
+modes_fault_alike tree settings other fault e = go (first_structural tree) e
   where
-    go : (o : Option Fault) → fault_or o (size_within (length (expanded mode tree)) (groups mode tree) (nesting tree)) ≡ Faulty fault
+    go : (o : Option Fault) → fault_or o (size_within (length (expanded settings tree)) (groups settings tree) (nesting tree)) ≡ Faulty fault
         → fault_or o (size_within (length (expanded other tree)) (groups other tree) (nesting tree)) ≡ Faulty fault
     go (Some f) e = e
-    go None e = absurd (not_fault (length (expanded mode tree)) (groups mode tree) (nesting tree) fault e)
+    go None e = absurd (not_fault (length (expanded settings tree)) (groups settings tree) (nesting tree) fault e)
 
 written_fits : (alias_only : Bool) (count : ℕ) (es : List Event) → IsTextOf es (text_after alias_only count es)
 written_fits alias_only count [] = refl

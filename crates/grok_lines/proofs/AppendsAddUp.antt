@@ -17,8 +17,3 @@ appends_still (Some xs) (Some ys) (Some zs) x h k = k ∙ h
 pub appends_same : (a : Option (List ℕ)) → Appends a a []
 appends_same None = tt
 appends_same (Some xs) = sym (append-nil xs)
-
-pub appends_none : (a b : Option (List ℕ)) → Keeps a b → Appends a b []
-appends_none None b h = tt
-appends_none (Some xs) None h = absurd h
-appends_none (Some xs) (Some ys) h = h ∙ sym (append-nil xs)
