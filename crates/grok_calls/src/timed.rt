@@ -28,6 +28,7 @@ pub(crate) fn call(rt: &HostRuntime, name: &str, pattern: Option<&str>) -> Resul
         }
         ("match", Some(pattern)) => lines::call(rt, pattern, Asked::Ways),
         ("own_and_find", Some(pattern)) => lines::call(rt, pattern, Asked::OwnAndFind),
+        ("first", Some(pattern)) => lines::call(rt, pattern, Asked::FirstCalls),
         ("few", Some(pattern)) => lines::call(rt, pattern, Asked::Calls(20_000)),
         ("many", Some(pattern)) => lines::call(rt, pattern, Asked::Calls(2_000_000)),
         _ => bail!("no timed call has this name and this number of words"),

@@ -6,6 +6,9 @@ use std::alloc::{AllocError, Global};
 use std::time::Instant;
 use std::{fmt, io};
 
+/// How many calls `time_first_calls` makes.
+const FIRST_CALLS: usize = 5;
+
 /// A way to match lines.
 #[derive(Drop)]
 enum Way<'p> {
@@ -184,6 +187,18 @@ fn time_own_and_find(rt: &HostRuntime, pattern: &Pattern, lines: &[&str]) -> Res
     Ok(())
 }
 
+/// Measures the time of each of the first calls of the pattern itself.
+fn time_first_calls(rt: &HostRuntime, pattern: &Pattern, lines: &[&str]) -> Result<()> {
+    for (index, line) in lines.iter().take(FIRST_CALLS).enumerate() {
+        let start = Instant::now(rt)?;
+        let is_match = pattern.match_against(line)?.is_some();
+        let time = start.elapsed(rt)?.as_nanos();
+        eprintln!(rt; "call {index} {time} ns")?;
+        println!(rt; "match {is_match}")?;
+    }
+    Ok(())
+}
+
 /// Calls `match_against` of the pattern `calls` times, on one line after the other, and again from the first line.
 fn repeat(pattern: &Pattern, lines: &[&str], calls: usize) -> Result<()> {
     for number in 0..calls {
@@ -211,6 +226,8 @@ pub(crate) enum Asked {
     Ways,
     /// The time is measured for all lines, by the pattern's own call and by `find` of a kept matcher.
     OwnAndFind,
+    /// The time of each of the first calls of the pattern itself is measured, one line after the other.
+    FirstCalls,
     /// The pattern's own call is made this many times.
     Calls(usize),
 }
@@ -227,6 +244,7 @@ pub(crate) fn call(rt: &HostRuntime, pattern: &str, asked: Asked) -> Result<()> 
     match asked {
         Asked::Ways => time_ways(rt, &pattern, &lines),
         Asked::OwnAndFind => time_own_and_find(rt, &pattern, &lines),
+        Asked::FirstCalls => time_first_calls(rt, &pattern, &lines),
         Asked::Calls(calls) => repeat(&pattern, &lines, calls),
     }
 }
