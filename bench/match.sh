@@ -1,5 +1,6 @@
 #!/usr/bin/env bash
-# Measures how many lines a second `grok_tool` answers, and other tools that do the same work, on the same lines in one run.
+# Measures how many lines a second `grok_tool` and `groklog` answer, and other tools that do the same work, on the same lines
+# in one run.
 # All output is written to a file. The tools run in turn, three times each, but only once if a run takes over 3 seconds.
 # The fastest run counts.
 #
@@ -9,10 +10,13 @@ source "$(dirname "$0")/common.sh"
 lines=${1:-100000}
 rounds=3
 grok_tool=$(program grok_tool)
+groklog=$(program groklog)
 
-# Reads a pattern of bench/patterns: the pattern, the definition words, the plain expression, and its groups.
+# Reads a pattern of bench/patterns: the pattern, the definition words, which groklog reads from a file, the plain
+# expression, and its groups.
 read_pattern() {
     mapfile -t words <"$root/bench/patterns/$1"
+    printf '%s\n' "${words[@]:1}" >"$room/groklog_definitions"
     regex=$("$root/bench/plain_regex" "$root/bench/patterns/$1")
     groups=$(grep -oP '\(\?P<\K\w+' <<<"$regex" | sed 's/.*/&=$&/' | tr '\n' ' ')
 }
@@ -45,6 +49,7 @@ run_tool() {
     'match -a') time_once "$input" "$output" "$grok_tool" match -a "${words[@]}" ;;
     'json') time_once "$input" "$output" "$grok_tool" json "${words[@]}" ;;
     'json -a') time_once "$input" "$output" "$grok_tool" json -a "${words[@]}" ;;
+    'groklog') time_once "$input" "$output" "$groklog" -d "$room/groklog_definitions" "${words[0]}" ;;
     'perl, named groups') REGEX=$regex time_once "$input" "$output" perl -ne "$perl_groups" ;;
     'grep -P -c') time_once "$input" "$output" grep -P -c -- "$regex" ;;
     'rg -or') time_once "$input" "$output" rg --no-config -N -or "$groups" -- "$regex" ;;
@@ -53,7 +58,7 @@ run_tool() {
     esac
 }
 
-tools=('match' 'match -a' 'json' 'json -a' 'perl, named groups' 'grep -P -c')
+tools=('match' 'match -a' 'json' 'json -a' 'groklog' 'perl, named groups' 'grep -P -c')
 if command -v rg >/dev/null; then
     tools+=('rg -or' 'rg -c')
 fi
@@ -111,23 +116,26 @@ print_speeds() {
     done
 }
 
-# Prints a value, the goal, and whether it is met: `goal VALUE LEAST`.
+# Prints a value, the goal, and whether it is met: `goal VALUE least BOUND` or `goal VALUE most BOUND`.
 goal() {
-    awk -v value="$1" -v least="$2" 'BEGIN {
-        print value == "-" ? "not measured" : value " (at least " least ": " (value + 0 >= least ? "met" : "**missed**") ")" }'
+    awk -v value="$1" -v side="$2" -v bound="$3" 'BEGIN {
+        is_met = side == "least" ? value + 0 >= bound : value + 0 <= bound
+        print value == "-" ? "not measured" : value " (at " side " " bound ": " (is_met ? "met" : "**missed**") ")" }'
 }
 
 # Prints the goals of each run.
 print_goals() {
     local run least
-    echo "| Pattern and log | \`match -a\` to perl | \`match -a\` to \`rg -c\` | \`json -a\` to \`match -a\` | perl prints |"
-    echo "|---|---|---|---|---|"
+    echo "| Pattern and log | \`match -a\` to perl | \`match -a\` to \`rg -c\` | \`json -a\` to \`match -a\` |" \
+        "time of \`groklog\` to \`json -a\` | perl prints |"
+    echo "|---|---|---|---|---|---|"
     for run in "${runs[@]}"; do
         least=8
         [[ $run == *other || $run == *cut ]] && least=30
-        echo "| \`${run% *}\` on ${run#* } | $(goal "$(faster "$run" 'match -a' 'perl, named groups')" "$least")" \
-            "| $(goal "$(faster "$run" 'match -a' 'rg -c')" 1)" \
-            "| $(goal "$(faster "$run" 'json -a' 'match -a')" 0.5) | ${same[$run]} |"
+        echo "| \`${run% *}\` on ${run#* } | $(goal "$(faster "$run" 'match -a' 'perl, named groups')" least "$least")" \
+            "| $(goal "$(faster "$run" 'match -a' 'rg -c')" least 1)" \
+            "| $(goal "$(faster "$run" 'json -a' 'match -a')" least 0.5)" \
+            "| $(goal "$(faster "$run" 'json -a' 'groklog')" most 1.15) | ${same[$run]} |"
     done
 }
 
