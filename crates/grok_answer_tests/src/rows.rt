@@ -470,7 +470,7 @@ const PLACEHOLDERS: &[Row] = &[
         ..BLANK
     },
     Row {
-        name: "names used again cost no look at their definitions",
+        name: "definitions of names that are used again are not read again",
         definitions: AB,
         pattern: "%{B}%{B}-%{A}",
         modes: EVERY,

@@ -24,8 +24,8 @@ fn chain_library(rt: &HostRuntime, count: u32) -> Result<Grok> {
 }
 
 /// Prints the length of the expanded text if it was compiled or refused, and otherwise the error.
-fn show_answer(rt: &HostRuntime, answer: &Result<Pattern, Error>) -> Result<()> {
-    match answer {
+fn show_returned(rt: &HostRuntime, returned: &Result<Pattern, Error>) -> Result<()> {
+    match returned {
         Ok(pattern) => println!(rt; "a pattern of {} bytes", pattern.text().len())?,
         Err(Error::RegexCompilationFailed(text)) => {
             println!(rt; "a refusal of {} bytes", text.len())?;
@@ -39,5 +39,5 @@ fn show_answer(rt: &HostRuntime, answer: &Result<Pattern, Error>) -> Result<()> 
 fn chain(rt: &HostRuntime, count: u32) -> Result<()> {
     let grok = chain_library(rt, count)?;
     twice!(rt, grok.measure_counted("%{C1}", false));
-    show_answer(rt, &grok.compile("%{C1}", false))
+    show_returned(rt, &grok.compile("%{C1}", false))
 }

@@ -45,13 +45,13 @@ fn show_pattern<E: Engine>(rt: &HostRuntime, pattern: &PatternOf<E>) -> Result<(
     Ok(())
 }
 
-fn show_answer<E: Engine>(
+fn show_returned<E: Engine>(
     rt: &HostRuntime,
     label: &str,
-    answer: &Result<PatternOf<E>, Error>,
+    returned: &Result<PatternOf<E>, Error>,
 ) -> Result<()> {
     print!(rt; "{label}: ")?;
-    match answer {
+    match returned {
         Ok(pattern) => show_pattern(rt, pattern)?,
         Err(error) => println!(rt; "Err({error:?})")?,
     }
@@ -68,9 +68,9 @@ fn compile<E: Engine>(
     let grok = Grok::from_iter(rt.alloc(), definitions)?;
     'calls: for label in LABELS {
         eprintln!(rt; "[call")?;
-        let answer = grok.compile_with::<E>(pattern, with_alias_only);
+        let returned = grok.compile_with::<E>(pattern, with_alias_only);
         eprintln!(rt; "[done")?;
-        show_answer(rt, label, &answer)?;
+        show_returned(rt, label, &returned)?;
     }
     Ok(())
 }

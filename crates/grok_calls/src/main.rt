@@ -3,13 +3,13 @@
 //! `timed` calls are what `bench/` times, and `pairs` compares the ways to match for `tests/pairs/run`. Each other call is
 //! made twice, for `tests/refusals/run`, which refuses each request for memory of the first one in turn. The lines `[call`
 //! and `[done` on standard error mark where a call begins and ends, so that no request of the preparations is counted.
-//! Standard output has the answers.
+//! Standard output has what the calls return.
 #![tactic(auto)]
 
-/// The labels of the answers of a call: that of the first time, and that of the second.
+/// The labels of what a call returns the first time, and the second.
 const LABELS: [&str; 2] = ["first", "again"];
 
-/// Makes the call `$call` twice and prints both answers.
+/// Makes the call `$call` twice and prints what it returns.
 macro_rules! twice {
     ($rt:expr, $call:expr) => {
         'calls: for label in $crate::LABELS {
@@ -34,10 +34,10 @@ mod timed;
 use anyhow::{Result, bail};
 use std::{env, fmt};
 
-/// Marks the end of a call on standard error, and prints its answer after the label.
-fn finish<T: fmt::Debug + Drop>(rt: &HostRuntime, label: &str, answer: T) -> Result<()> {
+/// Marks the end of a call on standard error, and prints what it returned after the label.
+fn finish<T: fmt::Debug + Drop>(rt: &HostRuntime, label: &str, returned: T) -> Result<()> {
     eprintln!(rt; "[done")?;
-    println!(rt; "{label}: {answer:?}")?;
+    println!(rt; "{label}: {returned:?}")?;
     Ok(())
 }
 

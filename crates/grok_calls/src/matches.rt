@@ -91,16 +91,20 @@ fn match_after(
 fn matcher(rt: &HostRuntime, pattern: &Pattern) -> Result<()> {
     'calls: for label in LABELS {
         eprintln!(rt; "[call")?;
-        let answer = pattern.matcher();
+        let returned = pattern.matcher();
         eprintln!(rt; "[done")?;
-        show_matcher(rt, label, answer)?;
+        show_matcher(rt, label, returned)?;
     }
     Ok(())
 }
 
 /// Prints what a matcher finds, or that it couldn't be made.
-fn show_matcher(rt: &HostRuntime, label: &str, answer: Result<Matcher, AllocError>) -> Result<()> {
-    match answer {
+fn show_matcher(
+    rt: &HostRuntime,
+    label: &str,
+    returned: Result<Matcher, AllocError>,
+) -> Result<()> {
+    match returned {
         Ok(mut matcher) => println!(rt; "{label}: {:?}", matcher.match_against(LINE))?,
         Err(error) => println!(rt; "{label}: Err({error:?})")?,
     }

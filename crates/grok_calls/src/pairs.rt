@@ -14,7 +14,7 @@ const BETWEEN_PARTS: char = '\u{1f}';
 
 /// What each way to match returns for a line: the debug text of its match, which has all keys and values.
 #[derive(Drop)]
-struct Answers {
+struct MatchesByWay {
     /// The pattern's own call, whose search is built by its second call and kept from then on.
     own: String,
     /// A matcher that is kept for all lines, by its `match_against`.
@@ -25,19 +25,19 @@ struct Answers {
     uncached: String,
 }
 
-impl Answers {
+impl MatchesByWay {
     /// Matches the line in each way. `matcher` is the one that is kept for all lines.
     fn of(
         alloc: Global,
         pattern: &Pattern,
         matcher: &mut Matcher<'_>,
         line: &str,
-    ) -> Result<Answers, AllocError> {
-        Ok(Answers {
-            own: own_answer(alloc, pattern, line)?,
-            kept: kept_answer(alloc, matcher, line)?,
-            found: found_answer(alloc, matcher, line)?,
-            uncached: uncached_answer(alloc, pattern, line)?,
+    ) -> Result<MatchesByWay, AllocError> {
+        Ok(MatchesByWay {
+            own: own_match(alloc, pattern, line)?,
+            kept: kept_match(alloc, matcher, line)?,
+            found: found_match(alloc, matcher, line)?,
+            uncached: uncached_match(alloc, pattern, line)?,
         })
     }
 
@@ -50,7 +50,7 @@ impl Answers {
     }
 }
 
-impl fmt::Display for Answers {
+impl fmt::Display for MatchesByWay {
     fn fmt<W: fmt::Write>(&self, f: &mut fmt::Formatter<W>) -> fmt::Result {
         let own = self.own.as_str();
         let kept = self.kept.as_str();
@@ -63,16 +63,12 @@ impl fmt::Display for Answers {
     }
 }
 
-fn own_answer<'a>(
-    alloc: Global,
-    pattern: &'a Pattern,
-    line: &'a str,
-) -> Result<String, AllocError> {
+fn own_match<'a>(alloc: Global, pattern: &'a Pattern, line: &'a str) -> Result<String, AllocError> {
     let found = pattern.match_against(line)?;
     format!(in alloc; "{found:?}")
 }
 
-fn kept_answer<'p, 'a>(
+fn kept_match<'p, 'a>(
     alloc: Global,
     matcher: &mut Matcher<'p>,
     line: &'a str,
@@ -84,7 +80,7 @@ where
     format!(in alloc; "{found:?}")
 }
 
-fn found_answer<'p, 'm>(
+fn found_match<'p, 'm>(
     alloc: Global,
     matcher: &'m mut Matcher<'p>,
     line: &'m str,
@@ -96,16 +92,16 @@ where
     format!(in alloc; "{found:?}")
 }
 
-fn uncached_answer<'a>(
+fn uncached_match<'a>(
     alloc: Global,
     pattern: &'a Pattern,
     line: &'a str,
 ) -> Result<String, AllocError> {
     let mut matcher = pattern.matcher()?;
-    kept_answer(alloc, &mut matcher, line)
+    kept_match(alloc, &mut matcher, line)
 }
 
-/// How many lines of a pattern were matched, how many of them match, and for how many the answers differ.
+/// How many lines of a pattern were matched, how many of them match, and for how many the ways to match differ.
 #[derive(Clone, Copy, Default)]
 struct Counts {
     lines: u64,
@@ -123,12 +119,12 @@ impl fmt::Display for Counts {
 }
 
 impl Counts {
-    fn add(&mut self, answers: &Answers) {
+    fn add(&mut self, matches: &MatchesByWay) {
         self.lines = self.lines.saturating_add(1);
-        if answers.is_match() {
+        if matches.is_match() {
             self.matches = self.matches.saturating_add(1);
         }
-        if !answers.are_the_same() {
+        if !matches.are_the_same() {
             self.different = self.different.saturating_add(1);
         }
     }
@@ -167,11 +163,11 @@ fn compare_lines(rt: &HostRuntime, pattern: &Pattern, text: &str, lines: &str) -
     let mut matcher = pattern.matcher()?;
     let mut counts = Counts::default();
     for line in lines.split(BETWEEN_PARTS) {
-        let answers = Answers::of(rt.alloc(), pattern, &mut matcher, line)?;
-        if !answers.are_the_same() {
-            println!(rt; "different: {text:?} on {line:?}: {answers}")?;
+        let matches = MatchesByWay::of(rt.alloc(), pattern, &mut matcher, line)?;
+        if !matches.are_the_same() {
+            println!(rt; "different: {text:?} on {line:?}: {matches}")?;
         }
-        counts.add(&answers);
+        counts.add(&matches);
     }
     println!(rt; "{counts}")?;
     Ok(())

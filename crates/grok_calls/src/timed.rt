@@ -1,4 +1,4 @@
-//! Times calls on texts that are too long for a program's words. Standard output has the answer, which is the same in each
+//! Times calls on texts that are too long for a program's words. Standard output has the result, which is the same in each
 //! run. Standard error has the microseconds, or for lines of a log the nanoseconds a line.
 mod lines;
 mod split;
@@ -103,9 +103,9 @@ fn show_pattern(rt: &HostRuntime, pattern: &Pattern) -> Result<()> {
 /// Compiles a pattern, and reports how long that takes.
 fn time_compile(rt: &HostRuntime, grok: &Grok, pattern: &str) -> Result<()> {
     let start = Instant::now(rt)?;
-    let answer = grok.compile(pattern, false);
+    let compiled = grok.compile(pattern, false);
     report_time(rt, "compile", &start)?;
-    match answer {
+    match compiled {
         Ok(pattern) => show_pattern(rt, &pattern)?,
         Err(error) => println!(rt; "{error}")?,
     }

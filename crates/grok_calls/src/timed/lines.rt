@@ -32,17 +32,17 @@ impl<'p> Way<'p> {
         }
     }
 
-    /// Matches a line in this way, and adds its match to `answers`.
-    fn answer(&mut self, line: &str, answers: &mut Answers) -> Result<(), AllocError> {
+    /// Matches a line in this way, and adds its match to `summary`.
+    fn match_line(&mut self, line: &str, summary: &mut MatchSummary) -> Result<(), AllocError> {
         match self {
-            Way::Shared(pattern) => answers.add_matches(&ask_pattern(pattern, line)?),
-            Way::Kept(matcher) => answers.add_matches(&ask_kept(matcher, line)?),
+            Way::Shared(pattern) => summary.add_matches(&ask_pattern(pattern, line)?),
+            Way::Kept(matcher) => summary.add_matches(&ask_kept(matcher, line)?),
             Way::Found(matcher) => {
                 if let Some(found) = ask_find(matcher, line)? {
-                    answers.add(found.iter());
+                    summary.add(found.iter());
                 }
             }
-            Way::Fresh(pattern) => answers.add_matches(&ask_fresh(pattern, line)?),
+            Way::Fresh(pattern) => summary.add_matches(&ask_fresh(pattern, line)?),
         }
         Ok(())
     }
@@ -94,12 +94,12 @@ fn ask_fresh<'a>(pattern: &'a Pattern, line: &'a str) -> Result<Option<Matches<'
 
 /// How many lines matched, and a checksum of all keys and values, which depends on their order.
 #[derive(Clone, Copy, Default, PartialEq, Eq)]
-struct Answers {
+struct MatchSummary {
     matches: u64,
     checksum: u64,
 }
 
-impl fmt::Display for Answers {
+impl fmt::Display for MatchSummary {
     fn fmt<W: fmt::Write>(&self, f: &mut fmt::Formatter<W>) -> fmt::Result {
         let matches = self.matches;
         let checksum = self.checksum;
@@ -107,7 +107,7 @@ impl fmt::Display for Answers {
     }
 }
 
-impl Answers {
+impl MatchSummary {
     fn add_text(&mut self, text: &str) {
         for byte in text.bytes() {
             self.checksum = self.checksum.wrapping_mul(31).wrapping_add(u64::from(byte));
@@ -130,12 +130,12 @@ impl Answers {
 }
 
 /// Matches all lines in this way, and returns how many match, with the checksum of what was found.
-fn ask_all(way: &mut Way<'_>, lines: &[&str]) -> Result<Answers> {
-    let mut answers = Answers::default();
+fn ask_all(way: &mut Way<'_>, lines: &[&str]) -> Result<MatchSummary> {
+    let mut summary = MatchSummary::default();
     for line in lines {
-        way.answer(line, &mut answers)?;
+        way.match_line(line, &mut summary)?;
     }
-    Ok(answers)
+    Ok(summary)
 }
 
 /// Returns how many of the lines match in this way.
@@ -151,10 +151,15 @@ fn count_matches(way: &mut Way<'_>, lines: &[&str]) -> Result<u64> {
 }
 
 /// Matches all lines once, checks that the result is the expected one, and then measures the time for all lines.
-fn time_way(rt: &HostRuntime, way: &mut Way<'_>, lines: &[&str], expected: Answers) -> Result<()> {
+fn time_way(
+    rt: &HostRuntime,
+    way: &mut Way<'_>,
+    lines: &[&str],
+    expected: MatchSummary,
+) -> Result<()> {
     let name = way.name();
     if ask_all(way, lines)? != expected {
-        bail!("other answers by `{name}`");
+        bail!("other matches by `{name}`");
     }
     let start = Instant::now(rt)?;
     let matches = count_matches(way, lines)?;
