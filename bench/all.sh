@@ -13,6 +13,8 @@ echo "## The library's calls on lines"
 echo
 "$here/calls.sh"
 echo
+"$here/first_calls.sh"
+echo
 echo '## Memory over long logs'
 echo
 "$here/flat.sh"

@@ -1,11 +1,16 @@
 #!/usr/bin/env bash
-# Times `compile` for patterns of ever more placeholders.
+# Times `compile` for patterns of ever more placeholders. The grok_calls of another version can be given after -o, to measure
+# both in the same run.
 #
-#   bench/compile.sh [COUNT..]        10 100 1000 if no number is given
+#   bench/compile.sh [-o GROK_CALLS] [COUNT..]        10 100 1000 if no number is given
 set -euo pipefail
 source "$(dirname "$0")/common.sh"
-grok_calls=$(program grok_calls)
-rounds=3
+programs=("$(program grok_calls)")
+if [ "${1:-}" = -o ]; then
+    programs+=("$2")
+    shift 2
+fi
+rounds=5
 [ $# -gt 0 ] || set -- 10 100 1000
 
 # Prints a library whose TOP has this many placeholders, each with an alias of its own: `wide COUNT`.
@@ -14,19 +19,26 @@ wide() {
     seq -f '%%{WORD:key%g}' "$1" | paste -sd' ' | sed 's/^/TOP=/'
 }
 
+# The microseconds of the fastest run of a step, by program and step.
+declare -A best=()
+
 echo "The fastest of $rounds runs; $(machine)."
 echo
-echo "| Placeholders | \`compile\`, ms | \`measure\` alone, ms | \`compile\` to the row above | Answer |"
+echo "| Placeholders | program | \`compile\`, ms | \`measure\` alone, ms | Answer |"
 echo "|---|---|---|---|---|"
-before=0
 for count in "$@"; do
     wide "$count" >"$room/library"
-    compiling='' measuring=''
+    best=()
     for ((round = 0; round < rounds; round++)); do
-        time_once "$room/library" "$room/answer" "$grok_calls" timed compile '%{TOP}'
-        compiling=$(least "$compiling" "$(step_time compile)") measuring=$(least "$measuring" "$(step_time measure)")
+        for program in "${programs[@]}"; do
+            time_once "$room/library" "$room/answer" "$program" timed compile '%{TOP}'
+            for step in compile measure; do
+                best["$program $step"]=$(least "${best[$program $step]:-}" "$(step_time $step)")
+            done
+        done
     done
-    echo "| $count | $(ratio "$compiling" 1000) | $(ratio "$measuring" 1000) | $(ratio "$compiling" "$before")" \
-        "| $(tail -n 1 "$room/answer" | head -c 80) |"
-    before=$compiling
+    for program in "${programs[@]}"; do
+        echo "| $count | $program | $(ratio "${best[$program compile]}" 1000) | $(ratio "${best[$program measure]}" 1000)" \
+            "| $(tail -n 1 "$room/answer" | head -c 80) |"
+    done
 done

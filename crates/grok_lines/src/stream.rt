@@ -16,7 +16,7 @@ use std::io::{ErrorKind, Read, Write};
 /// How many bytes are read at once.
 const READ_SIZE: usize = 64 * 1024;
 
-/// What answers lines, one after another. An answer may depend on how many lines came before.
+/// Answers lines, one after another. An answer may depend on how many lines came before.
 pub trait LineAnswers {
     ghost use Rattle.std.specs.Prelude.{ℕ, List};
 

@@ -16,6 +16,7 @@ pub record LayoutValue : Type 0 where
   pub number : Option (List ℕ)
   pub typed : Bool
 
+-- What contracts see of a layout.
 abbrev pub layout_value : Layout → LayoutValue
 layout_value layout = record {
   lines = layout.lines;

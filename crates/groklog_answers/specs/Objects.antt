@@ -49,6 +49,7 @@ match_members layout found n line =
 abbrev pub unmatched_members : LayoutValue → ℕ → List ℕ → KeyValues
 unmatched_members layout n line = number_member layout.number n ++ optional_member layout.keep line
 
+-- The same members, as the kit's `json` has them.
 abbrev pub members_of : KeyValues → Members
 members_of [] = no_members
 members_of (pair ∷ more) = member pair.0 pair.1 (members_of more)

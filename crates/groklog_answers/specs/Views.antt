@@ -16,6 +16,7 @@ use Rattle.groklog_answers.specs.declared.log_answers.LogAnswers.{LogAnswers}
 abbrev pub finds_of : RegexEngine → List ℕ → Option (List (Option (List ℕ)))
 finds_of engine = captures_by (engine_regex engine)
 
+-- What contracts see of a pattern: its tag, what its engine finds in a line, its keys, and their extracts.
 abbrev pub pattern_text : NamedPattern → PatternText
 pattern_text named = record {
   tag = named.tag.now;
@@ -32,8 +33,7 @@ match_text_of named matches = record {
   pairs = walk (borrowed_keys matches) (borrowed_captures matches);
 }
 
--- What contracts see of a pattern with its matcher: its tag (the text that `--tag` writes), what its engine finds
--- in a line, its keys, and their extracts.
+-- The same of a pattern that is searched for by a matcher. The tag is the text that `--tag` writes.
 abbrev pub searched : Search → PatternText
 searched search = record {
   tag = search.named.tag.now;

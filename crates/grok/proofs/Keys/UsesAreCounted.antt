@@ -34,7 +34,7 @@ abbrev pub Bounds : (List ℕ → ℕ) → (List ℕ → ℕ) → Type 0
 Bounds most uses = (other : List ℕ) (times : ℕ) → times < 2 ^ 64 → (times ≤ most other) ↔ MayBeUsed uses other times
 
 module _ (key : List ℕ) (uses : List ℕ → ℕ) (other : List ℕ) (times : ℕ) where
-  -- the key bounds those that it is a numbered one of
+  -- if `key` is `other[n]`, `other` may be used at most n times
   abbrev IsBounded : Type 0
   IsBounded = (count : ℕ) → key ≡ numbered other (suc count) → times ≤ suc count
 
@@ -54,12 +54,12 @@ module _ (key : List ℕ) (uses : List ℕ → ℕ) (other : List ℕ) (times : 
     ],
   )
 
--- the same counts may be had
+-- both limits allow the same counts of uses
 abbrev AllowSame : (List ℕ → ℕ) → (List ℕ → ℕ) → Type 0
 AllowSame most later = (other : List ℕ) (times : ℕ) → times < 2 ^ 64 → (times ≤ later other) ↔ (times ≤ most other)
 
 module _ (key : List ℕ) (uses most later : List ℕ → ℕ) (bounds : Bounds most uses) where
-  -- a key that isn't a numbered one whose number fits bounds no other
+  -- a use of a key that doesn't end in a number which fits a `usize` changes no limit
   bounds_stay : ((base : List ℕ) (count : ℕ) → suc count < 2 ^ 64 → key ≡ numbered base (suc count) → ⊥) → AllowSame most later → Bounds later (with_key key uses)
   bounds_stay unnumbered same other times low =
       let both = more_bounded key uses other times in
@@ -68,7 +68,7 @@ module _ (key : List ℕ) (uses most later : List ℕ → ℕ) (bounds : Bounds 
         λ may. (same other times low).1 (old.1 (both.0 may).0),
       )
 
-  -- one whose number fits bounds that one
+  -- a use of `base[number]` lowers the limit of `base` to that number
   bounds_fall : (base : List ℕ) (number : ℕ) → 0 < number → key ≡ numbered base number → AllowSame (λ other. cond (bytes_eq base other) (min number (most other)) (most other)) later → Bounds later (with_key key uses)
   bounds_fall base zero some is falls other times low = absurd (omega arith)
   bounds_fall base (suc number) some is falls other times low =
@@ -176,7 +176,7 @@ both_bound others uses key times = (
   ],
 )
 
--- what the entries say, in any order, of a key with this count before
+-- the count of a key after all counts of it in these entries are added to `count`
 abbrev pub summed_in : List (Bor (List ℕ) × UseCount) → List ℕ → UseCount → UseCount
 summed_in [] key count = count
 summed_in (e ∷ es) key count = summed_in es key (cond (bytes_eq e.0.now key) (summed e.1 count) count)

@@ -23,7 +23,8 @@ use std::alloc::Global;
 /// The bytes that the tables of the NFA may take, as in `regex`.
 const LIMIT: usize = 10 << 20;
 
-/// The automata of a text, and what their searches keep.
+/// The automata that were compiled from an expanded text, and the tables that their searches fill
+/// from line to line.
 #[derive(Drop)]
 pub(crate) struct OwnSearch {
     source: String,

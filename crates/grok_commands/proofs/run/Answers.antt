@@ -12,7 +12,7 @@ use Rattle.grok_lines.specs.Traffic.{traffic}
 use Rattle.grok_commands.proofs.FirstAnswersHaveGoneOut.{answered_mapped, begun_mapped}
 use Rattle.grok_commands.proofs.run.Goals as goal
 
--- what nobody touched stays as it was
+-- bytes that are neither read nor written stay as they are
 kept : (bytes : Option (List ℕ)) → Keeps bytes bytes
 kept None = tt
 kept (Some bytes) = refl
