@@ -2,7 +2,7 @@
 -- after each step.
 use Rattle.std.proofs.Common.{◌≡◌, ℕ, List, [], ◌∷◌, ◌++◌, Option, Some, None, refl, sym, ap, map, ◌∙◌, append_assoc, append-nil}
 use Rattle.std.specs.Io.KnownBytes.{Appends, Keeps}
-use Rattle.grok_lines.proofs.Appending.{appends_both, appends_same}
+use Rattle.grok_lines.proofs.AppendsAddUp.{appends_both, appends_same}
 use Rattle.grok_commands.specs.Answers.{AreAnswers, HasAnswered, HasAnsweredFirst}
 
 -- `sent` are the first of `all`, their answers have gone out, and `left` are the others

@@ -3,7 +3,7 @@ use Rattle.std.proofs.Common.{◌≡◌, ℕ, suc, ◌+◌, List, [], ◌∷◌,
 use Rattle.std.specs.Str.{is_utf8}
 use Rattle.std.specs.Str.Lossy.{utf8_lossy}
 use Rattle.grok_lines.specs.Streams.{answers_of, AreAnswersAfter}
-use Rattle.grok_lines.proofs.Numbering.{answers_same, answers_append}
+use Rattle.grok_lines.proofs.AnswersAreNumberedOn.{answers_same, answers_append}
 use Rattle.groklog_answers.specs.Layouts.{LayoutValue}
 use Rattle.groklog_answers.specs.Patterns.{PatternText, MatchText, first_match}
 use Rattle.groklog_answers.specs.LogAnswers.{match_text, unmatched_text, match_answer, unmatched_answer, answer_by, log_answer, log_answers_from}

@@ -12,7 +12,7 @@ use Rattle.json.specs.Print.{escape_byte, escape, quoted, token_text, separator,
 use Rattle.json.proofs.Printed.Strings.{escape_byte_plain}
 use Rattle.json.proofs.Printed.Trees.{ArePrintable-json_tokens}
 use Rattle.grok_lines.specs.Lines.{IsLine}
-use Rattle.grok_lines.proofs.LineLemmas.{line-append}
+use Rattle.grok_lines.proofs.LinesOfTwoParts.{line-append}
 use Rattle.groklog_answers.specs.Layouts.{LayoutValue}
 use Rattle.groklog_answers.specs.Patterns.{MatchText, PatternText, first_match}
 use Rattle.groklog_answers.specs.Objects.{KeyValues, members_of, match_members, unmatched_members, object_text}

@@ -4,7 +4,7 @@ use Rattle.std.specs.Io.KnownBytes.{Appends}
 use Rattle.grok_lines.specs.Lines.{lines_of, ended_lines_of}
 use Rattle.grok_lines.specs.Traffic.{Traffic, traffic}
 use Rattle.grok_lines.specs.Streams.{answers_of, HasAnsweredInput, HasAnsweredInputThen, HasAnsweredEnded, HasAnsweredSome}
-use Rattle.grok_lines.proofs.Numbering.{answers_by_lines_alone}
+use Rattle.grok_lines.proofs.AnswersAreNumberedOn.{answers_by_lines_alone}
 use Rattle.grok_commands.specs.Runs.{answer_by}
 use Rattle.grok_commands.specs.declared.fault.ToolFault.{ToolFault}
 use Rattle.grok_commands.specs.declared.fault.ToolFault.TheVariants.{Memory, Read, Write}
