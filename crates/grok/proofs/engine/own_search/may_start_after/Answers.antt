@@ -1,4 +1,4 @@
-use Rattle.std.proofs.Common.{◌+◌, arith, length}
+use Rattle.std.proofs.Common.{◌+◌, arith}
 use Rattle.regex_meta.proofs.ProgramLemmas.{leftmost_beyond}
 use Rattle.grok.proofs.engine.own_search.may_start_after.Goals as goal
 

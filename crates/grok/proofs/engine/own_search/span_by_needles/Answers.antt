@@ -1,4 +1,4 @@
-use Rattle.std.proofs.Common.{◌+◌, refl, sym, ◌∙◌, ap, subst, length, option_map, false}
+use Rattle.std.proofs.Common.{refl, sym, ◌∙◌, ap, subst, length, option_map, false}
 use Rattle.regex_dfa.specs.Search.{end_between, IsEndWithin}
 use Rattle.regex_vm.specs.Found.{span}
 use Rattle.regex_meta.proofs.ProgramLemmas.{IsLocated_within, leftmost_no_end_within}
