@@ -8,6 +8,7 @@ mod excerpt;
 mod expansion;
 mod explain;
 mod fault;
+mod group_names;
 mod library;
 mod logstash;
 mod options;
