@@ -1,4 +1,7 @@
 //! Runs the program over files, or over standard input.
+ghost use Rattle.std.specs.Prelude.{◌≡◌, IfOk};
+ghost use Rattle.grok_lines.specs.Streams.{HasAnsweredInputThen};
+ghost use Rattle.grok_lines.specs.Traffic.{traffic};
 
 use crate::compiled::{compile_all, taken_key};
 use crate::explain::explain;
@@ -7,7 +10,7 @@ use crate::library::{DefinitionFile, Library};
 use crate::options::{Options, repeated_key};
 use crate::watched::{Watched, shows_progress};
 use grok::Pattern;
-use grok_lines::{LinesError, answer_lines};
+use grok_lines::{LineAnswers, LinesError, answer_lines};
 use groklog_answers::{Layout, LogAnswers, NamedPattern, OutputFormat};
 use std::alloc::{AllocError, Global};
 use std::fs::{self, File};
@@ -166,18 +169,24 @@ fn lines_fault(
     }
 }
 
-/// Answers each line of an input. Faults call the input `name`.
-fn answer_input<R: Read>(
-    rt: &HostRuntime,
-    answers: &mut LogAnswers<'_>,
+/// Answers each line of an input, and writes the answers to `output`. Faults call the input `name`.
+fn answer_input<A: LineAnswers, R: Read, W: Write>(
+    alloc: Global,
+    answers: &mut A,
     input: &mut Watched<'_, R>,
+    output: &mut W,
     name: &str,
-) -> Result<Answered, Fault> {
-    let answered = answer_lines(rt.alloc(), answers, input, &mut io::writer(rt));
+) -> Result<Answered, Fault>
+    ensures { IfOk result (λ answered. answered ≡ Answered.All
+        → HasAnsweredInputThen (A.answer answers.old) (A.answer answers.new)
+        (traffic (R.remaining input.old.input) (R.remaining input.new.input)
+        (W.contents output.old) (W.contents output.new))) }
+{
+    let answered = answer_lines(alloc, answers, input, output);
     let failure = input.finish();
     match answered {
         Ok(()) => Ok(Answered::All),
-        Err(error) => match lines_fault(rt.alloc(), name, failure, &error)? {
+        Err(error) => match lines_fault(alloc, name, failure, &error)? {
             None => Ok(Answered::Enough),
             Some(fault) => Err(fault),
         },
@@ -207,12 +216,18 @@ fn answer_file(
     name: &str,
     shows: bool,
 ) -> Result<Answered, Fault> {
+    let alloc = rt.alloc();
+    let mut output = io::writer(rt);
     if name == "-" {
-        return answer_input(rt, answers, &mut Watched::new(rt.stdin()), "standard input");
+        let mut input = Watched::new(rt.stdin());
+        return answer_input(alloc, answers, &mut input, &mut output, "standard input");
     }
     match File::open(rt, name) {
-        Ok(file) => answer_input(rt, answers, &mut watch(rt, file, name, shows), name),
-        Err(error) => Err(file_fault(rt.alloc(), name, error.kind())?),
+        Ok(file) => {
+            let mut input = watch(rt, file, name, shows);
+            answer_input(alloc, answers, &mut input, &mut output, name)
+        }
+        Err(error) => Err(file_fault(alloc, name, error.kind())?),
     }
 }
 
