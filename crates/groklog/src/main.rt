@@ -12,6 +12,7 @@ mod group_names;
 mod library;
 mod logstash;
 mod options;
+mod pattern_text;
 mod run;
 mod watched;
 

@@ -8,6 +8,7 @@ use crate::explain::explain;
 use crate::fault::{Fault, Report};
 use crate::library::{DefinitionFile, Library};
 use crate::options::{Options, repeated_key};
+use crate::pattern_text::{PatternText, adapt_patterns};
 use crate::watched::{Watched, shows_progress};
 use grok::Pattern;
 use grok_lines::{LineAnswers, LinesError, answer_lines};
@@ -25,6 +26,15 @@ enum Answered {
     Enough,
 }
 
+/// Returns the advice for a file that is there but can't be opened or read.
+fn advice_for_unreadable(kind: ErrorKind) -> &'static str {
+    match kind {
+        ErrorKind::IsADirectory => "name the files in it",
+        ErrorKind::PermissionDenied => "check with ls -l who may read it",
+        _ => "check whether cat can read it",
+    }
+}
+
 /// Returns the fault that reports that a file can't be opened or read.
 fn file_fault(alloc: Global, file: &str, kind: ErrorKind) -> Result<Fault, AllocError> {
     let (what, advice) = match kind {
@@ -34,7 +44,10 @@ fn file_fault(alloc: Global, file: &str, kind: ErrorKind) -> Result<Fault, Alloc
             "check its name, and the folder that you are in",
         ),
         ErrorKind::InvalidData => (format!(in alloc; "{file} isn't UTF-8")?, "save it as UTF-8"),
-        kind => (format!(in alloc; "can't read {file}: {kind}")?, ""),
+        kind => (
+            format!(in alloc; "can't read {file}: {kind}")?,
+            advice_for_unreadable(kind),
+        ),
     };
     Ok(Fault::Read(Report::new(alloc, what.as_str(), advice)?))
 }
@@ -46,7 +59,13 @@ fn write_fault(alloc: Global, error: &io::Error) -> Result<Option<Fault>, AllocE
         return Ok(None);
     }
     let what = format!(in alloc; "can't write the answers: {error}")?;
-    Ok(Some(Fault::Write(Report::new(alloc, what.as_str(), "")?)))
+    let advice = match error.kind() {
+        ErrorKind::StorageFull | ErrorKind::QuotaExceeded => {
+            "free some space, or write to another disk"
+        }
+        _ => "check where standard output goes",
+    };
+    Ok(Some(Fault::Write(Report::new(alloc, what.as_str(), advice)?)))
 }
 
 /// Reads a file of definitions.
@@ -67,20 +86,6 @@ fn read_all_definitions<'a>(
         files.push(read_definitions(rt, name)?)?;
     }
     Ok(files)
-}
-
-/// Returns the texts of the patterns as they are compiled, rewritten if they were made for
-/// Logstash.
-fn adapt_patterns(
-    alloc: Global,
-    library: &mut Library<'_>,
-    texts: &[&str],
-) -> Result<Vec<String>, AllocError> {
-    let mut adapted = Vec::new(alloc);
-    for text in texts {
-        adapted.push(library.adapt(alloc, text, "the pattern")?)?;
-    }
-    Ok(adapted)
 }
 
 /// Writes these notes to standard error.
@@ -265,12 +270,13 @@ pub fn write_output(rt: &HostRuntime, text: &str) -> Result<(), Fault> {
 fn explain_all(
     rt: &HostRuntime,
     library: &Library<'_>,
-    texts: &[String],
+    texts: &[PatternText],
     patterns: &[Pattern],
     with_alias_only: bool,
 ) -> Result<(), Fault> {
     for (text, pattern) in texts.iter().zip(patterns) {
-        let lines = explain(rt.alloc(), library, text.as_str(), pattern, with_alias_only)?;
+        let text = text.text.as_str();
+        let lines = explain(rt.alloc(), library, text, pattern, with_alias_only)?;
         write_output(rt, lines.as_str())?;
     }
     Ok(())
