@@ -18,7 +18,7 @@ pub(crate) trait RowCheck {
 }
 
 /// Checks the row in each of its modes.
-fn check_row<C: RowCheck, R: Abort + AllocGlobal>(rt: &R, row: &Row) -> Result<(), Fail> {
+fn check_row<C: RowCheck>(rt: &(impl Abort + AllocGlobal), row: &Row) -> Result<(), Fail> {
     let grok = library(rt.alloc(), row.definitions)?;
     for with_alias_only in row.modes {
         C::check(rt, row, &grok, *with_alias_only)?;
@@ -27,10 +27,10 @@ fn check_row<C: RowCheck, R: Abort + AllocGlobal>(rt: &R, row: &Row) -> Result<(
 }
 
 /// Checks each row of the table, in each of its modes.
-pub(crate) fn check_rows<C: RowCheck>(rt: &HostRuntime) -> Result<(), Fail> {
+pub(crate) fn check_rows<C: RowCheck>(rt: &(impl Abort + AllocGlobal)) -> Result<(), Fail> {
     let rows = all_rows(rt.alloc())?;
     for row in &rows {
-        check_row::<C, HostRuntime>(rt, row)?;
+        check_row::<C>(rt, row)?;
     }
     Ok(())
 }

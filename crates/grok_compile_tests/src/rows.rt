@@ -513,7 +513,7 @@ pub(crate) trait RowCheck {
 }
 
 /// Checks each row of the table.
-pub(crate) fn check_rows<C: RowCheck>(rt: &HostRuntime) -> Result<(), Fail> {
+pub(crate) fn check_rows<C: RowCheck>(rt: &(impl Abort + AllocGlobal)) -> Result<(), Fail> {
     for row in ROWS.iter().chain(CLASHES) {
         C::check(rt, row)?;
     }

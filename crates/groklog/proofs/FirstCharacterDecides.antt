@@ -3,7 +3,7 @@ use Rattle.std.proofs.Common.{◌≡◌, ℕ, ◌<◌, Bool, true, false, List, 
 use lib.Utf8.{encode}
 use Rattle.std.proofs.lemmas.Str.{char_from_byte, length-encode, len_utf8_bounds, encode_ascii}
 use Rattle.std.proofs.lemmas.Bool.Decides.{nat_tests}
-use Rattle.groklog.specs.Definitions.{is_blank, without_blanks, definition_after}
+use Rattle.groklog.specs.Definitions.{is_blank, definition_after_blanks, definition_after}
 
 starts_with : (text more : List ℕ) (c : ℕ) → text ≡ encode c ++ more → c < 128 → text ≡ c ∷ more
 starts_with text more c e low = e ∙ ap (λ bs. bs ++ more) (encode_ascii c low)
@@ -15,10 +15,10 @@ after_nothing (b ∷ bs) e = absurd (omega arith)
 pub after_equals : (text more : List ℕ) → text ≡ encode 61 ++ more → definition_after text ≡ Some more
 after_equals text more e = rw (starts_with text more 61 e (omega arith)) refl
 
-pub after_space : (text more : List ℕ) → text ≡ encode 32 ++ more → definition_after text ≡ Some (without_blanks more)
+pub after_space : (text more : List ℕ) → text ≡ encode 32 ++ more → definition_after text ≡ definition_after_blanks more
 after_space text more e = rw (starts_with text more 32 e (omega arith)) refl
 
-pub after_tab : (text more : List ℕ) → text ≡ encode 9 ++ more → definition_after text ≡ Some (without_blanks more)
+pub after_tab : (text more : List ℕ) → text ≡ encode 9 ++ more → definition_after text ≡ definition_after_blanks more
 after_tab text more e = rw (starts_with text more 9 e (omega arith)) refl
 
 char_nonempty : (c : ℕ) (more : List ℕ) → 0 < length (encode c ++ more)

@@ -3,6 +3,7 @@
 use crate::diagnosis::report_of;
 use crate::fault::{Fault, Report};
 use crate::library::Library;
+use crate::pattern_text::PatternText;
 use grok::{Error, Pattern};
 use std::alloc::{AllocError, Global};
 
@@ -10,7 +11,7 @@ use std::alloc::{AllocError, Global};
 fn pattern_fault(
     alloc: Global,
     library: &Library<'_>,
-    pattern: &str,
+    pattern: &PatternText,
     with_alias_only: bool,
     error: &Error,
 ) -> Result<Fault, AllocError> {
@@ -27,10 +28,10 @@ fn pattern_fault(
 fn compile(
     alloc: Global,
     library: &Library<'_>,
-    pattern: &str,
+    pattern: &PatternText,
     with_alias_only: bool,
 ) -> Result<Pattern, Fault> {
-    match library.grok.compile(pattern, with_alias_only) {
+    match library.grok.compile(pattern.text.as_str(), with_alias_only) {
         Ok(compiled) => Ok(compiled),
         Err(error) => Err(pattern_fault(alloc, library, pattern, with_alias_only, &error)?),
     }
@@ -45,12 +46,12 @@ fn compile(
 pub fn compile_all(
     alloc: Global,
     library: &Library<'_>,
-    patterns: &[String],
+    patterns: &[PatternText],
     with_alias_only: bool,
 ) -> Result<Vec<Pattern>, Fault> {
     let mut all = Vec::new(alloc);
     for pattern in patterns {
-        all.push(compile(alloc, library, pattern.as_str(), with_alias_only)?)?;
+        all.push(compile(alloc, library, pattern, with_alias_only)?)?;
     }
     Ok(all)
 }

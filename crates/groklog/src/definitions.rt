@@ -1,9 +1,10 @@
 //! Reads definitions as users write them: in the lines of a file, and in the words after `-D`.
 ghost use Rattle.std.specs.Prelude.{◌≡◌, drop, option_map};
 ghost use Rattle.std.specs.List.{prefix_len, take_while};
+ghost use Rattle.grok.specs.Ascii.{equals_sign};
 ghost use Rattle.grok.specs.Maps.{pair_texts};
 ghost use Rattle.grok.specs.Pieces.{is_name_byte};
-ghost use Rattle.groklog.specs.Definitions.{is_blank, without_blanks, definition_after, definition_of};
+ghost use Rattle.groklog.specs.Definitions.{is_blank, without_blanks, begins_with, definition_after_blanks, definition_after, definition_of, is_spaced, name_of_spaced};
 
 use std::alloc::AllocError;
 use std::fmt;
@@ -55,8 +56,29 @@ fn skip_blanks(text: &str) -> &str
     rest
 }
 
+/// Returns whether a text begins with `=`.
+fn begins_with_equals(text: &str) -> bool
+    ensures { result ≡ begins_with equals_sign text.now }
+{
+    text.starts_with('=')
+}
+
+/// Returns the definition in `text`, which is what follows a name and a blank: the text after any
+/// further blanks. Returns `None` if that begins with `=`.
+fn definition_after_blanks(text: &str) -> Option<&str>
+    ensures { option_map (λ definition. definition.now) result ≡ definition_after_blanks text.now }
+{
+    let definition = skip_blanks(text);
+    if begins_with_equals(definition) {
+        None
+    } else {
+        Some(definition)
+    }
+}
+
 /// Returns the definition in `text`, which is what follows a name: the text after `=`, or the text
-/// after one or more blanks. Returns `None` if `text` begins with another character or is empty.
+/// after one or more blanks. Returns `None` if `text` begins with another character, if it is empty,
+/// or if `=` comes after the blanks.
 #[tactic(auto, using(crate::proofs::FirstCharacterDecides::texts_after_names))]
 fn definition_after(text: &str) -> Option<&str>
     ensures { option_map (λ definition. definition.now) result ≡ definition_after text.now }
@@ -64,13 +86,14 @@ fn definition_after(text: &str) -> Option<&str>
     let mut characters = text.chars();
     match characters.next()? {
         '=' => Some(characters.as_str()),
-        ' ' | '\t' => Some(skip_blanks(characters.as_str())),
+        ' ' | '\t' => definition_after_blanks(characters.as_str()),
         _ => None,
     }
 }
 
 /// Reads a definition of the form `NAME=DEF` or `NAME DEF`, and returns its name and its text.
-/// Returns `None` if the text doesn't have this form.
+/// Returns `None` if the text doesn't have this form. `NAME = DEF` isn't a definition: whoever
+/// writes that hardly means one that begins with `=`.
 pub fn read_definition(text: &str) -> Option<(&str, &str)>
     ensures { option_map pair_texts result ≡ definition_of text.now }
 {
@@ -80,6 +103,26 @@ pub fn read_definition(text: &str) -> Option<(&str, &str)>
     }
     let definition = definition_after(rest)?;
     Some((name, definition))
+}
+
+/// Returns whether a text begins with blanks, of which there is at least one, and `=`.
+fn is_spaced(text: &str) -> bool
+    ensures { result ≡ is_spaced text.now }
+{
+    !begins_with_equals(text) && begins_with_equals(skip_blanks(text))
+}
+
+/// Returns the name in a text such as `NAME = DEF`, in which blanks come between the name and `=`.
+/// Returns `None` if the text has another form.
+pub fn name_of_spaced(text: &str) -> Option<&str>
+    ensures { option_map (λ name. name.now) result ≡ name_of_spaced text.now }
+{
+    let (name, rest) = split_name(text);
+    if !name.is_empty() && is_spaced(rest) {
+        Some(name)
+    } else {
+        None
+    }
 }
 
 /// Where a definition was given.
@@ -116,15 +159,16 @@ fn without_return(line: &str) -> &str {
     line.strip_suffix('\r').unwrap_or(line)
 }
 
-/// Returns whether a line is skipped because it is a comment or has nothing but blanks.
+/// Returns whether a line is skipped because it is a comment or empty. The line has no blanks at
+/// its start.
 fn is_skipped(line: &str) -> bool {
-    let text = skip_blanks(line);
-    text.is_empty() || text.starts_with('#')
+    line.is_empty() || line.starts_with('#')
 }
 
 /// Appends the definitions in the text of a file to `found`. If a line is neither a definition nor
-/// skipped, stops there, and returns where the line is and the line itself. A byte order mark at
-/// the start of the text, which some editors on Windows write, is skipped too.
+/// skipped, stops there, and returns where the line is, and the line without the blanks that it
+/// begins with. A byte order mark at the start of the text, which some editors on Windows write, is
+/// skipped too.
 ///
 /// # Errors
 ///
@@ -138,12 +182,12 @@ pub fn read_file<'a>(
     let mut number = 0u64;
     for line in text.split('\n') {
         number = number.saturating_add(1);
-        let line = without_return(line);
+        let line = skip_blanks(without_return(line));
         if is_skipped(line) {
             continue;
         }
         let origin = Origin::Line { file, number };
-        match read_definition(skip_blanks(line)) {
+        match read_definition(line) {
             Some((name, text)) => found.push(Definition { name, text, origin })?,
             None => return Ok(Some((origin, line))),
         }

@@ -5,6 +5,7 @@ use crate::expansion::definitions_in;
 use crate::fault::Report;
 use crate::library::Library;
 use crate::logstash::is_refused;
+use crate::pattern_text::{PatternText, ordinal};
 use grok::parser::GrokPatternError;
 use grok::{Error, Fault, FaultLocation, Grok, RefusalReason, WrittenByte};
 use regex_syntax::ErrorKind;
@@ -61,7 +62,9 @@ fn advice_for_name(alloc: Global, grok: &Grok, name: &str) -> Result<String, All
         Some(nearest) => format!(in alloc;
             "write {nearest} if you mean that, or define {name} by -d FILE or -D {name}=DEF"
         ),
-        None => format!(in alloc; "define {name} by -d FILE or -D {name}=DEF"),
+        None => format!(in alloc;
+            "define {name} by -d FILE or -D {name}=DEF; examples/common.definitions has many"
+        ),
     }
 }
 
@@ -70,10 +73,11 @@ fn advice_for_name(alloc: Global, grok: &Grok, name: &str) -> Result<String, All
 fn describe_location(
     alloc: Global,
     library: &Library<'_>,
+    pattern: &PatternText,
     path: &[&str],
 ) -> Result<String, AllocError> {
     let Some((name, through)) = path.split_last() else {
-        return String::from_str(alloc, "the pattern");
+        return String::from_str(alloc, pattern.words.as_str());
     };
     let mut words = format!(in alloc; "the definition {name}")?;
     if let Some(source) = library.source(name) {
@@ -247,31 +251,19 @@ fn structural_report(
 fn located_report(
     alloc: Global,
     library: &Library<'_>,
-    pattern: &str,
+    pattern: &PatternText,
     error: &Error,
 ) -> Result<Option<Report>, AllocError> {
-    let Some(location) = library.grok.locate(pattern)? else {
+    let Some(location) = library.grok.locate(pattern.text.as_str())? else {
         return Ok(None);
     };
     if location.fault.to_error(alloc)? != *error {
         return Ok(None);
     }
     let (mut report, part) = structural_report(alloc, library, &location)?;
-    let words = describe_location(alloc, library, location.path.as_slice())?;
+    let words = describe_location(alloc, library, pattern, location.path.as_slice())?;
     report.add_part(words, excerpt(alloc, location.text, part)?)?;
     Ok(Some(report))
-}
-
-/// Returns an ordinal number in digits, such as `2nd`.
-fn ordinal(alloc: Global, number: u64) -> Result<String, AllocError> {
-    let ending = match (number % 100, number % 10) {
-        (11..=13, _) => "th",
-        (_, 1) => "st",
-        (_, 2) => "nd",
-        (_, 3) => "rd",
-        _ => "th",
-    };
-    format!(in alloc; "{number}{ending}")
 }
 
 /// Returns the base key and the number of a numbered key: `x` and 1 for `x[1]`.
@@ -298,16 +290,19 @@ fn clashing(alloc: Global, key: &str) -> Result<String, AllocError> {
 fn clash_report(
     alloc: Global,
     library: &Library<'_>,
-    pattern: &str,
+    pattern: &PatternText,
     with_alias_only: bool,
 ) -> Result<Option<Report>, AllocError> {
-    let Some(clash) = library.grok.locate_clash(pattern, with_alias_only)? else {
+    let Some(clash) = library
+        .grok
+        .locate_clash(pattern.text.as_str(), with_alias_only)?
+    else {
         return Ok(None);
     };
     let what = clashing(alloc, clash.key.as_str())?;
     let mut report = Report::new(alloc, what.as_str(), "give one of them another alias")?;
     for placeholder in [&clash.first, &clash.second] {
-        let words = describe_location(alloc, library, placeholder.path.as_slice())?;
+        let words = describe_location(alloc, library, pattern, placeholder.path.as_slice())?;
         let range = placeholder.range.start..placeholder.range.end;
         report.add_part(words, excerpt(alloc, placeholder.text, range)?)?;
     }
@@ -439,12 +434,12 @@ fn first_refused<'x>(
 fn syntax_report<'x>(
     alloc: Global,
     library: &'x Library<'_>,
-    pattern: &'x str,
+    pattern: &'x PatternText,
     with_alias_only: bool,
     error: regex_syntax::Error,
 ) -> Result<Report, AllocError> {
     let mut path = Vec::new(alloc);
-    let mut text = pattern;
+    let mut text = pattern.text.as_str();
     let mut error = error;
     for _ in 0..MOST_LEVELS {
         if !is_of_brackets(error.kind) {
@@ -464,18 +459,19 @@ fn syntax_report<'x>(
         path.push(*name)?;
     }
     let advice = advice_for_refusal(alloc, origin.text)?;
-    let words = describe_location(alloc, library, path.as_slice())?;
+    let words = describe_location(alloc, library, pattern, path.as_slice())?;
     let mut report = Report::new(alloc, what.as_str(), advice)?;
     report.add_part(words, excerpt(alloc, origin.text, origin.range)?)?;
     Ok(report)
 }
 
 /// Returns the report of a pattern that is too large for the engine.
-fn too_large(alloc: Global) -> Result<Report, AllocError> {
+fn too_large(alloc: Global, pattern: &PatternText) -> Result<Report, AllocError> {
+    let what = format!(in alloc; "{} is too large for the engine", pattern.words)?;
     Report::new(
         alloc,
-        "the pattern is too large for the engine",
-        "write fewer or smaller repetitions such as {1,1000}, or \\w and \\d for ASCII only: (?-u:\\w)",
+        what.as_str(),
+        "make repetitions such as {1,1000} fewer or smaller, or let \\w and \\d stand for ASCII only: (?-u:\\w)",
     )
 }
 
@@ -483,15 +479,18 @@ fn too_large(alloc: Global) -> Result<Report, AllocError> {
 fn refusal_report(
     alloc: Global,
     library: &Library<'_>,
-    pattern: &str,
+    pattern: &PatternText,
     with_alias_only: bool,
 ) -> Result<Report, AllocError> {
-    match library.grok.why_refused(pattern, with_alias_only) {
+    match library
+        .grok
+        .why_refused(pattern.text.as_str(), with_alias_only)
+    {
         Ok(Some(refusal)) => match refusal.reason {
             RefusalReason::Syntax(error) => {
                 syntax_report(alloc, library, pattern, with_alias_only, error)
             }
-            RefusalReason::TooBig => too_large(alloc),
+            RefusalReason::TooBig => too_large(alloc, pattern),
         },
         // The engine accepts this text now, so it was refused before because an allocation failed.
         Ok(None) => Err(AllocError),
@@ -509,7 +508,7 @@ fn refusal_report(
 pub fn report_of(
     alloc: Global,
     library: &Library<'_>,
-    pattern: &str,
+    pattern: &PatternText,
     with_alias_only: bool,
     error: &Error,
 ) -> Result<Report, AllocError> {
@@ -523,11 +522,14 @@ pub fn report_of(
         return Ok(report);
     }
     match error {
-        Error::CompiledPatternIsEmpty(_) => Report::new(
-            alloc,
-            "the pattern is empty",
-            "write a regular expression, with placeholders such as %{USERNAME:user}",
-        ),
+        Error::CompiledPatternIsEmpty(_) => {
+            let what = format!(in alloc; "{} is empty", pattern.words)?;
+            Report::new(
+                alloc,
+                what.as_str(),
+                "write a regular expression, with placeholders such as %{USERNAME:user}",
+            )
+        }
         // This doesn't happen: all other errors are reported above.
         error => {
             let what = error.to_string(alloc)?;

@@ -1,6 +1,7 @@
 //! Explains patterns for `--explain`, without reading lines.
 
 use crate::expansion::{Expansion, Step};
+use crate::group_names::meant_key;
 use crate::library::Library;
 use grok::{Measure, Pattern};
 use regex::Regex;
@@ -44,12 +45,6 @@ fn keys_of<'x>(
     Ok(keys)
 }
 
-/// Returns the number of a placeholder from the name `_n_NUMBER` of its group, if the name has that
-/// form.
-fn number_of(group: &str) -> Option<usize> {
-    group.strip_prefix("_n_")?.parse().ok()
-}
-
 /// Appends the line that shows a key, with its group and its extract.
 fn push_key(
     alloc: Global,
@@ -79,12 +74,7 @@ fn push_keys(
         let Some(name) = name else {
             continue;
         };
-        let name = name.as_str();
-        let key = match number_of(name) {
-            Some(number) => keys.get(number).map(|key| key.as_str()).unwrap_or(name),
-            None => name,
-        };
-        push_key(alloc, lines, pattern, key, group)?;
+        push_key(alloc, lines, pattern, meant_key(name.as_str(), keys), group)?;
     }
     Ok(())
 }

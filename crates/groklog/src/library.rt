@@ -1,7 +1,7 @@
 //! Builds the library of definitions that patterns are compiled with: the default definitions,
 //! those from files, and those from the words after `-D`.
 
-use crate::definitions::{Definition, Origin, read_file, read_word};
+use crate::definitions::{Definition, Origin, name_of_spaced, read_file, read_word};
 use crate::excerpt::excerpt;
 use crate::fault::{Fault, Report};
 use crate::logstash::{Rewritten, rewrite};
@@ -36,9 +36,21 @@ pub struct Library<'a> {
 
 /// Returns the fault that reports that a line or a word isn't a definition.
 fn no_definition(alloc: Global, origin: Origin<'_>, line: &str) -> Result<Fault, AllocError> {
-    let advice = "write NAME=DEF or NAME DEF, where a NAME has a-z A-Z 0-9 _";
+    let mut report = match name_of_spaced(line) {
+        Some(name) => {
+            let advice = format!(in alloc;
+                "write {name}=DEF without blanks around the =; for a definition that begins with =, write {name}==.."
+            )?;
+            let what = "this definition has a blank before its =";
+            Report::new(alloc, what, advice.as_str())?
+        }
+        None => Report::new(
+            alloc,
+            "this isn't a definition",
+            "write NAME=DEF or NAME DEF, where a NAME has a-z A-Z 0-9 _",
+        )?,
+    };
     let location = format!(in alloc; "{origin}")?;
-    let mut report = Report::new(alloc, "this isn't a definition", advice)?;
     report.add_part(location, excerpt(alloc, line, 0..line.len())?)?;
     Ok(Fault::Pattern(report))
 }

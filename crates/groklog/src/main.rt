@@ -8,9 +8,11 @@ mod excerpt;
 mod expansion;
 mod explain;
 mod fault;
+mod group_names;
 mod library;
 mod logstash;
 mod options;
+mod pattern_text;
 mod run;
 mod watched;
 

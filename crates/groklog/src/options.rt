@@ -16,10 +16,11 @@ const USAGE: &str =
 /// The examples at the end of the help.
 const EXAMPLES: &str =
     "A pattern is a regular expression with placeholders: %{NAME}, %{NAME:key} or %{NAME:key:int}.\n\
-    Standard input is read if no file is named, and for the file -.\n\n\
+    Standard input is read if no file is named, and for the file -.\n\
+    examples/common.definitions defines the names that users of Logstash know.\n\n\
     Examples:\n  \
     groklog '%{USERNAME:user} logged in' auth.log\n  \
-    groklog -d patterns.txt --typed '%{COMMONAPACHELOG}' access.log | jq .response\n  \
+    groklog -d examples/common.definitions --typed '%{COMMONAPACHELOG}' access.log | jq .response\n  \
     groklog --typed -D 'NUM=\\d+' '%{NUM:n:int}' counts.log\n\n\
     Exit status: 0, 1 for a fault of a pattern or a definition, 2 for wrong options, 3 if memory, reading or writing fails.";
 
@@ -101,7 +102,7 @@ fn flag<'a>(alloc: Global, id: &'a str, help: &'a str) -> Arg<'a> {
 /// Adds the options that name patterns and definitions.
 fn with_sources<'a>(alloc: Global, command: Command<'a>) -> Result<Command<'a>, AllocError> {
     let words = Arg::new(alloc, "words")
-        .value_name("PATTERN")
+        .value_names(&["PATTERN", "FILE"])
         .help("The pattern, unless -e gives one, and then the files")
         .num_args(0..)
         .action(ArgAction::Append);

@@ -1,13 +1,17 @@
 //! Runs the program over files, or over standard input.
+ghost use Rattle.std.specs.Prelude.{◌≡◌, IfOk};
+ghost use Rattle.grok_lines.specs.Streams.{HasAnsweredInputThen};
+ghost use Rattle.grok_lines.specs.Traffic.{traffic};
 
 use crate::compiled::{compile_all, taken_key};
 use crate::explain::explain;
 use crate::fault::{Fault, Report};
 use crate::library::{DefinitionFile, Library};
 use crate::options::{Options, repeated_key};
+use crate::pattern_text::{PatternText, adapt_patterns};
 use crate::watched::{Watched, shows_progress};
 use grok::Pattern;
-use grok_lines::{LinesError, answer_lines};
+use grok_lines::{LineAnswers, LinesError, answer_lines};
 use groklog_answers::{Layout, LogAnswers, NamedPattern, OutputFormat};
 use std::alloc::{AllocError, Global};
 use std::fs::{self, File};
@@ -22,6 +26,15 @@ enum Answered {
     Enough,
 }
 
+/// Returns the advice for a file that is there but can't be opened or read.
+fn advice_for_unreadable(kind: ErrorKind) -> &'static str {
+    match kind {
+        ErrorKind::IsADirectory => "name the files in it",
+        ErrorKind::PermissionDenied => "check with ls -l who may read it",
+        _ => "check whether cat can read it",
+    }
+}
+
 /// Returns the fault that reports that a file can't be opened or read.
 fn file_fault(alloc: Global, file: &str, kind: ErrorKind) -> Result<Fault, AllocError> {
     let (what, advice) = match kind {
@@ -31,7 +44,10 @@ fn file_fault(alloc: Global, file: &str, kind: ErrorKind) -> Result<Fault, Alloc
             "check its name, and the folder that you are in",
         ),
         ErrorKind::InvalidData => (format!(in alloc; "{file} isn't UTF-8")?, "save it as UTF-8"),
-        kind => (format!(in alloc; "can't read {file}: {kind}")?, ""),
+        kind => (
+            format!(in alloc; "can't read {file}: {kind}")?,
+            advice_for_unreadable(kind),
+        ),
     };
     Ok(Fault::Read(Report::new(alloc, what.as_str(), advice)?))
 }
@@ -43,7 +59,13 @@ fn write_fault(alloc: Global, error: &io::Error) -> Result<Option<Fault>, AllocE
         return Ok(None);
     }
     let what = format!(in alloc; "can't write the answers: {error}")?;
-    Ok(Some(Fault::Write(Report::new(alloc, what.as_str(), "")?)))
+    let advice = match error.kind() {
+        ErrorKind::StorageFull | ErrorKind::QuotaExceeded => {
+            "free some space, or write to another disk"
+        }
+        _ => "check where standard output goes",
+    };
+    Ok(Some(Fault::Write(Report::new(alloc, what.as_str(), advice)?)))
 }
 
 /// Reads a file of definitions.
@@ -64,20 +86,6 @@ fn read_all_definitions<'a>(
         files.push(read_definitions(rt, name)?)?;
     }
     Ok(files)
-}
-
-/// Returns the texts of the patterns as they are compiled, rewritten if they were made for
-/// Logstash.
-fn adapt_patterns(
-    alloc: Global,
-    library: &mut Library<'_>,
-    texts: &[&str],
-) -> Result<Vec<String>, AllocError> {
-    let mut adapted = Vec::new(alloc);
-    for text in texts {
-        adapted.push(library.adapt(alloc, text, "the pattern")?)?;
-    }
-    Ok(adapted)
 }
 
 /// Writes these notes to standard error.
@@ -166,18 +174,24 @@ fn lines_fault(
     }
 }
 
-/// Answers each line of an input. Faults call the input `name`.
-fn answer_input<R: Read>(
-    rt: &HostRuntime,
-    answers: &mut LogAnswers<'_>,
+/// Answers each line of an input, and writes the answers to `output`. Faults call the input `name`.
+fn answer_input<A: LineAnswers, R: Read, W: Write>(
+    alloc: Global,
+    answers: &mut A,
     input: &mut Watched<'_, R>,
+    output: &mut W,
     name: &str,
-) -> Result<Answered, Fault> {
-    let answered = answer_lines(rt.alloc(), answers, input, &mut io::writer(rt));
+) -> Result<Answered, Fault>
+    ensures { IfOk result (λ answered. answered ≡ Answered.All
+        → HasAnsweredInputThen (A.answer answers.old) (A.answer answers.new)
+        (traffic (R.remaining input.old.input) (R.remaining input.new.input)
+        (W.contents output.old) (W.contents output.new))) }
+{
+    let answered = answer_lines(alloc, answers, input, output);
     let failure = input.finish();
     match answered {
         Ok(()) => Ok(Answered::All),
-        Err(error) => match lines_fault(rt.alloc(), name, failure, &error)? {
+        Err(error) => match lines_fault(alloc, name, failure, &error)? {
             None => Ok(Answered::Enough),
             Some(fault) => Err(fault),
         },
@@ -207,12 +221,18 @@ fn answer_file(
     name: &str,
     shows: bool,
 ) -> Result<Answered, Fault> {
+    let alloc = rt.alloc();
+    let mut output = io::writer(rt);
     if name == "-" {
-        return answer_input(rt, answers, &mut Watched::new(rt.stdin()), "standard input");
+        let mut input = Watched::new(rt.stdin());
+        return answer_input(alloc, answers, &mut input, &mut output, "standard input");
     }
     match File::open(rt, name) {
-        Ok(file) => answer_input(rt, answers, &mut watch(rt, file, name, shows), name),
-        Err(error) => Err(file_fault(rt.alloc(), name, error.kind())?),
+        Ok(file) => {
+            let mut input = watch(rt, file, name, shows);
+            answer_input(alloc, answers, &mut input, &mut output, name)
+        }
+        Err(error) => Err(file_fault(alloc, name, error.kind())?),
     }
 }
 
@@ -250,12 +270,13 @@ pub fn write_output(rt: &HostRuntime, text: &str) -> Result<(), Fault> {
 fn explain_all(
     rt: &HostRuntime,
     library: &Library<'_>,
-    texts: &[String],
+    texts: &[PatternText],
     patterns: &[Pattern],
     with_alias_only: bool,
 ) -> Result<(), Fault> {
     for (text, pattern) in texts.iter().zip(patterns) {
-        let lines = explain(rt.alloc(), library, text.as_str(), pattern, with_alias_only)?;
+        let text = text.text.as_str();
+        let lines = explain(rt.alloc(), library, text, pattern, with_alias_only)?;
         write_output(rt, lines.as_str())?;
     }
     Ok(())

@@ -133,6 +133,8 @@ impl<'a, R> Watched<'a, R> {
 }
 
 impl<'a, R: Read> Read for Watched<'a, R> {
+    ghost remaining = { λ watched. R.remaining watched.input };
+
     fn read(&mut self, buf: &mut [u8]) -> io::Result<usize> {
         match self.input.read(buf) {
             Ok(count) => {
