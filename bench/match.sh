@@ -94,9 +94,13 @@ compare() {
     fi
 }
 
-# How many times as fast as another tool a tool is: `faster PATTERN-AND-LOG TOOL OTHER`.
+# How many times as fast as another tool a tool is, or `-` if the other one wasn't run: `faster PATTERN-AND-LOG TOOL OTHER`.
 faster() {
-    ratio "${best[$1 $3]:-0}" "${best[$1 $2]}"
+    if [ -n "${best[$1 $3]:-}" ]; then
+        ratio "${best[$1 $3]}" "${best[$1 $2]}"
+    else
+        echo -
+    fi
 }
 
 # Lines a second, a row for each tool.
