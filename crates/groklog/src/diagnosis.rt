@@ -7,7 +7,10 @@ use crate::library::Library;
 use crate::logstash::is_refused;
 use crate::pattern_text::{PatternText, ordinal};
 use grok::parser::GrokPatternError;
-use grok::{Error, Fault, FaultLocation, Grok, RefusalReason, WrittenByte};
+use grok::{
+    ClashLocation, Error, Fault, FaultLocation, FirstFaultLocation, Grok, RefusalReason,
+    WrittenByte,
+};
 use regex_syntax::ErrorKind;
 use std::alloc::{AllocError, Global};
 use std::ops::Range;
@@ -245,25 +248,17 @@ fn structural_report(
     }
 }
 
-/// Returns the report of the pattern's first structural fault. Returns `None` if there is none, or
-/// if `error` isn't its error but that of a clash before it (two placeholders that would get the
-/// same key).
+/// Returns the report of a pattern whose first fault is the structural one at this location.
 fn located_report(
     alloc: Global,
     library: &Library<'_>,
     pattern: &PatternText,
-    error: &Error,
-) -> Result<Option<Report>, AllocError> {
-    let Some(location) = library.grok.locate(pattern.text.as_str())? else {
-        return Ok(None);
-    };
-    if location.fault.to_error(alloc)? != *error {
-        return Ok(None);
-    }
-    let (mut report, part) = structural_report(alloc, library, &location)?;
+    location: &FaultLocation<'_>,
+) -> Result<Report, AllocError> {
+    let (mut report, part) = structural_report(alloc, library, location)?;
     let words = describe_location(alloc, library, pattern, location.path.as_slice())?;
     report.add_part(words, excerpt(alloc, location.text, part)?)?;
-    Ok(Some(report))
+    Ok(report)
 }
 
 /// Returns the base key and the number of a numbered key: `x` and 1 for `x[1]`.
@@ -285,20 +280,13 @@ fn clashing(alloc: Global, key: &str) -> Result<String, AllocError> {
     )
 }
 
-/// Returns the report of a pattern whose first fault is that two placeholders get the same key, or
-/// `None` if its first fault is another one.
+/// Returns the report of a pattern whose first fault is that two placeholders get the same key.
 fn clash_report(
     alloc: Global,
     library: &Library<'_>,
     pattern: &PatternText,
-    with_alias_only: bool,
-) -> Result<Option<Report>, AllocError> {
-    let Some(clash) = library
-        .grok
-        .locate_clash(pattern.text.as_str(), with_alias_only)?
-    else {
-        return Ok(None);
-    };
+    clash: &ClashLocation<'_>,
+) -> Result<Report, AllocError> {
     let what = clashing(alloc, clash.key.as_str())?;
     let mut report = Report::new(alloc, what.as_str(), "give one of them another alias")?;
     for placeholder in [&clash.first, &clash.second] {
@@ -306,7 +294,7 @@ fn clash_report(
         let range = placeholder.range.start..placeholder.range.end;
         report.add_part(words, excerpt(alloc, placeholder.text, range)?)?;
     }
-    Ok(Some(report))
+    Ok(report)
 }
 
 /// Returns the advice for a text that the engine refuses.
@@ -320,7 +308,7 @@ fn advice_for_refusal(alloc: Global, text: &str) -> Result<&'static str, AllocEr
 
 /// Where a part of an expanded text comes from.
 #[derive(Drop)]
-struct Origin<'a> {
+struct WrittenFrom<'a> {
     /// The names of the placeholders that lead from the pattern to the definition, outermost first.
     path: Vec<&'a str>,
     text: &'a str,
@@ -339,12 +327,12 @@ fn origin_of<'x>(
     pattern: &'x str,
     with_alias_only: bool,
     part: Range<usize>,
-) -> Result<Origin<'x>, AllocError> {
+) -> Result<WrittenFrom<'x>, AllocError> {
     let Some(location) = library
         .grok
         .locate_byte(pattern, with_alias_only, part.start)?
     else {
-        return Ok(Origin {
+        return Ok(WrittenFrom {
             path: Vec::new(alloc),
             text: pattern,
             range: 0..pattern.len(),
@@ -355,7 +343,7 @@ fn origin_of<'x>(
         WrittenByte::Copied(offset) => {
             let start = location.range.start.saturating_add(offset);
             let end = start.saturating_add(part.end.saturating_sub(part.start));
-            Ok(Origin {
+            Ok(WrittenFrom {
                 path,
                 text: location.text,
                 range: start..end.min(location.range.end),
@@ -363,7 +351,7 @@ fn origin_of<'x>(
         }
         WrittenByte::OfGroup { name, definition } => {
             path.push(name)?;
-            Ok(Origin {
+            Ok(WrittenFrom {
                 path,
                 text: definition,
                 range: 0..definition.len(),
@@ -500,6 +488,25 @@ fn refusal_report(
     }
 }
 
+/// Returns the report of a pattern that has no fault in its placeholders, but can't be compiled.
+fn other_report(alloc: Global, pattern: &PatternText, error: &Error) -> Result<Report, AllocError> {
+    match error {
+        Error::CompiledPatternIsEmpty(_) => {
+            let what = format!(in alloc; "{} is empty", pattern.words)?;
+            Report::new(
+                alloc,
+                what.as_str(),
+                "write a regular expression, with placeholders such as %{USERNAME:user}",
+            )
+        }
+        // This doesn't happen: all other errors are reported elsewhere.
+        error => {
+            let what = error.to_string(alloc)?;
+            Report::new(alloc, what.as_str(), "")
+        }
+    }
+}
+
 /// Returns the report of why a pattern can't be compiled. `error` is what compiling it returned.
 ///
 /// # Errors
@@ -515,25 +522,14 @@ pub fn report_of(
     if matches!(error, Error::RegexCompilationFailed(_)) {
         return refusal_report(alloc, library, pattern, with_alias_only);
     }
-    if let Some(report) = located_report(alloc, library, pattern, error)? {
-        return Ok(report);
-    }
-    if let Some(report) = clash_report(alloc, library, pattern, with_alias_only)? {
-        return Ok(report);
-    }
-    match error {
-        Error::CompiledPatternIsEmpty(_) => {
-            let what = format!(in alloc; "{} is empty", pattern.words)?;
-            Report::new(
-                alloc,
-                what.as_str(),
-                "write a regular expression, with placeholders such as %{USERNAME:user}",
-            )
+    let first = library
+        .grok
+        .locate_first(pattern.text.as_str(), with_alias_only)?;
+    match first {
+        Some(FirstFaultLocation::Structural(location)) => {
+            located_report(alloc, library, pattern, &location)
         }
-        // This doesn't happen: all other errors are reported above.
-        error => {
-            let what = error.to_string(alloc)?;
-            Report::new(alloc, what.as_str(), "")
-        }
+        Some(FirstFaultLocation::Clash(clash)) => clash_report(alloc, library, pattern, &clash),
+        None => other_report(alloc, pattern, error),
     }
 }

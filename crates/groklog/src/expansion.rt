@@ -36,7 +36,7 @@ impl<'a> Placeholder<'a> {
 
 /// One step of reading the expanded text.
 #[derive(Clone, Copy)]
-pub enum Step<'a> {
+pub enum ExpansionStep<'a> {
     /// A part without placeholders.
     Text,
     /// The start of the group of a placeholder.
@@ -165,7 +165,7 @@ impl<'a, 'd> Expansion<'a, 'd> {
         &mut self,
         mut frame: Frame<'a>,
         mut placeholder: Placeholder<'a>,
-    ) -> Result<Step<'a>, AllocError> {
+    ) -> Result<ExpansionStep<'a>, AllocError> {
         let name = placeholder.name;
         if !placeholder.definition.is_empty() {
             frame.inline.push((name, placeholder.definition))?;
@@ -176,7 +176,7 @@ impl<'a, 'd> Expansion<'a, 'd> {
         let (head, is_named) = group_head(self.rest());
         self.skip(head);
         placeholder.is_capturing = is_named;
-        Ok(Step::Open(placeholder))
+        Ok(ExpansionStep::Open(placeholder))
     }
 
     /// Reads the next piece of the innermost open text, or its end. Returns `None` at the end of
@@ -185,7 +185,7 @@ impl<'a, 'd> Expansion<'a, 'd> {
     /// # Errors
     ///
     /// If an allocation fails.
-    pub fn next(&mut self) -> Result<Option<Step<'a>>, AllocError> {
+    pub fn next(&mut self) -> Result<Option<ExpansionStep<'a>>, AllocError> {
         let Some(mut frame) = self.frames.pop() else {
             return Ok(None);
         };
@@ -193,7 +193,7 @@ impl<'a, 'd> Expansion<'a, 'd> {
             Some(GrokComponent::RegularExpression { string, .. }) => {
                 self.frames.push(frame)?;
                 self.skip(string.len());
-                Ok(Some(Step::Text))
+                Ok(Some(ExpansionStep::Text))
             }
             Some(
                 GrokComponent::GrokPattern {
@@ -219,7 +219,7 @@ impl<'a, 'd> Expansion<'a, 'd> {
                 Ok(if self.frames.is_empty() {
                     None
                 } else {
-                    Some(Step::Close)
+                    Some(ExpansionStep::Close)
                 })
             }
         }

@@ -1,6 +1,6 @@
 //! Explains patterns for `--explain`, without reading lines.
 
-use crate::expansion::{Expansion, Step};
+use crate::expansion::{Expansion, ExpansionStep};
 use crate::group_names::meant_key;
 use crate::library::Library;
 use grok::{Measure, Pattern};
@@ -33,7 +33,7 @@ fn keys_of<'x>(
         let Some(step) = expansion.next()? else {
             break;
         };
-        if let Step::Open(placeholder) = step
+        if let ExpansionStep::Open(placeholder) = step
             && placeholder.is_capturing
         {
             let key = placeholder.key();
