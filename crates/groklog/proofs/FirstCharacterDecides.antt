@@ -1,9 +1,9 @@
 -- The first character after a name decides how the rest is read.
-use Rattle.std.proofs.Common.{◌≡◌, ℕ, ◌<◌, Bool, true, false, List, [], ◌∷◌, ◌++◌, length, Option, Some, None, refl, sym, ap, ◌∙◌, arith, length-append}
+use Rattle.std.proofs.Common.{◌≡◌, ℕ, ◌<◌, List, [], ◌∷◌, ◌++◌, length, Some, None, refl, ap, ◌∙◌, arith, length-append}
 use lib.Utf8.{encode}
 use Rattle.std.proofs.lemmas.Str.{char_from_byte, length-encode, len_utf8_bounds, encode_ascii}
 use Rattle.std.proofs.lemmas.Bool.Decides.{nat_tests}
-use Rattle.groklog.specs.Definitions.{is_blank, definition_after_blanks, definition_after}
+use Rattle.groklog.specs.Definitions.{definition_after_blanks, definition_after}
 
 starts_with : (text more : List ℕ) (c : ℕ) → text ≡ encode c ++ more → c < 128 → text ≡ c ∷ more
 starts_with text more c e low = e ∙ ap (λ bs. bs ++ more) (encode_ascii c low)
