@@ -46,6 +46,12 @@ abbrev pub IsNextOf : Needles → List ℕ → ℕ → Option ℕ → Type 0
 IsNextOf needles hay start found = MatchOption found (Nowhere (HasLiteralAt needles hay) start (length hay + 1))
     (NoneBefore (HasLiteralAt needles hay) start (length hay + 1))
 
+-- `at` is where the first literal of `facts.inner` is that begins at `start` or later. If there is no `facts.inner`,
+-- `at` is any position from `start` on.
+abbrev pub IsLiteralOf : MatchFacts → List ℕ → ℕ → ℕ → Type 0
+IsLiteralOf facts hay start at =
+    (start ≤ at) × (at ≤ length hay) × IfSome facts.inner (λ inner. IsNextOf inner hay start (Some at))
+
 -- No match starts at `start` or later and before the position `found`. If `found` is `None`, no match starts at
 -- `start` or later.
 abbrev pub IsPositionOf : Program → List ℕ → ℕ → Option ℕ → Type 0

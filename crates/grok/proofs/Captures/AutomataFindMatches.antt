@@ -1,5 +1,5 @@
 -- The automata that are built from a text find the match that `regex` finds for that text.
-use Rattle.std.proofs.Common.{◌≡◌, ℕ, zero, suc, ◌+◌, ◌-◌, ◌*◌, ◌/◌, ◌<◌, ◌≤◌, ◌==◌, List, [], ◌∷◌, length, map, get_or, slice_index, Option, None, Some, IfSome, IsSomeAnd, option_map, All, true, refl, sym, ap, ap₂, subst, ◌∙◌, ⊎_elim, arith, ne_eqb, IsCharBoundary, slice_range}
+use Rattle.std.proofs.Common.{◌≡◌, ℕ, zero, suc, ◌+◌, ◌-◌, ◌*◌, ◌/◌, ◌<◌, ◌≤◌, ◌==◌, List, [], ◌∷◌, length, map, get_or, slice_index, Option, None, Some, IfSome, IfNone, IsSomeAnd, is_some, option_map, All, true, refl, sym, ap, ap₂, subst, ◌∙◌, ⊎_elim, arith, ne_eqb, IsCharBoundary, slice_range}
 use Rattle.std.specs.List.{range_with_len}
 use Rattle.std.specs.Option.{option_or}
 use Rattle.std.specs.Str.{chars}
@@ -13,8 +13,13 @@ use Rattle.regex_hir.specs.Meaning.{meaning}
 use Rattle.regex_hir.specs.Text.{is_boundary}
 use Rattle.regex_hir.specs.declared.hir.Hir.{Hir}
 use Rattle.regex_hir.proofs.OptionLemmas.{option_cases, option_or-None}
+use Rattle.regex_dfa.specs.Search.{end_from, IsViable}
+use Rattle.regex_dfa.specs.declared.reverse.Start.TheVariants.{At}
+use Rattle.regex_hir.proofs.FindLemmas.{first_between_here, first_between_none, first_between_of_IsFirst, IsFirst-of_first_between}
 use Rattle.regex_meta.proofs.LeftmostLemmas.{find_none, find_skip, attempt_fits}
-use Rattle.regex_meta.proofs.PlansLemmas.{not_at_prefix, reaches_needle}
+use Rattle.regex_meta.proofs.PlansLemmas.{not_at_prefix, only_at_start, reaches_needle, skip_unreached}
+use Rattle.regex_meta.proofs.ProgramLemmas.{first_match-leftmost, first_match_at_start, none_of_option_map, refuted, unreached, value_of_option_map}
+use Rattle.regex_nfa.specs.Run.{run}
 use Rattle.regex_meta.specs.Plans.{Serve}
 use Rattle.regex_meta.specs.declared.plan.Role.TheVariants.{Inner}
 use Rattle.regex_meta.specs.declared.program.Program.{Program}
@@ -22,7 +27,7 @@ use Rattle.regex_meta.specs.Programs.{pattern_of, leftmost}
 use Rattle.regex_syntax.specs.Grammar.{Names, read}
 use Rattle.regex_syntax.specs.Verdict.{Reads, default_config}
 use Rattle.regex_syntax.proofs.CapturesLemmas as seen
-use Rattle.regex_vm.specs.Found.{span, cell, group_cells}
+use Rattle.regex_vm.specs.Found.{first_match, span, cell, group_cells}
 use Rattle.regex.specs.Patterns.{SameCaptures}
 use Rattle.regex.specs.Strings.{regex_pattern, regex_source}
 use Rattle.regex.specs.Writes.{both}
@@ -31,7 +36,7 @@ use Rattle.regex.proofs.SearchLemmas.{leftmost_none, leftmost_here}
 use Rattle.regex.proofs.ForCallers.{span_alike, found_alike}
 use Rattle.regex.proofs.Utf8Lemmas.{test_of_IsCharBoundary}
 use Rattle.grok.specs.RegexFinds.{IsReadByDefault, texts_at, span_of_group, captures_in}
-use Rattle.grok.specs.OwnSearches.{IsTreeOf, BeginsEach, IsInEach, AreMatchFactsOf, IsNextOf, IsPositionOf, span_of_pair, span_of_cells}
+use Rattle.grok.specs.OwnSearches.{IsTreeOf, BeginsEach, IsInEach, AreMatchFactsOf, IsLiteralOf, IsNextOf, IsPositionOf, span_of_pair, span_of_cells}
 use Rattle.grok.specs.declared.engine.match_facts.MatchFacts.{MatchFacts}
 use Rattle.grok.specs.declared.engine.match_facts.Needles.{Needles}
 use Rattle.grok.proofs.Trees.StepsCompile.{no_bytes}
@@ -168,6 +173,37 @@ no_groups (Some m) = refl
 pub no_cells : (cells : List ℕ) (o : Option Match) → (length cells == 0) ≡ true → IfSome o (λ m. cells ≡ group_cells m (length cells))
 no_cells cells o e = rw (no_bytes cells e) (no_groups o)
 
+-- ---- a match at one position
+
+module _ (p : Program) (hay : List ℕ) where
+  -- if each match starts where the line starts, the search there finds the first one
+  pub leftmost_at_start : (facts : MatchFacts) → ∥ AreMatchFactsOf (pattern_of p) facts ∥₁ → facts.at_start ≡ true →
+      first_match p.dfa.nfa hay (length hay) 0 0 ≡ leftmost p hay 0
+  leftmost_at_start facts h is = first_match_at_start p hay (λ i t late inside e.
+      refuted h (λ m. only_at_start (pattern_of p) hay (m.start is) i t late inside e))
+
+  -- a match that starts at a position is the first from there on
+  pub leftmost_at : (at : ℕ) (found : ℕ × ℕ) → at ≤ length hay →
+      Some found ≡ option_map span (first_match p.dfa.nfa hay (length hay) at at) →
+      first_match p.dfa.nfa hay (length hay) at at ≡ leftmost p hay at
+  leftmost_at at found fits e =
+      let v = value_of_option_map span _ found (sym e) in
+      let first = IsFirst-of_first_between _ at at v.0 v.1 in
+      let whole = first_between_of_IsFirst _ at (length hay) v.0
+      (record { from = first.from; to = omega (arith, first.to); here = first.here; before = first.before }) in
+      v.1 ∙ sym whole ∙ first_match-leftmost p hay at
+
+  -- the end of the match that starts at a position gives its span
+  pub span_of_end : (at : ℕ) (end : Option ℕ) → end_from p.dfa.nfa hay (length hay) p.dfa.nfa.start at ≡ end →
+      option_map (λ e. (at, e)) end ≡ option_map span (first_match p.dfa.nfa hay (length hay) at at)
+  span_of_end at None none =
+      sym (ap (option_map span) (first_between_none _ at at (λ i low high.
+      let here : i ≡ at = omega arith in
+      subst (λ (k : ℕ). run p.dfa.nfa hay (length hay) p.dfa.nfa.start k ≡ None) (sym here) (none_of_option_map _ _ none))))
+  span_of_end at (Some end) ends =
+      let v = value_of_option_map _ _ end ends in
+      ap (λ (e : ℕ). Some (at, e)) (sym v.2) ∙ sym (ap (option_map span) (first_between_here _ at at v.0 (omega arith) v.1))
+
 -- ---- where a match can lie
 
 pub of_first : (re : Re) (facts : MatchFacts) (n : Needles) → ∥ AreMatchFactsOf re facts ∥₁ → facts.first ≡ Some n → ∥ BeginsEach re n ∥₁
@@ -201,3 +237,33 @@ module _ (p : Program) (hay : List ℕ) (n : Needles) (bytes : All (λ b. b < 25
         attempt_fits (pattern_of p) hay i t high e,
         reaches_needle (pattern_of p) hay n.literals bytes (Some n.frame) None inner start (length hay + 1) nowhere i t low e,
       ))
+
+  -- if there is no next literal, there is no match
+  pub none_if_missing : ∥ IsInEach (pattern_of p) n ∥₁ → (start : ℕ) (found : Option ℕ) → IsNextOf n hay start found →
+      IfNone found (leftmost p hay start ≡ None)
+  none_if_missing contains start None nowhere = none_without_literal contains start nowhere
+  none_if_missing contains start (Some at) next = tt
+
+  -- no match starts before the first position from which a match could reach the next literal
+  pub position_of_viable : ∥ IsInEach (pattern_of p) n ∥₁ → (start literal from : ℕ) → IsNextOf n hay start (Some literal) →
+      IsViable p.dfa.nfa hay start literal (At from) → IsPositionOf p hay start (Some from)
+  position_of_viable contains start literal from next viable =
+      let inner : Serve (pattern_of p) Inner n.literals (Some n.frame) None = ∥∥₁_elim contains ∥∥₁_prop (λ it. ∣ (it, tt) ∣₁) in (
+        viable.0,
+        omega (arith, viable.1, next.high),
+        skip_unreached (pattern_of p) hay start from literal viable.0 (unreached p hay start from literal viable.2)
+            (reaches_needle (pattern_of p) hay n.literals bytes (Some n.frame) None inner start literal next.before),
+      )
+
+module _ (p : Program) (hay : List ℕ) (facts : MatchFacts) (bytes : All (λ b. b < 256) hay)
+    (hold : ∥ AreMatchFactsOf (pattern_of p) facts ∥₁) (start literal from : ℕ)
+    (viable : IsViable p.dfa.nfa hay start literal (At from)) where
+  position_in : (inner : Option Needles) → facts.inner ≡ inner → is_some inner ≡ true →
+      IfSome inner (λ n. IsNextOf n hay start (Some literal)) → IsPositionOf p hay start (Some from)
+  position_in None is some next = absurd (cc some)
+  position_in (Some n) is some next =
+      position_of_viable p hay n bytes (of_inner (pattern_of p) facts n hold is) start literal from next viable
+
+  -- the same from the facts that hold for each match
+  pub position_of_literal : is_some facts.inner ≡ true → IsLiteralOf facts hay start literal → IsPositionOf p hay start (Some from)
+  position_of_literal some there = position_in facts.inner refl some there.2

@@ -1,9 +1,9 @@
 //! Finds out where in a line a match can start, from the literals that each match of a pattern has.
-ghost use Rattle.std.specs.Prelude.{◌≡◌, ◌≤◌, Some, length, IfOk, IfSome};
+ghost use Rattle.std.specs.Prelude.{◌≡◌, ◌≤◌, Some, None, length, option_map, IfOk, IfSome, IfNone, IsFalse};
 ghost use Rattle.regex_extract.specs.Needles.{needles_of};
 ghost use Rattle.regex_extract.specs.Frames.{StartsFramed, IsInner};
-ghost use Rattle.regex_meta.specs.Programs.{pattern_of};
-ghost use Rattle.grok.specs.OwnSearches.{BeginsEach, IsInEach, AreMatchFactsOf, IsNextOf, IsPositionOf};
+ghost use Rattle.regex_meta.specs.Programs.{pattern_of, leftmost};
+ghost use Rattle.grok.specs.OwnSearches.{BeginsEach, IsInEach, AreMatchFactsOf, IsLiteralOf, IsNextOf, IsPositionOf};
 
 use regex_extract::{Frame, Framed, Frames, Inner};
 use regex_literal::{Bounded, Prefilter};
@@ -23,6 +23,28 @@ pub(crate) struct MatchFacts {
     pub(crate) inner: Option<Needles>,
     /// If not `None`, each match contains one of these literals too.
     pub(crate) second: Option<Needles>,
+}
+
+/// What the last lines were like. It decides what is tried first on the next line, and no answer
+/// depends on it.
+#[derive(Clone, Copy)]
+pub(crate) struct Recent {
+    /// Whether the last match that wasn't guessed started at the first position where one can start.
+    pub(crate) starts_first: bool,
+    /// Whether the last line had a match that started where a guess would have looked for it.
+    pub(crate) guesses: bool,
+    /// Whether the last line that lacked literals lacked those of `second`.
+    pub(crate) lacks_second: bool,
+}
+
+/// Where the first match of a line can lie.
+#[derive(Clone, Copy)]
+pub(crate) struct Bounds {
+    /// No match starts before this position.
+    pub(crate) start: usize,
+    /// Where the first literal of `inner` is, from `start` on. Each match reaches it. If there is no
+    /// `inner`, it is the end of the line.
+    pub(crate) literal: usize,
 }
 
 /// Literals, and the bytes that may stand around them in a match.
@@ -60,22 +82,33 @@ impl MatchFacts {
         })
     }
 
-    /// Returns a position such that no match starts before it, or `None` if the line has no match
-    /// because it lacks literals that each match has.
-    pub(crate) fn first_position(&self, program: &Program, hay: &[u8]) -> Option<usize>
+    /// Returns where the first match can lie, or `None` if the line has no match because it lacks
+    /// literals that each match has. Notes in `recent` which literals it lacked.
+    pub(crate) fn bounds(
+        &self,
+        program: &Program,
+        recent: &mut Recent,
+        hay: &[u8],
+    ) -> Option<Bounds>
         requires facts_hold { ∥ AreMatchFactsOf (pattern_of program.now) self.now ∥₁ }
-        ensures { IsPositionOf program.now hay.now 0 result }
+        ensures start { IsPositionOf program.now hay.now 0 (option_map (λ b. b.start) result) }
+        ensures literal { IfSome result (λ b. IsLiteralOf self.now hay.now b.start b.literal) }
     {
-        let Some(position) = self.next_position(program, hay, 0) else {
+        let Some(start) = self.next_start(program, hay, 0) else {
             return None;
         };
-        let Some(second) = &self.second else {
-            return Some(position);
-        };
-        match second.next(hay, position) {
-            Some(_) => Some(position),
-            None => None,
+        if recent.lacks_second && !self.has_second(program, hay, start) {
+            return None;
         }
+        let Some(literal) = self.next_literal(program, hay, start) else {
+            recent.lacks_second = false;
+            return None;
+        };
+        if !recent.lacks_second && !self.has_second(program, hay, start) {
+            recent.lacks_second = true;
+            return None;
+        }
+        Some(Bounds { start, literal })
     }
 
     /// Returns a position such that no match starts between `start` and it, or `None` if no match
@@ -88,12 +121,40 @@ impl MatchFacts {
         let Some(position) = self.next_start(program, hay, start) else {
             return None;
         };
-        let Some(inner) = &self.inner else {
-            return Some(position);
-        };
-        match inner.next(hay, position) {
+        match self.next_literal(program, hay, position) {
             Some(_) => Some(position),
             None => None,
+        }
+    }
+
+    /// Returns where the first literal of `inner` is, from `start` on, or the end of the line if there is
+    /// no `inner`. Returns `None` if the line has none of these literals there, so that no match
+    /// starts at `start` or later.
+    fn next_literal(&self, program: &Program, hay: &[u8], start: usize) -> Option<usize>
+        requires facts_hold { ∥ AreMatchFactsOf (pattern_of program.now) self.now ∥₁ }
+        requires inside { start ≤ length hay.now }
+        ensures some { IfSome result (IsLiteralOf self.now hay.now start) }
+        ensures none { IfNone result (leftmost program.now hay.now start ≡ None) }
+    {
+        match &self.inner {
+            Some(inner) => inner.next(hay, start),
+            None => Some(hay.len()),
+        }
+    }
+
+    /// Returns whether the line has a literal of `second`, from `start` on. If there is no `second`,
+    /// returns true.
+    fn has_second(&self, program: &Program, hay: &[u8], start: usize) -> bool
+        requires facts_hold { ∥ AreMatchFactsOf (pattern_of program.now) self.now ∥₁ }
+        requires inside { start ≤ length hay.now }
+        ensures { IsFalse result → leftmost program.now hay.now start ≡ None }
+    {
+        let Some(second) = &self.second else {
+            return true;
+        };
+        match second.next(hay, start) {
+            Some(_) => true,
+            None => false,
         }
     }
 
@@ -142,17 +203,6 @@ impl Needles {
                     from = at + 1;
                 }
             }
-        }
-    }
-
-    /// Returns the same as `next`, but the end of the line instead of `None`.
-    pub(crate) fn next_or_end(&self, hay: &[u8], start: usize) -> usize
-        requires { start ≤ length hay.now }
-        ensures { (start ≤ result) × (result ≤ length hay.now) }
-    {
-        match self.next(hay, start) {
-            Some(at) => at,
-            None => hay.len(),
         }
     }
 }

@@ -1,17 +1,17 @@
 //! A search that owns its automata and their tables, and keeps both from line to line.
-ghost use Rattle.std.specs.Prelude.{◌≡◌, ◌+◌, ◌-◌, ◌/◌, ◌≤◌, true, Some, None, length, vec_len, string_bytes, option_map, slice_range, IfOk, IfSome, OnOk, IsTrue, IsFalse, IsCharBoundary};
+ghost use Rattle.std.specs.Prelude.{◌≡◌, ◌+◌, ◌-◌, ◌/◌, ◌≤◌, true, Some, None, length, vec_len, string_bytes, option_map, slice_range, IfOk, IfSome, IfNone, OnOk, IsTrue, IsFalse, IsCharBoundary};
 ghost use Rattle.regex.specs.Patterns.{find_str, span};
 ghost use Rattle.regex.specs.Strings.{regex_source, regex_names};
 ghost use Rattle.regex_dfa.specs.Search.{IsForwardFor, IsReverseFor};
 ghost use Rattle.regex_meta.specs.Programs.{pattern_of, leftmost};
 ghost use Rattle.regex_meta.specs.Located.{EndsAt};
 ghost use Rattle.regex_tagged.specs.Valid.{IsFor};
-ghost use Rattle.regex_vm.specs.Found.{group_cells};
+ghost use Rattle.regex_vm.specs.Found.{first_match, group_cells};
 ghost use Rattle.grok.specs.Captures.{text_of, capture_texts, found_texts, IsSliceOf, AreSlicesOf, IsMatchIn};
 ghost use Rattle.grok.specs.RegexFinds.{IsReadByDefault, captures_by, text_at, texts_at};
-ghost use Rattle.grok.specs.OwnSearches.{IsTreeOf, AreMatchFactsOf, span_of_cells};
+ghost use Rattle.grok.specs.OwnSearches.{IsTreeOf, AreMatchFactsOf, IsLiteralOf, IsPositionOf, span_of_cells};
 
-use crate::engine::match_facts::{MatchFacts, Needles};
+use crate::engine::match_facts::{Bounds, MatchFacts, Recent};
 use regex::Regex;
 use regex_dfa::{End, Forward, Reverse, Start};
 use regex_meta::Program;
@@ -35,6 +35,8 @@ pub(crate) struct OwnSearch {
     reverse: Reverse,
     /// Searches a line where the automata give up.
     backtracker: Backtracker,
+    /// What the last lines were like.
+    recent: Recent,
     /// From group 1 on, a start and an end for each group: a position plus one, or 0 for none.
     cells: Vec<usize>,
     ghost read: { ∥ IsTreeOf (string_bytes source) program.hir ∥₁ },
@@ -70,6 +72,11 @@ impl OwnSearch {
             forward,
             reverse,
             backtracker: Backtracker::new(alloc),
+            recent: Recent {
+                starts_first: true,
+                guesses: false,
+                lacks_second: false,
+            },
             cells,
         })
     }
@@ -135,6 +142,7 @@ impl OwnSearch {
         let by_automata = leftmost_by_automata(
             &self.program,
             &self.facts,
+            &mut self.recent,
             &mut self.tagged,
             &mut self.forward,
             &mut self.reverse,
@@ -149,12 +157,16 @@ impl OwnSearch {
     }
 }
 
-/// Finds the span of the first match by the lazy automata. Then the tagged automaton finds the
-/// groups inside this span, and writes where each starts and ends to `cells` (see
-/// `OwnSearch::cells`). Returns `Declined` if an automaton gives up.
+/// Finds the span of the first match by the lazy automata, and writes where each of its groups starts
+/// and ends to `cells` (see `OwnSearch::cells`). Returns `Declined` if an automaton gives up.
+///
+/// Where the line before suggests that a match starts, the tagged automaton is tried at once, since it
+/// finds the groups in the same pass. Otherwise the other automata find the span first, and the
+/// tagged automaton reads only that.
 fn leftmost_by_automata(
     program: &Program,
     facts: &MatchFacts,
+    recent: &mut Recent,
     tagged: &mut Tagged,
     forward: &mut Forward,
     reverse: &mut Reverse,
@@ -173,10 +185,71 @@ fn leftmost_by_automata(
     ensures ahead { IsForwardFor forward.new program.now.dfa }
     ensures back { IsReverseFor reverse.new program.now.dfa }
 {
-    let Some(whole) = first_span(program, facts, forward, reverse, hay)? else {
+    if facts.at_start {
+        return Ok(match_at(program, tagged, forward, hay, 0, cells)?);
+    }
+    if recent.guesses {
+        let Some(bounds) = facts.bounds(program, recent, hay) else {
+            return Ok(None);
+        };
+        let from = likely_start(program, facts, recent, reverse, hay, bounds);
+        if let Some(whole) = match_at(program, tagged, forward, hay, from, cells)? {
+            return Ok(Some(whole));
+        }
+    }
+    let Some(whole) = first_span(program, facts, recent, forward, reverse, hay)? else {
         return Ok(None);
     };
     groups_within(program, tagged, hay, whole, cells)
+}
+
+/// Finds the span of the match that starts at this position, and writes the cells of its groups. If
+/// there is none, the cells stay as they are.
+fn match_at(
+    program: &Program,
+    tagged: &mut Tagged,
+    forward: &mut Forward,
+    hay: &[u8],
+    position: usize,
+    cells: &mut [usize],
+) -> Result<Option<(usize, usize)>, Declined>
+    requires inside { position ≤ length hay.now }
+    requires own { IsFor tagged.old program.now.dfa }
+    requires ahead { IsForwardFor forward.old program.now.dfa }
+    ensures span { IfOk result (λ found. found ≡ option_map span
+        (first_match program.now.dfa.nfa hay.now (length hay.now) position position)) }
+    ensures cells { OnOk result (IfSome
+        (first_match program.now.dfa.nfa hay.now (length hay.now) position position)
+        (λ m. cells.new ≡ group_cells m (length cells.old))) }
+    ensures kept { IfOk result (λ found. IfNone found (cells.new ≡ cells.old)) }
+    ensures own { IsFor tagged.new program.now.dfa }
+    ensures ahead { IsForwardFor forward.new program.now.dfa }
+{
+    if cells.is_empty() {
+        return Ok(span_at(program, forward, hay, position)?);
+    }
+    let found = tagged.find_at(&program.dfa, hay, position, hay.len(), cells)?;
+    Ok(found)
+}
+
+/// Finds the span of the match that starts at this position.
+fn span_at(
+    program: &Program,
+    forward: &mut Forward,
+    hay: &[u8],
+    position: usize,
+) -> Result<Option<(usize, usize)>, Declined>
+    requires inside { position ≤ length hay.now }
+    requires ahead { IsForwardFor forward.old program.now.dfa }
+    ensures span { IfOk result (λ found. found ≡ option_map span
+        (first_match program.now.dfa.nfa hay.now (length hay.now) position position)) }
+    ensures ahead { IsForwardFor forward.new program.now.dfa }
+{
+    match forward.find_end(&program.dfa, hay, position, hay.len(), true, false) {
+        End::At(end) => Ok(Some((position, end))),
+        End::NoMatch => Ok(None),
+        End::Idle(_) | End::GaveUp => Err(Declined),
+    }
 }
 
 /// Writes the cells of the groups of the first match, whose span is known, and returns that span.
@@ -236,11 +309,12 @@ fn program_of(alloc: Global, text: &str) -> Result<Program, Declined>
     Ok(program)
 }
 
-/// Finds the span of the first match, unless an automaton gives up. A match at the first position
-/// where one can start is tried before all others, because its start is known.
+/// Finds the span of the first match, unless an automaton gives up, and notes in `recent` where it
+/// starts.
 fn first_span(
     program: &Program,
     facts: &MatchFacts,
+    recent: &mut Recent,
     forward: &mut Forward,
     reverse: &mut Reverse,
     hay: &[u8],
@@ -253,66 +327,93 @@ fn first_span(
     ensures ahead { IsForwardFor forward.new program.now.dfa }
     ensures back { IsReverseFor reverse.new program.now.dfa }
 {
-    if program.at_end && !facts.at_start {
-        return span_at_end(program, reverse, hay);
+    recent.guesses = false;
+    if program.at_end {
+        let found = span_at_end(program, reverse, hay)?;
+        if let Some((start, _)) = found {
+            recent.guesses = is_worth_a_guess(program, facts, recent, hay, start);
+        }
+        return Ok(found);
     }
-    let Some(position) = facts.first_position(program, hay) else {
+    let Some(bounds) = facts.bounds(program, recent, hay) else {
         return Ok(None);
     };
-    match forward.find_end(&program.dfa, hay, position, hay.len(), true, false) {
-        End::At(end) => Ok(Some((position, end))),
-        End::NoMatch => Ok(span_after(program, facts, forward, reverse, hay, position)?),
-        End::Idle(_) | End::GaveUp => Err(Declined),
+    let Bounds {
+        start: first,
+        literal,
+    } = bounds;
+    let from = likely_start(program, facts, recent, reverse, hay, bounds);
+    let found = span_after(program, facts, forward, reverse, hay, from, literal)?;
+    if let Some((start, _)) = found {
+        recent.starts_first = start == first;
+        recent.guesses = start == from;
+    }
+    Ok(found)
+}
+
+/// Returns whether a guess would have found the match of a pattern whose matches end where the line
+/// ends. If the pattern has no groups, the guess saves nothing.
+fn is_worth_a_guess(
+    program: &Program,
+    facts: &MatchFacts,
+    recent: &mut Recent,
+    hay: &[u8],
+    start: usize,
+) -> bool
+    requires facts_hold { ∥ AreMatchFactsOf (pattern_of program.now) facts.now ∥₁ }
+{
+    if program.dfa.nfa.slot_count <= 2 {
+        return false;
+    }
+    match facts.bounds(program, recent, hay) {
+        Some(bounds) => bounds.start == start,
+        None => false,
     }
 }
 
-/// Finds the span of the first match that starts after this position, unless an automaton gives up.
+/// Returns where the first match is likely to start, if there is one. No match starts before it.
+///
+/// If the last match started at the first position where one can start, that is this position again.
+/// Otherwise it is the first one from which a match could reach the literal.
+fn likely_start(
+    program: &Program,
+    facts: &MatchFacts,
+    recent: &Recent,
+    reverse: &mut Reverse,
+    hay: &[u8],
+    bounds: Bounds,
+) -> usize
+    requires facts_hold { ∥ AreMatchFactsOf (pattern_of program.now) facts.now ∥₁ }
+    requires start { bounds.start ≤ length hay.now }
+    requires literal { IsLiteralOf facts.now hay.now bounds.start bounds.literal }
+    requires back { IsReverseFor reverse.old program.now.dfa }
+    ensures position { IsPositionOf program.now hay.now bounds.start (Some result) }
+    ensures before { result ≤ bounds.literal }
+    ensures back { IsReverseFor reverse.new program.now.dfa }
+{
+    let Bounds { start, literal } = bounds;
+    if recent.starts_first || facts.inner.is_none() {
+        return start;
+    }
+    match reverse.find_viable(&program.dfa, hay, start, literal) {
+        Start::At(from) => from,
+        Start::NoMatch | Start::GaveUp => start,
+    }
+}
+
+/// Finds the span of the first match that starts at `from` or later, unless an automaton gives up.
+/// `literal` is where the first literal of `facts.inner` after `from` is.
 fn span_after(
     program: &Program,
     facts: &MatchFacts,
     forward: &mut Forward,
     reverse: &mut Reverse,
     hay: &[u8],
-    position: usize,
-) -> Result<Option<(usize, usize)>, Declined>
-    requires facts_hold { ∥ AreMatchFactsOf (pattern_of program.now) facts.now ∥₁ }
-    requires inside { position ≤ length hay.now }
-    requires ahead { IsForwardFor forward.old program.now.dfa }
-    requires back { IsReverseFor reverse.old program.now.dfa }
-    ensures span { IfOk result (λ found. found
-        ≡ option_map span (leftmost program.now hay.now (position + 1))) }
-    ensures ahead { IsForwardFor forward.new program.now.dfa }
-    ensures back { IsReverseFor reverse.new program.now.dfa }
-{
-    if facts.at_start {
-        return Ok(None);
-    }
-    if position == hay.len() {
-        return Ok(None);
-    }
-    let Some(from) = facts.next_position(program, hay, position + 1) else {
-        return Ok(None);
-    };
-    match &facts.inner {
-        Some(inner) => Ok(span_by_needles(program, facts, inner, forward, reverse, hay, from)?),
-        None => Ok(span_from(program, forward, reverse, hay, from)?),
-    }
-}
-
-/// Finds the span of the first match that starts at `from` or later, unless an automaton gives up.
-/// If the line has only one of the literals, then no match starts after it. So the search stops as
-/// soon as none of the matches that start before it can go on.
-fn span_by_needles(
-    program: &Program,
-    facts: &MatchFacts,
-    inner: &Needles,
-    forward: &mut Forward,
-    reverse: &mut Reverse,
-    hay: &[u8],
     from: usize,
+    literal: usize,
 ) -> Result<Option<(usize, usize)>, Declined>
     requires facts_hold { ∥ AreMatchFactsOf (pattern_of program.now) facts.now ∥₁ }
-    requires inside { from ≤ length hay.now }
+    requires inside { (from ≤ literal) × (literal ≤ length hay.now) }
     requires ahead { IsForwardFor forward.old program.now.dfa }
     requires back { IsReverseFor reverse.old program.now.dfa }
     ensures span { IfOk result (λ found. found
@@ -320,10 +421,31 @@ fn span_by_needles(
     ensures ahead { IsForwardFor forward.new program.now.dfa }
     ensures back { IsReverseFor reverse.new program.now.dfa }
 {
-    let last = inner.next_or_end(hay, from);
-    if may_start_after(program, facts, hay, last) {
+    if facts.inner.is_none() || may_start_after(program, facts, hay, literal) {
         return Ok(span_from(program, forward, reverse, hay, from)?);
     }
+    Ok(span_within(program, forward, reverse, hay, from, literal)?)
+}
+
+/// Finds the span of the first match that starts at `from` or later, if none starts after `last`. The
+/// search stops as soon as none of the matches that start before it can go on.
+fn span_within(
+    program: &Program,
+    forward: &mut Forward,
+    reverse: &mut Reverse,
+    hay: &[u8],
+    from: usize,
+    last: usize,
+) -> Result<Option<(usize, usize)>, Declined>
+    requires inside { (from ≤ last) × (last ≤ length hay.now) }
+    requires last { leftmost program.now hay.now (last + 1) ≡ None }
+    requires ahead { IsForwardFor forward.old program.now.dfa }
+    requires back { IsReverseFor reverse.old program.now.dfa }
+    ensures span { IfOk result (λ found. found
+        ≡ option_map span (leftmost program.now hay.now from)) }
+    ensures ahead { IsForwardFor forward.new program.now.dfa }
+    ensures back { IsReverseFor reverse.new program.now.dfa }
+{
     match forward.find_end_within(&program.dfa, hay, from, last, hay.len(), false) {
         End::At(end) => Ok(Some(span_to(program, reverse, hay, from, end)?)),
         End::NoMatch => Ok(None),

@@ -78,6 +78,8 @@ impl Engine for RegexEngine {
 
 /// Searches one line with a new matcher. Returns the text of each group of the first match, or
 /// `None` if nothing matches.
+#[cold]
+#[inline(never)]
 fn captures_uncached<'t>(
     alloc: Global,
     regex: &Regex,

@@ -87,6 +87,8 @@ impl Stage {
 }
 
 /// Builds the search of a text, on the heap.
+#[cold]
+#[inline(never)]
 fn boxed(alloc: Global, text: &str) -> Result<Box<OwnSearch>, Declined> {
     let search = OwnSearch::build(alloc, text)?;
     let Ok(search) = Box::new(alloc, search) else {
