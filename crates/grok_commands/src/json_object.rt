@@ -1,5 +1,5 @@
 //! The pairs of a match as a JSON object, which `serde_json` writes.
-ghost use Rattle.std.specs.Prelude.{◌≡◌, ◌++◌, OnOk};
+ghost use Rattle.std.specs.Prelude.{◌≡◌, ◌++◌, ◌∷◌, [], IfOk};
 ghost use Rattle.grok_commands.specs.JsonEvents.{SendsObject};
 ghost use Rattle.grok_commands.specs.JsonObjects.{object_text, ReadsBack};
 ghost use Rattle.grok.specs.Answers.{walk};
@@ -28,25 +28,19 @@ impl<'m> Serialize for MatchObject<'m> {
     }
 }
 
-/// Appends the pairs of a match to `text` as a JSON object, with no spaces between keys and values.
-///
-/// # Errors
-///
-/// If an allocation fails. It isn't stated what `text` has then.
-pub fn write_object(
-    alloc: Global,
-    text: &mut Vec<u8>,
-    matches: MatchesRef<'_>,
-) -> Result<(), AllocError>
-    ensures object { OnOk result (text.new.items ≡ text.old.items
-        ++ object_text (walk (borrowed_keys matches.entry) (borrowed_captures matches.entry))) }
-    ensures reads_back { OnOk result (ReadsBack (walk (borrowed_keys matches.entry)
+/// Returns the pairs of a match as a JSON object, with no spaces between keys and values, and a line
+/// feed.
+pub fn object_line(alloc: Global, matches: MatchesRef<'_>) -> Result<Vec<u8>, AllocError>
+    ensures object { IfOk result (λ line. line.items
+        ≡ object_text (walk (borrowed_keys matches.entry) (borrowed_captures matches.entry)) ++ 10 ∷ []) }
+    ensures reads_back { IfOk result (λ _. ReadsBack (walk (borrowed_keys matches.entry)
         (borrowed_captures matches.entry))
         (object_text (walk (borrowed_keys matches.entry) (borrowed_captures matches.entry)))) }
 {
     // Serializing fails only if an allocation fails.
-    match serde_json::to_vec(alloc, &MatchObject(matches)) {
-        Ok(object) => text.extend_from_slice(&object),
-        Err(_) => Err(AllocError),
-    }
+    let Ok(mut line) = serde_json::to_vec(alloc, &MatchObject(matches)) else {
+        return Err(AllocError);
+    };
+    line.push(b'\n')?;
+    Ok(line)
 }

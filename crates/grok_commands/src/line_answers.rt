@@ -1,11 +1,11 @@
 //! The answers of `match` and of `json` to a line.
-ghost use Rattle.std.specs.Prelude.{◌≡◌, ◌++◌, OnOk, Some, None, option_map, if◌then◌else◌, flat_map};
+ghost use Rattle.std.specs.Prelude.{◌≡◌, ◌++◌, OnOk, OnErr, Some, None, option_map, if◌then◌else◌, flat_map};
 ghost use Rattle.std.specs.Str.{is_utf8};
 ghost use Rattle.grok_commands.specs.LineTexts.{pair_line, not_utf8_text, no_match_text, match_text};
 ghost use Rattle.grok.specs.Answers.{walk};
 ghost use Rattle.grok.specs.BorrowedMatches.{borrowed_keys, borrowed_captures};
 
-use crate::json_object::write_object;
+use crate::json_object::object_line;
 use grok::{HasMatcher, MatcherOf, MatchesRef};
 use grok_lines::LineAnswers;
 use std::alloc::{AllocError, Global};
@@ -75,22 +75,28 @@ impl LineFormat {
         }
     }
 
-    /// Appends the answer to a line with this match.
+    /// Appends the answer to a line with this match. If an allocation fails, appends nothing.
+    /// `pairs` is a buffer, and what it has before is lost.
     fn write_match(
         self,
         alloc: Global,
         text: &mut Vec<u8>,
+        pairs: &mut Vec<u8>,
         matches: MatchesRef<'_>,
     ) -> Result<(), AllocError>
-        ensures { OnOk result (text.new.items ≡ text.old.items
+        ensures text { OnOk result (text.new.items ≡ text.old.items
             ++ match_text self (walk (borrowed_keys matches.entry) (borrowed_captures matches.entry))) }
+        ensures memory { OnErr result (text.new.items ≡ text.old.items) }
     {
         match self {
-            LineFormat::Pairs => write_pairs(text, matches)?,
-            LineFormat::Object => write_object(alloc, text, matches)?,
+            LineFormat::Pairs => {
+                pairs.clear();
+                write_pairs(pairs, matches)?;
+                pairs.push(b'\n')?;
+                text.extend_from_slice(pairs)
+            }
+            LineFormat::Object => text.extend_from_slice(&object_line(alloc, matches)?),
         }
-        text.push(b'\n')?;
-        Ok(())
     }
 }
 
@@ -100,8 +106,8 @@ pub struct MatchAnswers<'p, E: HasMatcher<'p>> {
     pub alloc: Global,
     pub format: LineFormat,
     pub matcher: MatcherOf<'p, E>,
-    /// The buffer for the answer to one match. It is cleared before each match.
-    pub answer: Vec<u8>,
+    /// The buffer for the pairs of one match.
+    pub pairs: Vec<u8>,
 }
 
 impl<'p, E: HasMatcher<'p>> LineAnswers for MatchAnswers<'p, E> {
@@ -126,9 +132,7 @@ impl<'p, E: HasMatcher<'p>> LineAnswers for MatchAnswers<'p, E> {
         let Some(matches) = self.matcher.find(line)? else {
             return text.extend_from_slice(self.format.no_match());
         };
-        self.answer.clear();
         self.format
-            .write_match(self.alloc, &mut self.answer, matches)?;
-        text.extend_from_slice(&self.answer)
+            .write_match(self.alloc, text, &mut self.pairs, matches)
     }
 }

@@ -3,17 +3,17 @@ use Rattle.grok.specs.Answers.{walk}
 use Rattle.grok.specs.BorrowedMatches.{borrowed_keys, borrowed_captures}
 use Rattle.grok_commands.specs.JsonObjects.{object_text, ReadsBack}
 use Rattle.grok_commands.proofs.ObjectsReadBack.{text_of_sent, reads_back}
-use Rattle.grok_commands.proofs.json_object.write_object.Goals as goal
+use Rattle.grok_commands.proofs.json_object.object_line.Goals as goal
 
-pub returns-in-Ok-clause-object : goal.returns-in-Ok-clause-object
-returns-in-Ok-clause-object c =
+pub returns-clause-object : goal.returns-clause-object
+returns-clause-object c =
     let sent = c.in-Ok.ensures.events in
     let pairs = walk (borrowed_keys c.args.matches) (borrowed_captures c.args.matches) in
-    let written : c.in-Ok.object.items ≡ object_text pairs = text_of_sent pairs sent.0 c.in-Ok.object.items sent.1 sent.2 in
+    let written : c.in-Ok.line.items ≡ object_text pairs = text_of_sent pairs sent.0 c.in-Ok.line.items sent.1 sent.2 in
     search rules
 
-pub returns-in-Ok-clause-reads_back : goal.returns-in-Ok-clause-reads_back
-returns-in-Ok-clause-reads_back c =
+pub returns-clause-reads_back : goal.returns-clause-reads_back
+returns-clause-reads_back c =
     let pairs = walk (borrowed_keys c.args.matches) (borrowed_captures c.args.matches) in
     let back : ReadsBack pairs (object_text pairs) = reads_back pairs in
     search rules
