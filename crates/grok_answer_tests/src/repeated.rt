@@ -127,6 +127,33 @@ const ROWS: &[Row] = &[
         ],
     },
     Row {
+        name: "a match that starts at the first word or later",
+        definitions: &[("NUM", "[0-9]+"), ("WORD", "[a-z]+")],
+        pattern: r"%{WORD:word} is %{NUM:number} \(ok\)",
+        lines: &[
+            ("tea is 12 (ok)", "number=12, word=tea"),
+            ("water is 3 (ok)", "number=3, word=water"),
+            ("the tea is 3 (ok)", "number=3, word=tea"),
+            ("tea was 3 (ok)", "no match"),
+            ("tea is 3 (no)", "no match"),
+            ("tea is 3 (no), tea is 4 (ok)", "number=4, word=tea"),
+            ("(ok) tea is 5", "no match"),
+            ("", "no match"),
+        ],
+    },
+    Row {
+        name: "a match that ends where the line ends",
+        definitions: &[("NUM", "[0-9]+"), ("WORD", "[a-z]+")],
+        pattern: "%{NUM:number} %{WORD:word}$",
+        lines: &[
+            ("12 tea", "number=12, word=tea"),
+            ("3 water", "number=3, word=water"),
+            ("2 3 tea", "number=3, word=tea"),
+            ("12 tea;", "no match"),
+            ("tea", "no match"),
+        ],
+    },
+    Row {
         name: "empty matches",
         definitions: &[],
         pattern: "(?<all>x*)",
