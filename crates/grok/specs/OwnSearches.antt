@@ -7,7 +7,8 @@ use Rattle.regex_hir.specs.Re.{Re}
 use Rattle.regex_hir.specs.declared.hir.Hir.{Hir}
 use Rattle.regex_literal.specs.Find.{Nowhere, NoneBefore}
 use Rattle.regex_meta.specs.Plans.{IsCandidate}
-use Rattle.regex_meta.specs.Programs.{leftmost}
+use Rattle.regex_meta.specs.Located.{EndsAt}
+use Rattle.regex_meta.specs.Programs.{pattern_of, leftmost}
 use Rattle.regex_meta.specs.declared.program.Program.{Program}
 use Rattle.regex_syntax.specs.Grammar.{Names}
 use Rattle.regex_syntax.specs.Verdict.{Reads, default_config}
@@ -70,3 +71,8 @@ abbrev pub span_of_cells : ℕ × ℕ → List ℕ → ℕ → Option (ℕ × �
 span_of_cells whole cells group =
     if group == 0 then Some whole
     else span_of_pair (slice_index cells (2 * group - 2)) (slice_index cells (2 * group - 1))
+
+-- `found` is where the first match ends that starts at `from` or later. If it is `None`, there is no such match.
+abbrev pub IsFirstEnd : Program → List ℕ → ℕ → Option ℕ → Type 0
+IsFirstEnd program hay from found =
+    MatchOption found (leftmost program hay from ≡ None) (EndsAt (pattern_of program) hay from from)

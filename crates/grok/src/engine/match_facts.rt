@@ -29,12 +29,14 @@ pub(crate) struct MatchFacts {
 /// depends on it.
 #[derive(Clone, Copy)]
 pub(crate) struct Recent {
-    /// Whether the last match that wasn't guessed started at the first position where one can start.
+    /// Whether the last match started at the first position where one can start.
     pub(crate) starts_first: bool,
-    /// Whether the last line had a match that started where a guess would have looked for it.
+    /// Whether the last line had a match where a guess would have looked for it.
+    hit: bool,
+    /// Whether the line before had one as well. Then the next match is guessed.
     pub(crate) guesses: bool,
     /// Whether the last line that lacked literals lacked those of `second`.
-    pub(crate) lacks_second: bool,
+    lacks_second: bool,
 }
 
 /// Where the first match of a line can lie.
@@ -168,6 +170,22 @@ impl MatchFacts {
             Some(first) => first.next(hay, start),
             None => program.first_place(hay, start),
         }
+    }
+}
+
+impl Recent {
+    /// What is assumed before the first line.
+    pub(crate) const UNKNOWN: Recent = Recent {
+        starts_first: true,
+        hit: false,
+        guesses: false,
+        lacks_second: false,
+    };
+
+    /// Notes whether a guess would have found the match of the last line.
+    pub(crate) fn note(&mut self, hit: bool) {
+        self.guesses = self.hit && hit;
+        self.hit = hit;
     }
 }
 

@@ -9,7 +9,7 @@ ghost use Rattle.regex_tagged.specs.Valid.{IsFor};
 ghost use Rattle.regex_vm.specs.Found.{first_match, group_cells};
 ghost use Rattle.grok.specs.Captures.{text_of, capture_texts, found_texts, IsSliceOf, AreSlicesOf, IsMatchIn};
 ghost use Rattle.grok.specs.RegexFinds.{IsReadByDefault, captures_by, text_at, texts_at};
-ghost use Rattle.grok.specs.OwnSearches.{IsTreeOf, AreMatchFactsOf, IsLiteralOf, IsPositionOf, span_of_cells};
+ghost use Rattle.grok.specs.OwnSearches.{IsTreeOf, AreMatchFactsOf, IsLiteralOf, IsPositionOf, IsFirstEnd, span_of_cells};
 
 use crate::engine::match_facts::{Bounds, MatchFacts, Recent};
 use regex::Regex;
@@ -72,11 +72,7 @@ impl OwnSearch {
             forward,
             reverse,
             backtracker: Backtracker::new(alloc),
-            recent: Recent {
-                starts_first: true,
-                guesses: false,
-                lacks_second: false,
-            },
+            recent: Recent::UNKNOWN,
             cells,
         })
     }
@@ -160,9 +156,9 @@ impl OwnSearch {
 /// Finds the span of the first match by the lazy automata, and writes where each of its groups starts
 /// and ends to `cells` (see `OwnSearch::cells`). Returns `Declined` if an automaton gives up.
 ///
-/// Where the line before suggests that a match starts, the tagged automaton is tried at once, since it
-/// finds the groups in the same pass. Otherwise the other automata find the span first, and the
-/// tagged automaton reads only that.
+/// Where the lines before suggest that a match starts, the tagged automaton is tried at once, since it
+/// finds the groups in the same pass. Otherwise the other automata find out first whether there is
+/// a match.
 fn leftmost_by_automata(
     program: &Program,
     facts: &MatchFacts,
@@ -186,7 +182,7 @@ fn leftmost_by_automata(
     ensures back { IsReverseFor reverse.new program.now.dfa }
 {
     if facts.at_start {
-        return Ok(match_at(program, tagged, forward, hay, 0, cells)?);
+        return match_at_start(program, facts, recent, tagged, forward, hay, cells);
     }
     if recent.guesses {
         let Some(bounds) = facts.bounds(program, recent, hay) else {
@@ -196,10 +192,137 @@ fn leftmost_by_automata(
         if let Some(whole) = match_at(program, tagged, forward, hay, from, cells)? {
             return Ok(Some(whole));
         }
+        recent.note(false);
     }
-    let Some(whole) = first_span(program, facts, recent, forward, reverse, hay)? else {
+    if program.at_end {
+        return match_at_end(program, facts, recent, tagged, reverse, hay, cells);
+    }
+    match_anywhere(program, facts, recent, tagged, forward, reverse, hay, cells)
+}
+
+/// Finds the first match of a pattern whose matches start where the line starts.
+fn match_at_start(
+    program: &Program,
+    facts: &MatchFacts,
+    recent: &mut Recent,
+    tagged: &mut Tagged,
+    forward: &mut Forward,
+    hay: &[u8],
+    cells: &mut [usize],
+) -> Result<Option<(usize, usize)>, Declined>
+    requires facts_hold { ∥ AreMatchFactsOf (pattern_of program.now) facts.now ∥₁ }
+    requires at_start { facts.now.at_start ≡ true }
+    requires own { IsFor tagged.old program.now.dfa }
+    requires ahead { IsForwardFor forward.old program.now.dfa }
+    ensures span { IfOk result (λ found. found
+        ≡ option_map span (leftmost program.now hay.now 0)) }
+    ensures cells { OnOk result (IfSome (leftmost program.now hay.now 0)
+        (λ m. cells.new ≡ group_cells m (length cells.old))) }
+    ensures own { IsFor tagged.new program.now.dfa }
+    ensures ahead { IsForwardFor forward.new program.now.dfa }
+{
+    if recent.guesses {
+        let found = match_at(program, tagged, forward, hay, 0, cells)?;
+        recent.note(found.is_some());
+        return Ok(found);
+    }
+    let found = span_at(program, forward, hay, 0)?;
+    recent.note(found.is_some());
+    match found {
+        Some(whole) => groups_within(program, tagged, hay, whole, cells),
+        None => Ok(None),
+    }
+}
+
+/// Finds the first match of a pattern whose matches end where the line ends.
+fn match_at_end(
+    program: &Program,
+    facts: &MatchFacts,
+    recent: &mut Recent,
+    tagged: &mut Tagged,
+    reverse: &mut Reverse,
+    hay: &[u8],
+    cells: &mut [usize],
+) -> Result<Option<(usize, usize)>, Declined>
+    requires facts_hold { ∥ AreMatchFactsOf (pattern_of program.now) facts.now ∥₁ }
+    requires at_end { program.now.at_end ≡ true }
+    requires own { IsFor tagged.old program.now.dfa }
+    requires back { IsReverseFor reverse.old program.now.dfa }
+    ensures span { IfOk result (λ found. found
+        ≡ option_map span (leftmost program.now hay.now 0)) }
+    ensures cells { OnOk result (IfSome (leftmost program.now hay.now 0)
+        (λ m. cells.new ≡ group_cells m (length cells.old))) }
+    ensures own { IsFor tagged.new program.now.dfa }
+    ensures back { IsReverseFor reverse.new program.now.dfa }
+{
+    let Some(whole) = span_at_end(program, reverse, hay)? else {
+        recent.note(false);
         return Ok(None);
     };
+    // Without groups, there is nothing that a guess would save.
+    let is_hit = !cells.is_empty() && starts_at(program, facts, recent, hay, whole.0);
+    recent.note(is_hit);
+    groups_within(program, tagged, hay, whole, cells)
+}
+
+/// Returns whether this position is the first one at which a match can start, as far as the literals
+/// show.
+fn starts_at(
+    program: &Program,
+    facts: &MatchFacts,
+    recent: &mut Recent,
+    hay: &[u8],
+    position: usize,
+) -> bool
+    requires facts_hold { ∥ AreMatchFactsOf (pattern_of program.now) facts.now ∥₁ }
+{
+    match facts.bounds(program, recent, hay) {
+        Some(bounds) => bounds.start == position,
+        None => false,
+    }
+}
+
+/// Finds the first match of a pattern whose matches can start and end anywhere.
+fn match_anywhere(
+    program: &Program,
+    facts: &MatchFacts,
+    recent: &mut Recent,
+    tagged: &mut Tagged,
+    forward: &mut Forward,
+    reverse: &mut Reverse,
+    hay: &[u8],
+    cells: &mut [usize],
+) -> Result<Option<(usize, usize)>, Declined>
+    requires facts_hold { ∥ AreMatchFactsOf (pattern_of program.now) facts.now ∥₁ }
+    requires own { IsFor tagged.old program.now.dfa }
+    requires ahead { IsForwardFor forward.old program.now.dfa }
+    requires back { IsReverseFor reverse.old program.now.dfa }
+    ensures span { IfOk result (λ found. found
+        ≡ option_map span (leftmost program.now hay.now 0)) }
+    ensures cells { OnOk result (IfSome (leftmost program.now hay.now 0)
+        (λ m. cells.new ≡ group_cells m (length cells.old))) }
+    ensures own { IsFor tagged.new program.now.dfa }
+    ensures ahead { IsForwardFor forward.new program.now.dfa }
+    ensures back { IsReverseFor reverse.new program.now.dfa }
+{
+    let Some(bounds) = facts.bounds(program, recent, hay) else {
+        return Ok(None);
+    };
+    let Bounds { start, literal } = bounds;
+    let from = likely_start(program, facts, recent, reverse, hay, bounds);
+    let Some(end) = first_end(program, facts, forward, hay, from, literal)? else {
+        recent.note(false);
+        return Ok(None);
+    };
+    if recent.starts_first {
+        if let Some(whole) = match_at(program, tagged, forward, hay, from, cells)? {
+            recent.note(true);
+            return Ok(Some(whole));
+        }
+    }
+    let whole = span_to(program, reverse, hay, from, end)?;
+    recent.starts_first = whole.0 == start;
+    recent.note(whole.0 == from);
     groups_within(program, tagged, hay, whole, cells)
 }
 
@@ -309,68 +432,6 @@ fn program_of(alloc: Global, text: &str) -> Result<Program, Declined>
     Ok(program)
 }
 
-/// Finds the span of the first match, unless an automaton gives up, and notes in `recent` where it
-/// starts.
-fn first_span(
-    program: &Program,
-    facts: &MatchFacts,
-    recent: &mut Recent,
-    forward: &mut Forward,
-    reverse: &mut Reverse,
-    hay: &[u8],
-) -> Result<Option<(usize, usize)>, Declined>
-    requires facts_hold { ∥ AreMatchFactsOf (pattern_of program.now) facts.now ∥₁ }
-    requires ahead { IsForwardFor forward.old program.now.dfa }
-    requires back { IsReverseFor reverse.old program.now.dfa }
-    ensures span { IfOk result (λ found. found
-        ≡ option_map span (leftmost program.now hay.now 0)) }
-    ensures ahead { IsForwardFor forward.new program.now.dfa }
-    ensures back { IsReverseFor reverse.new program.now.dfa }
-{
-    recent.guesses = false;
-    if program.at_end {
-        let found = span_at_end(program, reverse, hay)?;
-        if let Some((start, _)) = found {
-            recent.guesses = is_worth_a_guess(program, facts, recent, hay, start);
-        }
-        return Ok(found);
-    }
-    let Some(bounds) = facts.bounds(program, recent, hay) else {
-        return Ok(None);
-    };
-    let Bounds {
-        start: first,
-        literal,
-    } = bounds;
-    let from = likely_start(program, facts, recent, reverse, hay, bounds);
-    let found = span_after(program, facts, forward, reverse, hay, from, literal)?;
-    if let Some((start, _)) = found {
-        recent.starts_first = start == first;
-        recent.guesses = start == from;
-    }
-    Ok(found)
-}
-
-/// Returns whether a guess would have found the match of a pattern whose matches end where the line
-/// ends. If the pattern has no groups, the guess saves nothing.
-fn is_worth_a_guess(
-    program: &Program,
-    facts: &MatchFacts,
-    recent: &mut Recent,
-    hay: &[u8],
-    start: usize,
-) -> bool
-    requires facts_hold { ∥ AreMatchFactsOf (pattern_of program.now) facts.now ∥₁ }
-{
-    if program.dfa.nfa.slot_count <= 2 {
-        return false;
-    }
-    match facts.bounds(program, recent, hay) {
-        Some(bounds) => bounds.start == start,
-        None => false,
-    }
-}
-
 /// Returns where the first match is likely to start, if there is one. No match starts before it.
 ///
 /// If the last match started at the first position where one can start, that is this position again.
@@ -401,53 +462,64 @@ fn likely_start(
     }
 }
 
-/// Finds the span of the first match that starts at `from` or later, unless an automaton gives up.
-/// `literal` is where the first literal of `facts.inner` after `from` is.
-fn span_after(
+/// Finds the end of the first match that starts at `from` or later, unless the automaton gives up.
+/// `literal` is where the first literal of `facts.inner` after `from` is. If no match starts after
+/// it, the search stops as soon as none of the matches that start before it can go on.
+fn first_end(
     program: &Program,
     facts: &MatchFacts,
     forward: &mut Forward,
-    reverse: &mut Reverse,
     hay: &[u8],
     from: usize,
     literal: usize,
-) -> Result<Option<(usize, usize)>, Declined>
+) -> Result<Option<usize>, Declined>
     requires facts_hold { ∥ AreMatchFactsOf (pattern_of program.now) facts.now ∥₁ }
     requires inside { (from ≤ literal) × (literal ≤ length hay.now) }
     requires ahead { IsForwardFor forward.old program.now.dfa }
-    requires back { IsReverseFor reverse.old program.now.dfa }
-    ensures span { IfOk result (λ found. found
-        ≡ option_map span (leftmost program.now hay.now from)) }
+    ensures end { IfOk result (λ found. IsFirstEnd program.now hay.now from found) }
     ensures ahead { IsForwardFor forward.new program.now.dfa }
-    ensures back { IsReverseFor reverse.new program.now.dfa }
 {
     if facts.inner.is_none() || may_start_after(program, facts, hay, literal) {
-        return Ok(span_from(program, forward, reverse, hay, from)?);
+        return end_from(program, forward, hay, from);
     }
-    Ok(span_within(program, forward, reverse, hay, from, literal)?)
+    end_within(program, forward, hay, from, literal)
 }
 
-/// Finds the span of the first match that starts at `from` or later, if none starts after `last`. The
-/// search stops as soon as none of the matches that start before it can go on.
-fn span_within(
+/// Finds the end of the first match that starts at `from` or later, unless the automaton gives up.
+fn end_from(
     program: &Program,
     forward: &mut Forward,
-    reverse: &mut Reverse,
+    hay: &[u8],
+    from: usize,
+) -> Result<Option<usize>, Declined>
+    requires inside { from ≤ length hay.now }
+    requires ahead { IsForwardFor forward.old program.now.dfa }
+    ensures end { IfOk result (λ found. IsFirstEnd program.now hay.now from found) }
+    ensures ahead { IsForwardFor forward.new program.now.dfa }
+{
+    match forward.find_end(&program.dfa, hay, from, hay.len(), false, false) {
+        End::At(end) => Ok(Some(end)),
+        End::NoMatch => Ok(None),
+        End::Idle(_) | End::GaveUp => Err(Declined),
+    }
+}
+
+/// Does the same as `end_from`, if no match starts after `last`.
+fn end_within(
+    program: &Program,
+    forward: &mut Forward,
     hay: &[u8],
     from: usize,
     last: usize,
-) -> Result<Option<(usize, usize)>, Declined>
+) -> Result<Option<usize>, Declined>
     requires inside { (from ≤ last) × (last ≤ length hay.now) }
     requires last { leftmost program.now hay.now (last + 1) ≡ None }
     requires ahead { IsForwardFor forward.old program.now.dfa }
-    requires back { IsReverseFor reverse.old program.now.dfa }
-    ensures span { IfOk result (λ found. found
-        ≡ option_map span (leftmost program.now hay.now from)) }
+    ensures end { IfOk result (λ found. IsFirstEnd program.now hay.now from found) }
     ensures ahead { IsForwardFor forward.new program.now.dfa }
-    ensures back { IsReverseFor reverse.new program.now.dfa }
 {
     match forward.find_end_within(&program.dfa, hay, from, last, hay.len(), false) {
-        End::At(end) => Ok(Some(span_to(program, reverse, hay, from, end)?)),
+        End::At(end) => Ok(Some(end)),
         End::NoMatch => Ok(None),
         End::Idle(_) | End::GaveUp => Err(Declined),
     }
@@ -460,29 +532,6 @@ fn may_start_after(program: &Program, facts: &MatchFacts, hay: &[u8], position: 
     ensures { IsFalse result → leftmost program.now hay.now (position + 1) ≡ None }
 {
     position < hay.len() && facts.next_position(program, hay, position + 1).is_some()
-}
-
-/// Finds the span of the first match that starts at `from` or later, unless an automaton gives up.
-fn span_from(
-    program: &Program,
-    forward: &mut Forward,
-    reverse: &mut Reverse,
-    hay: &[u8],
-    from: usize,
-) -> Result<Option<(usize, usize)>, Declined>
-    requires inside { from ≤ length hay.now }
-    requires ahead { IsForwardFor forward.old program.now.dfa }
-    requires back { IsReverseFor reverse.old program.now.dfa }
-    ensures span { IfOk result (λ found. found
-        ≡ option_map span (leftmost program.now hay.now from)) }
-    ensures ahead { IsForwardFor forward.new program.now.dfa }
-    ensures back { IsReverseFor reverse.new program.now.dfa }
-{
-    match forward.find_end(&program.dfa, hay, from, hay.len(), false, false) {
-        End::At(end) => Ok(Some(span_to(program, reverse, hay, from, end)?)),
-        End::NoMatch => Ok(None),
-        End::Idle(_) | End::GaveUp => Err(Declined),
-    }
 }
 
 /// Finds the span of the first match of a pattern whose matches end where the line ends.
