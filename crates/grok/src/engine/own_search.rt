@@ -182,7 +182,7 @@ fn leftmost_by_automata(
     ensures back { IsReverseFor reverse.new program.now.dfa }
 {
     if facts.at_start {
-        return match_at_start(program, facts, recent, tagged, forward, hay, cells);
+        return Ok(match_at(program, tagged, forward, hay, 0, cells)?);
     }
     if recent.guesses {
         let Some(bounds) = facts.bounds(program, recent, hay) else {
@@ -198,40 +198,6 @@ fn leftmost_by_automata(
         return match_at_end(program, facts, recent, tagged, reverse, hay, cells);
     }
     match_anywhere(program, facts, recent, tagged, forward, reverse, hay, cells)
-}
-
-/// Finds the first match of a pattern whose matches start where the line starts.
-fn match_at_start(
-    program: &Program,
-    facts: &MatchFacts,
-    recent: &mut Recent,
-    tagged: &mut Tagged,
-    forward: &mut Forward,
-    hay: &[u8],
-    cells: &mut [usize],
-) -> Result<Option<(usize, usize)>, Declined>
-    requires facts_hold { ∥ AreMatchFactsOf (pattern_of program.now) facts.now ∥₁ }
-    requires at_start { facts.now.at_start ≡ true }
-    requires own { IsFor tagged.old program.now.dfa }
-    requires ahead { IsForwardFor forward.old program.now.dfa }
-    ensures span { IfOk result (λ found. found
-        ≡ option_map span (leftmost program.now hay.now 0)) }
-    ensures cells { OnOk result (IfSome (leftmost program.now hay.now 0)
-        (λ m. cells.new ≡ group_cells m (length cells.old))) }
-    ensures own { IsFor tagged.new program.now.dfa }
-    ensures ahead { IsForwardFor forward.new program.now.dfa }
-{
-    if recent.guesses {
-        let found = match_at(program, tagged, forward, hay, 0, cells)?;
-        recent.note(found.is_some());
-        return Ok(found);
-    }
-    let found = span_at(program, forward, hay, 0)?;
-    recent.note(found.is_some());
-    match found {
-        Some(whole) => groups_within(program, tagged, hay, whole, cells),
-        None => Ok(None),
-    }
 }
 
 /// Finds the first match of a pattern whose matches end where the line ends.

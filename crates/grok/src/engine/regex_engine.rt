@@ -13,11 +13,21 @@ use regex::{Captures, Regex};
 use std::alloc::{AllocError, Global};
 
 /// The engine over the crate `regex`, with its defaults: no flag and no limit is set.
-#[derive(Drop)]
 pub struct RegexEngine {
     pub(crate) regex: Regex,
     search: SharedSearch,
     ghost by_default: { ∥ IsReadByDefault regex ∥₁ },
+}
+
+// Not derived: the proof of a crate that drops a pattern then has one call here, and not the drop of
+// each automaton.
+impl Drop for RegexEngine {
+    fn drop(self) {
+        let RegexEngine {
+            regex: _regex,
+            search: _search,
+        } = self;
+    }
 }
 
 // If `regex` reports a failed allocation, the refusal is `Memory`. For every other error it is

@@ -5,9 +5,15 @@ use crate::engine::regex_engine::{RegexEngine, group_texts, write_locations};
 use std::alloc::{AllocError, Global};
 
 /// A search of `regex`, which keeps its caches.
-#[derive(Drop)]
 pub struct RegexMatcher<'e> {
     matcher: regex::Matcher<'e>,
+}
+
+// Not derived, for the same reason as that of `RegexEngine`.
+impl<'e> Drop for RegexMatcher<'e> {
+    fn drop(self) {
+        let RegexMatcher { matcher: _matcher } = self;
+    }
 }
 
 impl<'e> EngineMatcher for RegexMatcher<'e> {
