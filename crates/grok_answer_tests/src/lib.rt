@@ -1,6 +1,6 @@
 //! Tests of what patterns find. `walk` walks the table in `rows` for the tests of pieces, measures, compiled texts, matches
-//! and other engines. Other tests match many lines with one pattern, and compare many small generated libraries with a
-//! plain expansion.
+//! and other engines. Other tests match many lines with one pattern, answer the lines of logs by `groklog_answers`, and
+//! compare many small generated libraries with a plain expansion.
 #![tactic(auto)]
 
 #[cfg(test)]
@@ -15,6 +15,8 @@ mod engines;
 mod expansion;
 #[cfg(test)]
 mod library;
+#[cfg(test)]
+mod log_answers;
 #[cfg(test)]
 mod many;
 #[cfg(test)]

@@ -1,10 +1,10 @@
 //! Compiles the patterns of a run.
 
 use crate::diagnosis::report_of;
-use crate::fault::{Fault, Report};
 use crate::library::Library;
 use crate::pattern_text::PatternText;
 use grok::{Error, Pattern};
+use groklog_input::{Fault, Report};
 use std::alloc::{AllocError, Global};
 
 /// Returns the fault that the program reports if compiling the pattern returned `error`.

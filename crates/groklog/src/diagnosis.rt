@@ -2,15 +2,14 @@
 
 use crate::excerpt::excerpt;
 use crate::expansion::definitions_in;
-use crate::fault::Report;
 use crate::library::Library;
-use crate::logstash::is_refused;
 use crate::pattern_text::{PatternText, ordinal};
 use grok::parser::GrokPatternError;
 use grok::{
     ClashLocation, Error, Fault, FaultLocation, FirstFaultLocation, Grok, RefusalReason,
     WrittenByte,
 };
+use groklog_input::{ChangeKind, Report, rewrite};
 use regex_syntax::ErrorKind;
 use std::alloc::{AllocError, Global};
 use std::ops::Range;
@@ -297,9 +296,20 @@ fn clash_report(
     Ok(report)
 }
 
+/// Returns whether a text has a form that the engine refuses: an atomic group, a lookaround, or `\h`.
+fn is_from_logstash(alloc: Global, text: &str) -> Result<bool, AllocError> {
+    let rewritten = rewrite(alloc, text)?;
+    Ok(
+        rewritten
+            .changes
+            .iter()
+            .any(|change| !matches!(change.kind, ChangeKind::Possessive)),
+    )
+}
+
 /// Returns the advice for a text that the engine refuses.
 fn advice_for_refusal(alloc: Global, text: &str) -> Result<&'static str, AllocError> {
-    Ok(if is_refused(alloc, text)? {
+    Ok(if is_from_logstash(alloc, text)? {
         FROM_LOGSTASH
     } else {
         "write it in the syntax of Rust's regex crate, which https://docs.rs/regex/#syntax shows"

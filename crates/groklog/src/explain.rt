@@ -1,9 +1,9 @@
 //! Explains patterns for `--explain`, without reading lines.
 
 use crate::expansion::{Expansion, ExpansionStep};
-use crate::group_names::meant_key;
 use crate::library::Library;
 use grok::{Measure, Pattern};
+use groklog_input::meant_key;
 use regex::Regex;
 use std::alloc::{AllocError, Global};
 use std::collections::BTreeMap;

@@ -1,11 +1,10 @@
 //! Builds the library of definitions that patterns are compiled with: the default definitions,
 //! those from files, and those from the words after `-D`.
 
-use crate::definitions::{Definition, Origin, name_of_spaced, read_file, read_word};
+use crate::definitions::{Definition, Origin, read_file, read_word};
 use crate::excerpt::excerpt;
-use crate::fault::{Fault, Report};
-use crate::logstash::{Rewritten, rewrite};
 use grok::{Grok, patterns};
+use groklog_input::{Fault, Report, Rewritten, name_of_spaced, rewrite};
 use std::alloc::{AllocError, Global};
 use std::collections::BTreeMap;
 

@@ -7,16 +7,13 @@ mod diagnosis;
 mod excerpt;
 mod expansion;
 mod explain;
-mod fault;
-mod group_names;
 mod library;
-mod logstash;
 mod options;
 mod pattern_text;
 mod run;
-mod watched;
+mod terminal;
 
-use fault::{Fault, Report};
+use groklog_input::{Fault, Report};
 use std::env;
 use std::io::ErrorKind;
 use std::process::ExitCode;

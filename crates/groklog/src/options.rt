@@ -1,9 +1,9 @@
 //! Reads the options of the program.
 
-use crate::fault::{Fault, Report};
 use clap::error::ErrorKind;
 use clap::{Arg, ArgAction, ArgMatches, Command, Error};
 use groklog_answers::Lines;
+use groklog_input::{Fault, Report};
 use std::alloc::{AllocError, Global};
 
 /// The description of the program in its help.

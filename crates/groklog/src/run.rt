@@ -1,72 +1,17 @@
 //! Runs the program over files, or over standard input.
-ghost use Rattle.std.specs.Prelude.{◌≡◌, IfOk};
-ghost use Rattle.grok_lines.specs.Streams.{HasAnsweredInputThen};
-ghost use Rattle.grok_lines.specs.Traffic.{traffic};
 
 use crate::compiled::{compile_all, taken_key};
 use crate::explain::explain;
-use crate::fault::{Fault, Report};
 use crate::library::{DefinitionFile, Library};
 use crate::options::{Options, repeated_key};
 use crate::pattern_text::{PatternText, adapt_patterns};
-use crate::watched::{Watched, shows_progress};
+use crate::terminal::shows_progress;
 use grok::Pattern;
-use grok_lines::{LineAnswers, LinesError, answer_lines};
 use groklog_answers::{Layout, LogAnswers, NamedPattern, OutputFormat};
+use groklog_input::{Answered, Fault, Report, Watched, answer_input, file_fault, write_fault};
 use std::alloc::{AllocError, Global};
 use std::fs::{self, File};
-use std::io::{self, ErrorKind, Read, Write};
-
-/// How answering an input ended, if nothing failed.
-#[derive(Clone, Copy, PartialEq, Eq)]
-enum Answered {
-    /// All of its lines were answered.
-    All,
-    /// The reader of the answers closed the pipe, because it has enough of them.
-    Enough,
-}
-
-/// Returns the advice for a file that is there but can't be opened or read.
-fn advice_for_unreadable(kind: ErrorKind) -> &'static str {
-    match kind {
-        ErrorKind::IsADirectory => "name the files in it",
-        ErrorKind::PermissionDenied => "check with ls -l who may read it",
-        _ => "check whether cat can read it",
-    }
-}
-
-/// Returns the fault that reports that a file can't be opened or read.
-fn file_fault(alloc: Global, file: &str, kind: ErrorKind) -> Result<Fault, AllocError> {
-    let (what, advice) = match kind {
-        ErrorKind::OutOfMemory => return Ok(Fault::Memory),
-        ErrorKind::NotFound => (
-            format!(in alloc; "there is no file {file}")?,
-            "check its name, and the folder that you are in",
-        ),
-        ErrorKind::InvalidData => (format!(in alloc; "{file} isn't UTF-8")?, "save it as UTF-8"),
-        kind => (
-            format!(in alloc; "can't read {file}: {kind}")?,
-            advice_for_unreadable(kind),
-        ),
-    };
-    Ok(Fault::Read(Report::new(alloc, what.as_str(), advice)?))
-}
-
-/// Returns the fault that reports that the output can't be written, or `None` if its reader closed
-/// the pipe.
-fn write_fault(alloc: Global, error: &io::Error) -> Result<Option<Fault>, AllocError> {
-    if error.kind() == ErrorKind::BrokenPipe {
-        return Ok(None);
-    }
-    let what = format!(in alloc; "can't write the answers: {error}")?;
-    let advice = match error.kind() {
-        ErrorKind::StorageFull | ErrorKind::QuotaExceeded => {
-            "free some space, or write to another disk"
-        }
-        _ => "check where standard output goes",
-    };
-    Ok(Some(Fault::Write(Report::new(alloc, what.as_str(), advice)?)))
-}
+use std::io::{self, Write};
 
 /// Reads a file of definitions.
 fn read_definitions<'a>(rt: &HostRuntime, name: &'a str) -> Result<DefinitionFile<'a>, Fault> {
@@ -153,49 +98,6 @@ fn check_keys(alloc: Global, options: &Options<'_>, patterns: &[Pattern]) -> Res
         }
     }
     Ok(())
-}
-
-/// Returns the fault that reports `error`, with which answering the lines of the input `name`
-/// ended, or `None` if the reader of the answers closed the pipe. If reading failed, `failure` says
-/// why.
-fn lines_fault(
-    alloc: Global,
-    name: &str,
-    failure: Option<ErrorKind>,
-    error: &LinesError,
-) -> Result<Option<Fault>, AllocError> {
-    match error {
-        LinesError::Memory => Ok(Some(Fault::Memory)),
-        LinesError::Read => {
-            let kind = failure.unwrap_or(ErrorKind::Other);
-            Ok(Some(file_fault(alloc, name, kind)?))
-        }
-        LinesError::Write(error) => write_fault(alloc, error),
-    }
-}
-
-/// Answers each line of an input, and writes the answers to `output`. Faults call the input `name`.
-fn answer_input<A: LineAnswers, R: Read, W: Write>(
-    alloc: Global,
-    answers: &mut A,
-    input: &mut Watched<'_, R>,
-    output: &mut W,
-    name: &str,
-) -> Result<Answered, Fault>
-    ensures { IfOk result (λ answered. answered ≡ Answered.All
-        → HasAnsweredInputThen (A.answer answers.old) (A.answer answers.new)
-        (traffic (R.remaining input.old.input) (R.remaining input.new.input)
-        (W.contents output.old) (W.contents output.new))) }
-{
-    let answered = answer_lines(alloc, answers, input, output);
-    let failure = input.finish();
-    match answered {
-        Ok(()) => Ok(Answered::All),
-        Err(error) => match lines_fault(alloc, name, failure, &error)? {
-            None => Ok(Answered::Enough),
-            Some(fault) => Err(fault),
-        },
-    }
 }
 
 /// Returns the file as an input that is watched while it is read. It shows the progress if `shows`

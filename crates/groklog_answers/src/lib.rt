@@ -16,8 +16,6 @@ mod layout;
 mod log_answers;
 mod object;
 mod pairs;
-#[cfg(test)]
-mod tests;
 mod values;
 
 pub use layout::{Layout, Lines, OutputFormat};

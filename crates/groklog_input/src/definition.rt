@@ -1,0 +1,123 @@
+//! Reads a definition as users write it, in a line of a file or in a word after `-D`.
+ghost use Rattle.std.specs.Prelude.{◌≡◌, drop, option_map};
+ghost use Rattle.std.specs.List.{prefix_len, take_while};
+ghost use Rattle.grok.specs.Ascii.{equals_sign};
+ghost use Rattle.grok.specs.Maps.{pair_texts};
+ghost use Rattle.grok.specs.Pieces.{is_name_byte};
+ghost use Rattle.groklog_input.specs.Definitions.{is_blank, without_blanks, begins_with, definition_after_blanks, definition_after, definition_of, is_spaced, name_of_spaced};
+
+/// Returns whether a name may have this byte.
+fn is_name_byte(b: u8) -> bool
+    ensures { result ≡ is_name_byte b }
+{
+    b.is_ascii_alphanumeric() || b == b'_'
+}
+
+/// Returns whether the byte is a space or a tab.
+fn is_blank(b: u8) -> bool
+    ensures { result ≡ is_blank b }
+{
+    b == b' ' || b == b'\t'
+}
+
+/// Returns how many bytes at the start of a text belong to a name.
+fn name_len(text: &[u8]) -> usize
+    ensures { result ≡ prefix_len is_name_byte text.now }
+{
+    text.iter().take_while(|b| is_name_byte(**b)).count()
+}
+
+/// Returns how many blanks a text begins with.
+fn blanks_len(text: &[u8]) -> usize
+    ensures { result ≡ prefix_len is_blank text.now }
+{
+    text.iter().take_while(|b| is_blank(**b)).count()
+}
+
+/// Splits a text after the name that it begins with. If it doesn't begin with a name, the first
+/// part is empty.
+#[tactic(auto, using(crate::proofs::NamesAndBlanksEndAtBoundaries::run_ends))]
+fn split_name(text: &str) -> (&str, &str)
+    ensures name { result.0.now ≡ take_while is_name_byte text.now }
+    ensures rest { result.1.now ≡ drop (prefix_len is_name_byte text.now) text.now }
+{
+    text.split_at(name_len(text.as_bytes()))
+}
+
+/// Returns the text without its leading blanks, which are spaces and tabs.
+#[tactic(auto, using(crate::proofs::NamesAndBlanksEndAtBoundaries::run_ends))]
+pub fn skip_blanks(text: &str) -> &str
+    ensures { result.now ≡ without_blanks text.now }
+{
+    let (_, rest) = text.split_at(blanks_len(text.as_bytes()));
+    rest
+}
+
+/// Returns whether a text begins with `=`.
+fn begins_with_equals(text: &str) -> bool
+    ensures { result ≡ begins_with equals_sign text.now }
+{
+    text.starts_with('=')
+}
+
+/// Returns the definition in `text`, which is what follows a name and a blank: the text after any
+/// further blanks. Returns `None` if that begins with `=`.
+fn definition_after_blanks(text: &str) -> Option<&str>
+    ensures { option_map (λ definition. definition.now) result ≡ definition_after_blanks text.now }
+{
+    let definition = skip_blanks(text);
+    if begins_with_equals(definition) {
+        None
+    } else {
+        Some(definition)
+    }
+}
+
+/// Returns the definition in `text`, which is what follows a name: the text after `=`, or the text
+/// after one or more blanks. Returns `None` if `text` begins with another character, if it is empty,
+/// or if `=` comes after the blanks.
+#[tactic(auto, using(crate::proofs::FirstCharacterDecides::texts_after_names))]
+fn definition_after(text: &str) -> Option<&str>
+    ensures { option_map (λ definition. definition.now) result ≡ definition_after text.now }
+{
+    let mut characters = text.chars();
+    match characters.next()? {
+        '=' => Some(characters.as_str()),
+        ' ' | '\t' => definition_after_blanks(characters.as_str()),
+        _ => None,
+    }
+}
+
+/// Reads a definition of the form `NAME=DEF` or `NAME DEF`, and returns its name and its text.
+/// Returns `None` if the text doesn't have this form. `NAME = DEF` isn't a definition: whoever
+/// writes that hardly means one that begins with `=`.
+pub fn read_definition(text: &str) -> Option<(&str, &str)>
+    ensures { option_map pair_texts result ≡ definition_of text.now }
+{
+    let (name, rest) = split_name(text);
+    if name.is_empty() {
+        return None;
+    }
+    let definition = definition_after(rest)?;
+    Some((name, definition))
+}
+
+/// Returns whether a text begins with blanks, of which there is at least one, and `=`.
+fn is_spaced(text: &str) -> bool
+    ensures { result ≡ is_spaced text.now }
+{
+    !begins_with_equals(text) && begins_with_equals(skip_blanks(text))
+}
+
+/// Returns the name in a text such as `NAME = DEF`, in which blanks come between the name and `=`.
+/// Returns `None` if the text has another form.
+pub fn name_of_spaced(text: &str) -> Option<&str>
+    ensures { option_map (λ name. name.now) result ≡ name_of_spaced text.now }
+{
+    let (name, rest) = split_name(text);
+    if !name.is_empty() && is_spaced(rest) {
+        Some(name)
+    } else {
+        None
+    }
+}

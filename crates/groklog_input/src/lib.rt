@@ -1,0 +1,26 @@
+//! Reads what the users of `groklog` give it, and reports faults to them.
+//!
+//! [`read_definition`] reads `NAME=DEF`, [`rewrite`] adapts a text that was made for Logstash,
+//! [`meant_key`] reads the name of a group, and [`answer_input`] answers the lines of an input. A
+//! [`Fault`] says what is wrong, where, and what to do:
+//!
+//! ```text
+//! let Rewritten { text, changes } = rewrite(alloc, "(?>%{INT:n})")?;
+//! let mut input = Watched::new(rt.stdin());
+//! answer_input(alloc, &mut answers, &mut input, &mut output, "standard input")?;
+//! ```
+#![tactic(auto)]
+
+mod answered;
+mod definition;
+mod fault;
+mod group_names;
+mod logstash;
+mod watched;
+
+pub use answered::{Answered, answer_input, file_fault, write_fault};
+pub use definition::{name_of_spaced, read_definition, skip_blanks};
+pub use fault::{Fault, FaultyPart, Report};
+pub use group_names::meant_key;
+pub use logstash::{Change, ChangeKind, Rewritten, rewrite};
+pub use watched::Watched;
