@@ -1,5 +1,5 @@
 -- The group names and captures of an engine, as texts.
-use Rattle.std.specs.Prelude.{◌≡◌, ℕ, ◌≤◌, List, Option, String, Vec, All, IfSome, map, length, option_map, string_bytes, slice_range}
+use Rattle.std.specs.Prelude.{◌≡◌, ℕ, ◌≤◌, Bool, if◌then◌else◌, List, Option, Some, None, String, Vec, All, IfSome, map, length, option_map, string_bytes, slice_range}
 use Rattle.std.specs.Borrow.{Bor}
 
 -- the name of each group, from group 0 on
@@ -26,6 +26,10 @@ AreSlicesOf line texts = All (λ text. IfSome text (IsSliceOf line)) texts
 -- the text of each group of a match that is returned as a list, if there is a match
 abbrev pub found_texts : {A : Type 0} → Option (Vec (Option (Bor (List ℕ))) A) → Option (List (Option (List ℕ)))
 found_texts found = option_map (λ captures. capture_texts captures.items) found
+
+-- the text of each group of a match that is written to a list, if there is a match
+abbrev pub texts_if : {A : Type 0} → Bool → Vec (Option (Bor (List ℕ))) A → Option (List (Option (List ℕ)))
+texts_if is_match texts = if is_match then Some (capture_texts texts.items) else None
 
 -- THE MATCH IN A LINE, or that there is none: what the engine finds there. Each of its `count` groups is listed, and
 -- the text of a group that took part is a slice of the line.

@@ -121,10 +121,10 @@ impl<E: Engine> PatternOf<E> {
         ensures pattern { IfOk result
             (λ found. IfSome found (λ matches. matches.pattern ≡ self.now)) }
     {
-        match self.engine.captures(self.alloc, text)? {
-            Some(captures) => Ok(Some(MatchesOf::new(self, captures))),
-            None => Ok(None),
-        }
+        let Some(captures) = self.engine.captures(self.alloc, text)? else {
+            return Ok(None);
+        };
+        Ok(Some(MatchesOf::new(self, captures)))
     }
 
     /// Makes a matcher for many lines. It returns the same as `match_against`, and keeps the

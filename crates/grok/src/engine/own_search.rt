@@ -7,7 +7,7 @@ ghost use Rattle.regex_meta.specs.Programs.{pattern_of, leftmost};
 ghost use Rattle.regex_meta.specs.Located.{EndsAt};
 ghost use Rattle.regex_tagged.specs.Valid.{IsFor};
 ghost use Rattle.regex_vm.specs.Found.{first_match, group_cells};
-ghost use Rattle.grok.specs.Captures.{text_of, capture_texts, found_texts, IsSliceOf, AreSlicesOf, IsMatchIn};
+ghost use Rattle.grok.specs.Captures.{text_of, capture_texts, texts_if, IsSliceOf, AreSlicesOf, IsMatchIn};
 ghost use Rattle.grok.specs.RegexFinds.{IsReadByDefault, captures_by, text_at, texts_at};
 ghost use Rattle.grok.specs.OwnSearches.{IsTreeOf, AreMatchFactsOf, IsLiteralOf, IsPositionOf, IsFirstEnd, span_of_cells};
 
@@ -77,29 +77,32 @@ impl OwnSearch {
         })
     }
 
-    /// Returns the text of each group of the first match that the regex finds in the line, or
-    /// `None` if nothing matches.
+    /// Finds the first match that the regex finds in the line, writes the text of each group to
+    /// `texts`, and returns whether there is one. What `texts` had before is lost.
     ///
     /// # Errors
     ///
     /// `Declined` if `regex` was built from another text than this search, if the search gives up,
     /// or if an allocation fails.
-    pub(crate) fn captures<'t>(
+    pub(crate) fn write_captures<'t>(
         &mut self,
-        alloc: Global,
         regex: &Regex,
         line: &'t str,
-    ) -> Result<Option<Vec<Option<&'t str>>>, Declined>
+        texts: &mut Vec<Option<&'t str>>,
+    ) -> Result<bool, Declined>
         requires { ∥ IsReadByDefault regex.now ∥₁ }
-        ensures { IfOk result (λ found. IsMatchIn line.now (captures_by regex.now)
-            (length (regex_names regex.now)) (found_texts found)) }
+        ensures { IfOk result (λ is_match. IsMatchIn line.now (captures_by regex.now)
+            (length (regex_names regex.now)) (texts_if is_match texts.new)) }
     {
         if !self.is_of(regex) {
             return Err(Declined);
         }
         match self.find(line)? {
-            Some(whole) => Ok(Some(texts_of(alloc, line, whole, &self.cells)?)),
-            None => Ok(None),
+            Some(whole) => {
+                write_texts(line, whole, &self.cells, texts)?;
+                Ok(true)
+            }
+            None => Ok(false),
         }
     }
 
@@ -549,27 +552,29 @@ fn starts_inside(line: &str, found: Option<(usize, usize)>) -> bool
     }
 }
 
-/// Returns the text of each group of a match with this span and these cells, from group 0 on.
-fn texts_of<'t>(
-    alloc: Global,
+/// Writes the text of each group of a match with this span and these cells to `texts`, from group 0
+/// on. What `texts` had before is lost.
+fn write_texts<'t>(
     line: &'t str,
     whole: (usize, usize),
     cells: &[usize],
-) -> Result<Vec<Option<&'t str>>, Declined>
-    ensures texts { IfOk result (λ captures. capture_texts captures.items
+    texts: &mut Vec<Option<&'t str>>,
+) -> Result<(), Declined>
+    ensures texts { OnOk result (capture_texts texts.new.items
         ≡ texts_at line.now (span_of_cells whole cells.now) (length cells.now / 2 + 1)) }
-    ensures count { IfOk result (λ captures. vec_len captures ≡ length cells.now / 2 + 1) }
-    ensures slices { IfOk result (λ captures. AreSlicesOf line.now (capture_texts captures.items)) }
+    ensures count { OnOk result (vec_len texts.new ≡ length cells.now / 2 + 1) }
+    ensures slices { OnOk result (AreSlicesOf line.now (capture_texts texts.new.items)) }
 {
     let count = cells.len() / 2 + 1;
-    let mut captures = Vec::with_capacity(alloc, count)?;
+    texts.clear();
+    texts.reserve(count)?;
     'groups: for number in 0..count {
         let text = group_text(line, whole, cells, number)?;
-        let Ok(()) = captures.push(text) else {
+        let Ok(()) = texts.push(text) else {
             return Err(Declined);
         };
     }
-    Ok(captures)
+    Ok(())
 }
 
 /// Returns the text of one group, or `None` if it took no part in the match.

@@ -1,7 +1,7 @@
 //! The engine over the crate `regex`.
 ghost use Rattle.std.specs.Prelude.{◌≡◌, ◌↔◌, length, vec_len, option_map, IfOk, IfSome, OnOk};
 ghost use Rattle.std.specs.Option.{ForSome};
-ghost use Rattle.grok.specs.Captures.{text_of, capture_texts, found_texts, IsSliceOf, AreSlicesOf, IsMatchIn};
+ghost use Rattle.grok.specs.Captures.{text_of, capture_texts, texts_if, IsSliceOf, AreSlicesOf, IsMatchIn};
 ghost use Rattle.grok.specs.Locations.{IsLocationIn, AreLocationsIn, located_texts};
 ghost use Rattle.grok.specs.RegexFinds.{IsReadByDefault, captures_by, texts_at, text_at};
 ghost use Rattle.regex.specs.declared.error.Error.TheVariants.{OutOfMemory};
@@ -79,29 +79,38 @@ impl Engine for RegexEngine {
         alloc: Global,
         line: &'t str,
     ) -> Result<Option<Vec<Option<&'t str>>>, AllocError> {
-        match self.search.captures(alloc, &self.regex, line) {
-            Ok(found) => Ok(found),
-            Err(_) => captures_uncached(alloc, &self.regex, line),
-        }
+        let mut texts = Vec::new(alloc);
+        let is_match = match self
+            .search
+            .write_captures(alloc, &self.regex, line, &mut texts)
+        {
+            Ok(is_match) => is_match,
+            Err(_) => write_captures_uncached(alloc, &self.regex, line, &mut texts)?,
+        };
+        if is_match { Ok(Some(texts)) } else { Ok(None) }
     }
 }
 
-/// Searches one line with a new matcher. Returns the text of each group of the first match, or
-/// `None` if nothing matches.
+/// Searches one line with a new matcher. Writes the text of each group of the first match to
+/// `texts`, and returns whether there is one.
 #[cold]
 #[inline(never)]
-fn captures_uncached<'t>(
+fn write_captures_uncached<'t>(
     alloc: Global,
     regex: &Regex,
     line: &'t str,
-) -> Result<Option<Vec<Option<&'t str>>>, AllocError>
-    ensures { IfOk result (λ found. IsMatchIn line.now (captures_by regex.now)
-        (length (regex_names regex.now)) (found_texts found)) }
+    texts: &mut Vec<Option<&'t str>>,
+) -> Result<bool, AllocError>
+    ensures { IfOk result (λ is_match. IsMatchIn line.now (captures_by regex.now)
+        (length (regex_names regex.now)) (texts_if is_match texts.new)) }
 {
     let mut matcher = regex.matcher(alloc)?;
     match matcher.captures(line) {
-        Some(found) => Ok(Some(group_texts(alloc, &found)?)),
-        None => Ok(None),
+        Some(found) => {
+            *texts = group_texts(alloc, &found)?;
+            Ok(true)
+        }
+        None => Ok(false),
     }
 }
 

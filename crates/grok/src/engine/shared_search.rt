@@ -1,7 +1,7 @@
 //! A search that many calls share, one at a time.
 ghost use Rattle.std.specs.Prelude.{length, IfOk};
 ghost use Rattle.regex.specs.Strings.{regex_names};
-ghost use Rattle.grok.specs.Captures.{found_texts, IsMatchIn};
+ghost use Rattle.grok.specs.Captures.{texts_if, IsMatchIn};
 ghost use Rattle.grok.specs.RegexFinds.{IsReadByDefault, captures_by};
 
 use crate::engine::own_search::OwnSearch;
@@ -37,50 +37,52 @@ impl SharedSearch {
         }
     }
 
-    /// Returns the text of each group of the first match that the regex finds in the line, or `None`
-    /// if nothing matches.
+    /// Finds the first match that the regex finds in the line, writes the text of each group to
+    /// `texts`, and returns whether there is one. What `texts` had before is lost.
     ///
     /// # Errors
     ///
     /// `Declined` if this is the first call, the search is in use or gives up, or memory runs out.
-    pub(crate) fn captures<'t>(
+    pub(crate) fn write_captures<'t>(
         &self,
         alloc: Global,
         regex: &Regex,
         line: &'t str,
-    ) -> Result<Option<Vec<Option<&'t str>>>, Declined>
+        texts: &mut Vec<Option<&'t str>>,
+    ) -> Result<bool, Declined>
         requires { ∥ IsReadByDefault regex.now ∥₁ }
-        ensures { IfOk result (λ found. IsMatchIn line.now (captures_by regex.now)
-            (length (regex_names regex.now)) (found_texts found)) }
+        ensures { IfOk result (λ is_match. IsMatchIn line.now (captures_by regex.now)
+            (length (regex_names regex.now)) (texts_if is_match texts.new)) }
     {
         match self.stage.try_lock() {
-            Some(mut stage) => stage.captures(alloc, regex, line),
+            Some(mut stage) => stage.write_captures(alloc, regex, line, texts),
             None => Err(Declined),
         }
     }
 }
 
 impl Stage {
-    /// Returns what `SharedSearch::captures` returns.
-    fn captures<'t>(
+    /// Does what `SharedSearch::write_captures` does.
+    fn write_captures<'t>(
         &mut self,
         alloc: Global,
         regex: &Regex,
         line: &'t str,
-    ) -> Result<Option<Vec<Option<&'t str>>>, Declined>
+        texts: &mut Vec<Option<&'t str>>,
+    ) -> Result<bool, Declined>
         requires { ∥ IsReadByDefault regex.now ∥₁ }
-        ensures { IfOk result (λ found. IsMatchIn line.now (captures_by regex.now)
-            (length (regex_names regex.now)) (found_texts found)) }
+        ensures { IfOk result (λ is_match. IsMatchIn line.now (captures_by regex.now)
+            (length (regex_names regex.now)) (texts_if is_match texts.new)) }
     {
         match self {
             Stage::Unused => *self = Stage::UsedOnce,
             Stage::UsedOnce => {
                 let mut search = boxed(alloc, regex.as_str())?;
-                let found = search.captures(alloc, regex, line);
+                let found = search.write_captures(regex, line, texts);
                 *self = Stage::Built(search);
                 return found;
             }
-            Stage::Built(search) => return search.captures(alloc, regex, line),
+            Stage::Built(search) => return search.write_captures(regex, line, texts),
         }
         Err(Declined)
     }

@@ -5,11 +5,11 @@ use Rattle.std.proofs.lemmas.List.FromFn.{map-range_with_len_more}
 use Rattle.grok.specs.Captures.{capture_texts, text_of, IsSliceOf}
 use Rattle.grok.specs.RegexFinds.{text_at}
 use Rattle.grok.specs.OwnSearches.{span_of_cells}
-use Rattle.grok.proofs.engine.own_search.texts_of.Goals as goal
+use Rattle.grok.proofs.engine.own_search.write_texts.Goals as goal
 
 pub groups-preserved : goal.groups-preserved
 groups-preserved c =
-    let old = c.groups.captures.items in
+    let old = c.groups.texts.items in
     let line = c.args.line.now in
     let spans = span_of_cells c.args.whole c.args.cells.now in
     let new : capture_texts c.push.new.self.items ≡ capture_texts old ++ option_map text_of c.in_ok-text.text ∷ [] =
