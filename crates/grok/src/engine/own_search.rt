@@ -58,12 +58,10 @@ impl OwnSearch {
     {
         let source = String::from_str(alloc, text)?;
         let program = program_of(alloc, text)?;
-        let facts = MatchFacts::of(alloc, &program)?;
-        let tagged = Tagged::new(alloc, &program.dfa)?;
-        let forward = Forward::new(alloc, &program.dfa, false)?;
-        let reverse = Reverse::new(alloc, &program.dfa)?;
         let count = (program.dfa.nfa.slot_count as usize).saturating_sub(2);
         let cells = vec![in alloc; 0usize; count]?;
+        let facts = MatchFacts::of(alloc, &program)?;
+        let (tagged, forward, reverse) = automata_of(alloc, &program)?;
         Ok(OwnSearch {
             source,
             program,
@@ -399,6 +397,18 @@ fn program_of(alloc: Global, text: &str) -> Result<Program, Declined>
         return Err(Declined);
     };
     Ok(program)
+}
+
+/// Makes the automata of a program, whose tables are still empty.
+fn automata_of(alloc: Global, program: &Program) -> Result<(Tagged, Forward, Reverse), Declined>
+    ensures own { IfOk result (λ automata. IsFor automata.0 program.now.dfa) }
+    ensures ahead { IfOk result (λ automata. IsForwardFor automata.1 program.now.dfa) }
+    ensures back { IfOk result (λ automata. IsReverseFor automata.2 program.now.dfa) }
+{
+    let tagged = Tagged::new(alloc, &program.dfa)?;
+    let forward = Forward::new(alloc, &program.dfa, false)?;
+    let reverse = Reverse::new(alloc, &program.dfa)?;
+    Ok((tagged, forward, reverse))
 }
 
 /// Returns where the first match is likely to start, if there is one. No match starts before it.
