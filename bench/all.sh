@@ -9,6 +9,10 @@ echo '## Lines against patterns'
 echo
 "$here/match.sh"
 echo
+echo '## `json` beside `match`'
+echo
+"$here/json.sh"
+echo
 echo "## The library's calls on lines"
 echo
 "$here/calls.sh"

@@ -1,0 +1,54 @@
+#!/usr/bin/env bash
+# Times `json -a` beside `match -a` on the same logs, by the processor's time of the whole program. The grok_tool of another
+# version can be given after -o, to measure both in the same run.
+#
+#   bench/json.sh [-o GROK_TOOL] [LINES]        200000 lines if no number is given
+set -euo pipefail
+source "$(dirname "$0")/common.sh"
+programs=("$(program grok_tool)")
+if [ "${1:-}" = -o ]; then
+    programs+=("$2")
+    shift 2
+fi
+lines=${1:-200000}
+rounds=9
+
+# The milliseconds of the processor that a command takes, into `took`: `processor_time INPUT WORD..`.
+processor_time() {
+    local input=$1 user system TIMEFORMAT='%3U %3S'
+    shift
+    { time "$@" <"$input" >"$room/out" 2>"$room/complaint"; } 2>"$room/times"
+    read -r user system <"$room/times"
+    took=$((10#${user/./} + 10#${system/./}))
+}
+
+# The milliseconds of the fastest run of a command, by program and command.
+declare -A best=()
+
+# Runs both commands of all programs in turn on a log, and prints a row for each program: `compare PATTERN LOG`.
+compare() {
+    local program command
+    mapfile -t words <"$root/bench/patterns/$1"
+    "$root/bench/make_log" "$2" "$lines" >"$room/log"
+    best=()
+    for ((round = 0; round < rounds; round++)); do
+        for program in "${programs[@]}"; do
+            for command in match json; do
+                processor_time "$room/log" "$program" "$command" -a "${words[@]}"
+                best["$program $command"]=$(least "${best[$program $command]:-}" "$took")
+            done
+        done
+    done
+    for program in "${programs[@]}"; do
+        echo "| \`$1\` on $2 | $program | $(ratio "${best[$program match]}" 1000 3) | $(ratio "${best[$program json]}" 1000 3)" \
+            "| $(ratio "${best[$program json]}" "${best[$program match]}") |"
+    done
+}
+
+echo "$lines lines of each log, the fastest of $rounds runs; $(machine)."
+echo
+echo "| Pattern and log | program | \`match -a\`, s | \`json -a\`, s | ratio |"
+echo "|---|---|---|---|---|"
+for run in 'apache apache' 'syslog syslog' 'apache other' 'apache cut' 'syslog other'; do
+    compare ${run% *} ${run#* }
+done
