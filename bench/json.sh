@@ -2,7 +2,7 @@
 # Times `json -a` beside `match -a` on the same logs, by the processor's time of the whole program. The grok_tool of another
 # version can be given after -o, to measure both in the same run.
 #
-#   bench/json.sh [-o GROK_TOOL] [LINES]        200000 lines if no number is given
+#   bench/json.sh [-o GROK_TOOL] [LINES]        100000 lines if no number is given
 set -euo pipefail
 source "$(dirname "$0")/common.sh"
 programs=("$(program grok_tool)")
@@ -10,8 +10,8 @@ if [ "${1:-}" = -o ]; then
     programs+=("$2")
     shift 2
 fi
-lines=${1:-200000}
-rounds=9
+lines=${1:-100000}
+rounds=30
 
 # The milliseconds of the processor that a command takes, into `took`: `processor_time INPUT WORD..`.
 processor_time() {
