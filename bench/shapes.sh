@@ -8,19 +8,18 @@
 set -euo pipefail
 source "$(dirname "$0")/common.sh"
 lines=${1:-500}
-rounds=3
+rounds=5
 patterns=(combined syslogbase json address words middle groupless fifty mail query)
 sizes=(80 200 390 420 1000 4000)
 kinds=('match ascii' 'match unicode' 'match greek' 'fails ascii' 'fails unicode' 'fails greek' 'other ascii' 'other unicode'
     'other greek' 'mixed both')
-ways=(match_against find)
 grok_calls=$(program grok_calls)
 
 # How many times as long as `find` a call may take on lines of a kind. Lines of another kind lack what the pattern needs.
 declare -A most=([match]=2 [fails]=2 [other]=2.5 [mixed]=2.5)
 
-# The nanoseconds a line in the fastest run, by pattern, size, kind and way.
-declare -A best=()
+# The nanoseconds a line in the run with the median ratio, by pattern, size, kind and way.
+declare -A median=()
 
 # The nanoseconds a line that grok_calls reported for a way of its last run: `line_time WAY`.
 line_time() {
@@ -41,9 +40,10 @@ check_matches() {
     fi
 }
 
-# Times both ways over lines of a kind, into `best`: `time_shape PATTERN SIZE KIND ALPHABET`.
+# Times both ways over lines of a kind, into `median`: `time_shape PATTERN SIZE KIND ALPHABET`. Both are timed right after each
+# other in each run, and the run with the median ratio counts, since a machine can be faster in one run than in the next.
 time_shape() {
-    local way round
+    local round own find
     mapfile -t words <"$root/bench/patterns/$1"
     {
         printf '%s\n' "${words[@]:1}" ''
@@ -52,15 +52,17 @@ time_shape() {
     for ((round = 0; round < rounds; round++)); do
         time_once "$room/input" "$room/answer" "$grok_calls" timed own_and_find "${words[0]}"
         check_matches "$1" "$3"
-        for way in "${ways[@]}"; do
-            best["$* $way"]=$(least "${best[$* $way]:-}" "$(line_time "$way")")
-        done
-    done
+        own=$(line_time match_against) find=$(line_time find)
+        echo "$(ratio "$own" "$find" 6) $own $find"
+    done | sort -g >"$room/runs"
+    read -r _ own find < <(sed -n "$(((rounds + 1) / 2))p" "$room/runs")
+    median["$* match_against"]=$own
+    median["$* find"]=$find
 }
 
 # The microseconds a line of both ways, and their ratio: `cell PATTERN SIZE KIND ALPHABET`.
 cell() {
-    local own=${best[$* match_against]} find=${best[$* find]}
+    local own=${median[$* match_against]} find=${median[$* find]}
     echo "$(ratio "$own" 1000) / $(ratio "$find" 1000) = $(ratio "$own" "$find")"
 }
 
@@ -87,7 +89,7 @@ ratios() {
     local pattern size
     for pattern in "${patterns[@]}"; do
         for size in "${sizes[@]}"; do
-            echo "$(ratio "${best[$pattern $size $* match_against]}" "${best[$pattern $size $* find]}") \`$pattern\` at $size bytes"
+            echo "$(ratio "${median[$pattern $size $* match_against]}" "${median[$pattern $size $* find]}") \`$pattern\` at $size bytes"
         done
     done | sort -rn
 }
@@ -114,7 +116,7 @@ for pattern in "${patterns[@]}"; do
         done
     done
 done
-echo "$lines lines of each shape, the fastest of $rounds runs; $began, at the end $(cut -d' ' -f1-3 /proc/loadavg)."
+echo "$lines lines of each shape, of $rounds runs the one with the median ratio; $began, at the end $(cut -d' ' -f1-3 /proc/loadavg)."
 echo
 print_times
 echo
