@@ -1,37 +1,68 @@
--- The tokens that are written for pairs are the text of their object, and if the keys of the pairs are in order, this
+-- The events that are sent for pairs write the text of their object, and if the keys of the pairs are in order, this
 -- text reads back as the pairs.
-use Rattle.std.proofs.Common.{◌≡◌, ℕ, List, [], ◌∷◌, ◌++◌, ◌≤◌, Some, Less, Greater, refl, sym, ap, ◌∙◌, append_assoc, append-nil, arith, option_map, option_and_then, flat_map}
+use Rattle.std.proofs.Common.{◌≡◌, ℕ, List, [], ◌∷◌, ◌++◌, ◌≤◌, Some, None, false, Less, Greater, refl, sym, ap, ◌∙◌, subst, append_assoc, append-nil, arith, option_map, option_and_then}
 use Rattle.std.proofs.lemmas.Cmp.{nat_list_cmp_total}
 use Rattle.std.specs.Ordering.{nat_cmp, ordering_reverse}
 use Rattle.std.specs.Cmp.Lexicographic.{slice_cmp}
 use Rattle.std.specs.List.{AllByRecursion}
 use Rattle.std.specs.List.Sorted.{IsStrictlySortedBy}
 use Rattle.std.specs.Map.{keys_of}
-use Rattle.json.specs.Token as token
-use Rattle.json.specs.Token.{Token}
 use Rattle.json.specs.Lex.{tokens}
-use Rattle.json.specs.Print.{print}
 use Rattle.json.specs.Json.{if_last}
 use Rattle.json.specs.Json.{value as read_value}
 use Rattle.json.specs.Tree as tree
 use Rattle.json.proofs.Printed.Tokens.{tokens-print}
 use Rattle.json.proofs.Printed.Trees.{value-json_tokens, ArePrintable-json_tokens}
+use Rattle.serde.specs.Event as event
+use Rattle.serde.specs.Event.{Event, Log, Logs}
+use Rattle.serde.specs.declared.name.Case.TheVariants.{AsIs}
 use Rattle.serde_json.specs.Data as value
+use Rattle.serde_json.specs.Events.{members_len, SendsMembers}
+use Rattle.serde_json.specs.Sent.{IsTextOf}
 use Rattle.serde_json.specs.Read.{of_json, of_members, max_depth}
-use Rattle.serde_json.specs.Written.{outline, members_outline}
+use Rattle.serde_json.specs.Written.{outline, members_outline, members_have_float}
+use Rattle.serde_json.proofs.FreeTexts.{text_of_value}
 use Rattle.serde_json.proofs.Texts.{print-outline}
-use Rattle.grok_commands.specs.JsonObjects.{members_of, object_of, object_text, member_tokens, pairs_in, pairs_in_members, ReadsBack}
+use Rattle.grok_commands.specs.JsonEvents.{SendsObject}
+use Rattle.grok_commands.specs.JsonObjects.{members_of, object_of, object_text, pairs_in, pairs_in_members, ReadsBack}
 
-members_are : (pairs : List (List ℕ × List ℕ))
-    → tree.members_tokens (members_outline (members_of pairs)) ≡ flat_map member_tokens pairs ++ token.end_object ∷ []
-members_are [] = refl
-members_are (pair ∷ pairs) = ap (λ ts. token.key pair.0 ∷ (token.string pair.1 ∷ ts)) (members_are pairs)
+-- the events of the members, and of the end
+abbrev pair_events : List (List ℕ × List ℕ) → List Event
+pair_events [] = event.map_ends ∷ []
+pair_events (pair ∷ pairs) = event.field_key pair.0 AsIs ∷ (event.text pair.1 ∷ pair_events pairs)
 
--- The braces and the members between them are the text of the object.
-pub text_of_tokens : (pairs : List (List ℕ × List ℕ))
-    → print (token.begin_object ∷ (flat_map member_tokens pairs ++ token.end_object ∷ [])) ≡ object_text pairs
-text_of_tokens pairs =
-    ap (λ ts. print (token.begin_object ∷ ts)) (sym (members_are pairs)) ∙ print-outline (object_of pairs)
+members_known : (pairs : List (List ℕ × List ℕ)) (es : List Event) (log : Log) → SendsMembers (members_of pairs) (Some es) log → log ≡ Some (es ++ pair_events pairs)
+members_known [] es log h = h
+members_known (pair ∷ pairs) es log h =
+    let named = es ++ event.field_key pair.0 AsIs ∷ [] in
+    let mid : h.1 ≡ Some (named ++ event.text pair.1 ∷ []) = subst (λ l. Logs l h.1 (event.text pair.1)) h.2 h.3 in
+    members_known pairs _ log (subst (λ l. SendsMembers (members_of pairs) l log) mid h.4)
+    ∙ ap Some (append_assoc named (event.text pair.1 ∷ []) (pair_events pairs) ∙ append_assoc es (event.field_key pair.0 AsIs ∷ []) (event.text pair.1 ∷ pair_events pairs))
+
+members_sent : (pairs : List (List ℕ × List ℕ)) (es : List Event) (log : Log) → log ≡ Some (es ++ pair_events pairs) → SendsMembers (members_of pairs) (Some es) log
+members_sent [] es log h = h
+members_sent (pair ∷ pairs) es log h =
+    let named = es ++ event.field_key pair.0 AsIs ∷ [] in (
+      Some named,
+      Some (named ++ event.text pair.1 ∷ []),
+      refl,
+      refl,
+      members_sent pairs _ log (h ∙ ap Some (sym (append_assoc named (event.text pair.1 ∷ []) (pair_events pairs) ∙ append_assoc es (event.field_key pair.0 AsIs ∷ []) (event.text pair.1 ∷ pair_events pairs)))),
+    )
+
+no_floats : (pairs : List (List ℕ × List ℕ)) → members_have_float (members_of pairs) ≡ false
+no_floats [] = refl
+no_floats (pair ∷ pairs) = no_floats pairs
+
+-- The text of these events is that of the value: `Takes` gives the same tokens whether the number of members is stated or not.
+pub text_of_sent : (pairs : List (List ℕ × List ℕ)) (log : Log) (text : List ℕ) → SendsObject pairs (Some []) log → IsTextOf log text → text ≡ object_text pairs
+text_of_sent pairs log text sent is =
+    let counted = event.map_begins (Some (members_len (members_of pairs))) in
+    let known : log ≡ Some (event.map_begins None ∷ pair_events pairs) =
+    members_known pairs (event.map_begins None ∷ []) log (subst (λ l. SendsMembers (members_of pairs) l log) sent.1 sent.2) in
+    let is_text : IsTextOf (Some (counted ∷ pair_events pairs)) text = subst (λ l. IsTextOf l text) known is in
+    text_of_value (object_of pairs) (Some (counted ∷ pair_events pairs)) text
+    (Some (counted ∷ []), refl, members_sent pairs (counted ∷ []) (Some (counted ∷ pair_events pairs)) refl) is_text (no_floats pairs)
 
 -- ---- reading back
 

@@ -4,8 +4,6 @@ use Rattle.std.specs.List.Sorted.{IsStrictlySortedBy}
 use Rattle.std.specs.Map.{keys_of}
 use Rattle.std.specs.Cmp.Lexicographic.{slice_cmp}
 use Rattle.std.specs.Ordering.{nat_cmp}
-use Rattle.json.specs.Token as token
-use Rattle.json.specs.Token.{Token}
 use Rattle.serde_json.specs.Data.{Data, null, boolean, number, string, array, object, Members, no_members, member}
 use Rattle.serde_json.specs.Read.{read}
 use Rattle.serde_json.specs.Written.{compact_text}
@@ -56,9 +54,3 @@ abbrev pub ReadsBack : List (List ℕ × List ℕ) → List ℕ → Type 0
 ReadsBack pairs text =
     IsStrictlySortedBy (slice_cmp nat_cmp) (keys_of pairs)
     → option_and_then pairs_in (read text) ≡ Some pairs
-
--- ---- for private clauses
-
--- the JSON tokens of the member for a pair
-abbrev pub member_tokens : List ℕ × List ℕ → List Token
-member_tokens pair = token.key pair.0 ∷ (token.string pair.1 ∷ [])

@@ -3,6 +3,7 @@ pub mod Views
 pub mod Library
 pub mod Answers
 pub mod Faults
+pub mod JsonEvents
 pub mod JsonObjects
 pub mod LineTexts
 pub mod CommandLaws

@@ -5,11 +5,10 @@ ghost use Rattle.grok_commands.specs.LineTexts.{pair_line, not_utf8_text, no_mat
 ghost use Rattle.grok.specs.Answers.{walk};
 ghost use Rattle.grok.specs.BorrowedMatches.{borrowed_keys, borrowed_captures};
 
-use crate::json_object::write_object;
+use crate::json_object::object_line;
 use grok::{HasMatcher, MatcherOf, MatchesRef};
 use grok_lines::LineAnswers;
 use std::alloc::{AllocError, Global};
-use std::mem;
 
 /// How the answer to a line is written.
 #[derive(Clone, Copy)]
@@ -77,28 +76,27 @@ impl LineFormat {
     }
 
     /// Appends the answer to a line with this match. If an allocation fails, appends nothing.
-    /// `answer` is a buffer, and what it has before is lost.
+    /// `pairs` is a buffer, and what it has before is lost.
     fn write_match(
         self,
         alloc: Global,
         text: &mut Vec<u8>,
-        answer: &mut Vec<u8>,
+        pairs: &mut Vec<u8>,
         matches: MatchesRef<'_>,
     ) -> Result<(), AllocError>
         ensures text { OnOk result (text.new.items ≡ text.old.items
             ++ match_text self (walk (borrowed_keys matches.entry) (borrowed_captures matches.entry))) }
         ensures memory { OnErr result (text.new.items ≡ text.old.items) }
     {
-        answer.clear();
         match self {
-            LineFormat::Pairs => write_pairs(answer, matches)?,
-            LineFormat::Object => {
-                let empty = mem::replace(answer, Vec::new(alloc));
-                *answer = write_object(empty, matches)?;
+            LineFormat::Pairs => {
+                pairs.clear();
+                write_pairs(pairs, matches)?;
+                pairs.push(b'\n')?;
+                text.extend_from_slice(pairs)
             }
+            LineFormat::Object => text.extend_from_slice(&object_line(alloc, matches)?),
         }
-        answer.push(b'\n')?;
-        text.extend_from_slice(answer)
     }
 }
 
@@ -108,8 +106,8 @@ pub struct MatchAnswers<'p, E: HasMatcher<'p>> {
     pub alloc: Global,
     pub format: LineFormat,
     pub matcher: MatcherOf<'p, E>,
-    /// The buffer for the answer to one line.
-    pub answer: Vec<u8>,
+    /// The buffer for the pairs of one match.
+    pub pairs: Vec<u8>,
 }
 
 impl<'p, E: HasMatcher<'p>> LineAnswers for MatchAnswers<'p, E> {
@@ -135,6 +133,6 @@ impl<'p, E: HasMatcher<'p>> LineAnswers for MatchAnswers<'p, E> {
             return text.extend_from_slice(self.format.no_match());
         };
         self.format
-            .write_match(self.alloc, text, &mut self.answer, matches)
+            .write_match(self.alloc, text, &mut self.pairs, matches)
     }
 }

@@ -102,7 +102,7 @@ pub fn answer_input<R: Read, W: Write>(
         alloc,
         format,
         matcher: pattern.matcher()?,
-        answer: Vec::new(alloc),
+        pairs: Vec::new(alloc),
     };
     answer_each(alloc, &mut answers, input, output)
 }
