@@ -49,6 +49,6 @@ echo "$lines lines of each log, the fastest of $rounds runs; $(machine)."
 echo
 echo "| Pattern and log | program | \`match -a\`, s | \`json -a\`, s | ratio |"
 echo "|---|---|---|---|---|"
-for run in 'apache apache' 'syslog syslog' 'apache other' 'apache cut' 'syslog other'; do
+for run in 'apache apache' 'combined apache' 'syslog syslog' 'apache other' 'apache cut' 'syslog other'; do
     compare ${run% *} ${run#* }
 done
