@@ -25,25 +25,28 @@ pub(crate) fn call(rt: &HostRuntime, name: &str) -> Result<()> {
     if name == "bare" {
         return match_bare(rt, &grok);
     }
-    let pattern = grok.compile("%{MAC::text}", false)?;
+    call_on_pattern(rt, name, &grok.compile("%{MAC::text}", false)?)
+}
+
+fn call_on_pattern(rt: &HostRuntime, name: &str, pattern: &Pattern) -> Result<()> {
     match name {
-        "match_against" => match_against(rt, &pattern, LINE),
-        "no_match" => match_against(rt, &pattern, HALF_A_LINE),
-        "making_tables" => match_after(rt, &pattern, CALLS_BEFORE_TABLES, LINE, LINE),
-        "with_tables" => match_after(rt, &pattern, CALLS_WITH_TABLES, LINE, LINE),
-        "growing_tables" => match_after(rt, &pattern, CALLS_WITH_TABLES, LINE, LINE_WITH_DOTS),
+        "match_against" => match_against(rt, pattern, LINE),
+        "no_match" => match_against(rt, pattern, HALF_A_LINE),
+        "making_tables" => match_after(rt, pattern, CALLS_BEFORE_TABLES, LINE, LINE),
+        "with_tables" => match_after(rt, pattern, CALLS_WITH_TABLES, LINE, LINE),
+        "growing_tables" => match_after(rt, pattern, CALLS_WITH_TABLES, LINE, LINE_WITH_DOTS),
         "no_match_with_tables" => {
-            match_after(rt, &pattern, CALLS_WITH_TABLES, HALF_A_LINE, HALF_A_LINE)
+            match_after(rt, pattern, CALLS_WITH_TABLES, HALF_A_LINE, HALF_A_LINE)
         }
-        "matcher" => matcher(rt, &pattern),
-        "line_matched" => match_lines(rt, &pattern, LINE),
-        "line_not_matched" => match_lines(rt, &pattern, HALF_A_LINE),
-        "line_found" => find_lines(rt, &pattern, LINE, 0),
-        "line_not_found" => find_lines(rt, &pattern, HALF_A_LINE, 0),
-        "warm_line_found" => find_lines(rt, &pattern, LINE, WARM),
-        "text" => text(rt, &pattern),
-        "capture_names" => capture_names(rt, &pattern),
-        "get_extract" => get_extract(rt, &pattern),
+        "matcher" => matcher(rt, pattern),
+        "line_matched" => match_lines(rt, pattern, LINE),
+        "line_not_matched" => match_lines(rt, pattern, HALF_A_LINE),
+        "line_found" => find_lines(rt, pattern, LINE, 0),
+        "line_not_found" => find_lines(rt, pattern, HALF_A_LINE, 0),
+        "warm_line_found" => find_lines(rt, pattern, LINE, WARM),
+        "text" => text(rt, pattern),
+        "capture_names" => capture_names(rt, pattern),
+        "get_extract" => get_extract(rt, pattern),
         _ => match pattern.match_against(LINE)? {
             Some(matches) => call_on_matches(rt, name, &matches),
             None => bail!("the line should match"),

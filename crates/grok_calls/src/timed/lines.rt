@@ -153,16 +153,16 @@ fn count_matches(way: &mut Way<'_>, lines: &[&str]) -> Result<u64> {
 /// Matches all lines once, checks that the result is the expected one, and then measures the time for all lines.
 fn time_way(
     rt: &HostRuntime,
-    way: &mut Way<'_>,
+    mut way: Way<'_>,
     lines: &[&str],
     expected: MatchSummary,
 ) -> Result<()> {
     let name = way.name();
-    if ask_all(way, lines)? != expected {
+    if ask_all(&mut way, lines)? != expected {
         bail!("other matches by `{name}`");
     }
     let start = Instant::now(rt)?;
-    let matches = count_matches(way, lines)?;
+    let matches = count_matches(&mut way, lines)?;
     let time = start.elapsed(rt)?.as_nanos();
     let line_time = time.checked_div(lines.len() as u128).unwrap_or(0);
     eprintln!(rt; "{name} {line_time} ns a line")?;
@@ -175,10 +175,10 @@ fn time_way(
 /// Measures the time of each way to match. A first round over the lines fills the tables of its search.
 fn time_ways(rt: &HostRuntime, pattern: &Pattern, lines: &[&str]) -> Result<()> {
     let expected = ask_all(&mut Way::Fresh(pattern), lines)?;
-    time_way(rt, &mut Way::Shared(pattern), lines, expected)?;
-    time_way(rt, &mut Way::Kept(pattern.matcher()?), lines, expected)?;
-    time_way(rt, &mut Way::Found(pattern.matcher()?), lines, expected)?;
-    time_way(rt, &mut Way::Fresh(pattern), lines, expected)?;
+    time_way(rt, Way::Shared(pattern), lines, expected)?;
+    time_way(rt, Way::Kept(pattern.matcher()?), lines, expected)?;
+    time_way(rt, Way::Found(pattern.matcher()?), lines, expected)?;
+    time_way(rt, Way::Fresh(pattern), lines, expected)?;
     println!(rt; "{expected}")?;
     Ok(())
 }
@@ -186,8 +186,8 @@ fn time_ways(rt: &HostRuntime, pattern: &Pattern, lines: &[&str]) -> Result<()> 
 /// Measures the time of the pattern's own call and of `find` of a kept matcher.
 fn time_own_and_find(rt: &HostRuntime, pattern: &Pattern, lines: &[&str]) -> Result<()> {
     let expected = ask_all(&mut Way::Kept(pattern.matcher()?), lines)?;
-    time_way(rt, &mut Way::Shared(pattern), lines, expected)?;
-    time_way(rt, &mut Way::Found(pattern.matcher()?), lines, expected)?;
+    time_way(rt, Way::Shared(pattern), lines, expected)?;
+    time_way(rt, Way::Found(pattern.matcher()?), lines, expected)?;
     println!(rt; "{expected}")?;
     Ok(())
 }
