@@ -47,9 +47,27 @@ impl Asked<'_> {
         let fresh = self.grok.compile(self.text, true)?;
         check_answer(rt, call, fresh.match_against(line)?, line, expected)
     }
+
+    /// Checks that each of them finds the expected pairs in the lines, which they match over and over.
+    fn check_calls(
+        &mut self,
+        rt: &(impl Abort + AllocGlobal),
+        name: &str,
+        lines: &[(&str, &str)],
+    ) -> Result<(), Fail> {
+        for number in 0..CALLS {
+            let at = number.checked_rem(lines.len()).unwrap_or(0);
+            let Some((line, expected)) = lines.get(at) else {
+                return Err("no lines")?;
+            };
+            let call = format!(in rt.alloc(); "{name}, call {number}, {expected}")?;
+            self.check(rt, call.as_str(), line, expected)?;
+        }
+        Ok(())
+    }
 }
 
-/// Checks that a new pattern finds the expected pairs in the lines, which it matches over and over.
+/// Checks that a new pattern finds the expected pairs in the lines.
 fn check_in_order(
     rt: &(impl Abort + AllocGlobal),
     grok: &Grok,
@@ -64,15 +82,7 @@ fn check_in_order(
         pattern: &pattern,
         kept: pattern.matcher()?,
     };
-    for number in 0..CALLS {
-        let at = number.checked_rem(lines.len()).unwrap_or(0);
-        let Some((line, expected)) = lines.get(at) else {
-            return Err("no lines")?;
-        };
-        let call = format!(in rt.alloc(); "{name}, call {number}, {expected}")?;
-        asked.check(rt, call.as_str(), line, expected)?;
-    }
-    Ok(())
+    asked.check_calls(rt, name, lines)
 }
 
 /// Checks the lines in this order and in the reverse order.

@@ -269,6 +269,18 @@ fn a_clash_after_two_million_uses(rt: HostRuntime) -> Result<(), Fail> {
     check_clash(&rt, &grok, text.as_str(), "Alias k[1999999] already exists")
 }
 
+/// Checks that both calls of a matcher find the z at the end of the line.
+fn check_matcher(rt: &impl Abort, pattern: &Pattern, line: &str) -> Result<(), Fail> {
+    let mut matcher = pattern.matcher()?;
+    let found = matcher.match_against(line)?;
+    let is_right = found.is_some_and(|found| found.get("l") == Some("z"));
+    assert!(rt; is_right);
+    let found = matcher.find(line)?;
+    let is_right = found.is_some_and(|found| found.get("l") == Some("z"));
+    assert!(rt; is_right);
+    Ok(())
+}
+
 /// Each way to match finds the z at the end.
 #[test]
 fn a_line_of_20_megabytes(rt: HostRuntime) -> Result<(), Fail> {
@@ -276,14 +288,7 @@ fn a_line_of_20_megabytes(rt: HostRuntime) -> Result<(), Fail> {
     let pattern = grok.compile("(?<k>x)y|(?<l>z)", true)?;
     let line = long_line(rt.alloc(), 20_000_000)?;
     check_each_call(&rt, &pattern, line.as_str(), "l", "z")?;
-    let mut matcher = pattern.matcher()?;
-    let found = matcher.match_against(line.as_str())?;
-    let is_right = found.is_some_and(|found| found.get("l") == Some("z"));
-    assert!(rt; is_right);
-    let found = matcher.find(line.as_str())?;
-    let is_right = found.is_some_and(|found| found.get("l") == Some("z"));
-    assert!(rt; is_right);
-    Ok(())
+    check_matcher(&rt, &pattern, line.as_str())
 }
 
 /// Returns whether `regex` accepts a pattern of `count` times the letter a.
