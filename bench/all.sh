@@ -1,6 +1,6 @@
 #!/usr/bin/env bash
-# Runs all benchmarks but profile.sh. Each prints its tables in markdown. They need a machine that does nothing else, and
-# each takes under two minutes there.
+# Runs all benchmarks but profile.sh. Each prints its tables in markdown. They need a machine that does nothing else. There
+# search/shapes.sh takes a quarter of an hour, and each of the others under two minutes.
 #
 #   bench/all.sh
 set -euo pipefail
@@ -15,9 +15,13 @@ echo
 echo
 echo "## The library's calls on lines"
 echo
-"$here/calls.sh"
+"$here/search/calls.sh"
 echo
-"$here/first_calls.sh"
+"$here/search/first_calls.sh"
+echo
+"$here/search/filters.sh"
+echo
+"$here/search/shapes.sh"
 echo
 echo '## Memory over long logs'
 echo

@@ -4,13 +4,16 @@
  *   REFUSE_NTH=N        the N-th counted request is refused, and no other one; without this setting none is refused
  *   REFUSE_MARKED=1     only requests of one part of the program are counted: the part between the first line
  *                       "[call" that it writes to standard error, and the line "[done" that follows
- *   REFUSE_REPORT=FILE  at the program's end FILE gets the line "requests N refused R", R being 0 or 1
+ *   REFUSE_REPORT=FILE  at the program's end FILE gets the line "requests N refused R left B most M": R is 0 or 1, B is
+ *                       how many bytes were allocated in the counted part and not freed there, and M the most that were
+ *                       allocated there at any time
  *
  * It is no part of the product, and no crate links it.
  */
 #define _GNU_SOURCE
 #include <errno.h>
 #include <fcntl.h>
+#include <malloc.h>
 #include <stdio.h>
 #include <stdlib.h>
 #include <string.h>
@@ -22,12 +25,13 @@ extern void *__libc_malloc(size_t size);
 extern void *__libc_calloc(size_t count, size_t size);
 extern void *__libc_realloc(void *old, size_t size);
 extern void *__libc_memalign(size_t align, size_t size);
+extern void __libc_free(void *memory);
 
 enum part { BEFORE, INSIDE, AFTER };
 
 static int is_ready, is_marked;
 static enum part part;
-static long refused_number, requests, refusals;
+static long refused_number, requests, refusals, left, most;
 
 /* Reads the environment once. It takes no memory. */
 static void prepare(void) {
@@ -47,29 +51,45 @@ static int is_refused(void) {
     return 1;
 }
 
+/* Counts the bytes of new memory, and returns that memory. */
+static void *taken(void *memory) {
+    if (part == INSIDE) left += (long)malloc_usable_size(memory);
+    if (left > most) most = left;
+    return memory;
+}
+
+void free(void *memory) {
+    if (part == INSIDE) left -= (long)malloc_usable_size(memory);
+    __libc_free(memory);
+}
+
 void *malloc(size_t size) {
-    return is_refused() ? NULL : __libc_malloc(size);
+    return is_refused() ? NULL : taken(__libc_malloc(size));
 }
 
 void *calloc(size_t count, size_t size) {
-    return is_refused() ? NULL : __libc_calloc(count, size);
+    return is_refused() ? NULL : taken(__libc_calloc(count, size));
 }
 
 void *realloc(void *old, size_t size) {
-    return is_refused() ? NULL : __libc_realloc(old, size);
+    if (is_refused()) return NULL;
+    long before = (long)malloc_usable_size(old);
+    void *memory = __libc_realloc(old, size);
+    if (part == INSIDE && (memory || !size)) left -= before;
+    return taken(memory);
 }
 
 void *aligned_alloc(size_t align, size_t size) {
-    return is_refused() ? NULL : __libc_memalign(align, size);
+    return is_refused() ? NULL : taken(__libc_memalign(align, size));
 }
 
 void *memalign(size_t align, size_t size) {
-    return is_refused() ? NULL : __libc_memalign(align, size);
+    return is_refused() ? NULL : taken(__libc_memalign(align, size));
 }
 
 int posix_memalign(void **memory, size_t align, size_t size) {
     if (is_refused()) return ENOMEM;
-    *memory = __libc_memalign(align, size);
+    *memory = taken(__libc_memalign(align, size));
     return *memory ? 0 : ENOMEM;
 }
 
@@ -94,8 +114,8 @@ __attribute__((destructor)) static void report(void) {
     if (!path) return;
     int file = open(path, O_WRONLY | O_CREAT | O_TRUNC, 0600);
     if (file < 0) return;
-    char line[80];
-    int length = snprintf(line, sizeof line, "requests %ld refused %ld\n", requests, refusals);
+    char line[120];
+    int length = snprintf(line, sizeof line, "requests %ld refused %ld left %ld most %ld\n", requests, refusals, left, most);
     (void)!syscall(SYS_write, file, line, (size_t)length);
     close(file);
 }

@@ -1,4 +1,3 @@
 -- Lemmas of the groups of a match.
 pub mod CapturesAreOfMatch
-pub mod AutomataFindMatches
 pub mod GroupsLieInLine

@@ -15,3 +15,4 @@ pub mod MeasureLoopIsReading
 pub mod MeasureLoopEnds
 pub mod MeasureIsCounted
 pub mod MeasuringAgain
+pub mod KnownResultsAreRight

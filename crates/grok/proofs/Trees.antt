@@ -3,9 +3,9 @@ pub mod EventsOnStack
 pub mod TextIsWritten
 pub mod TreeLawsHold
 pub mod WorkedPatterns
-pub mod ItemsStandAtPieces
 pub mod FirstFaultIsLocated
-pub mod ByteIsInPiece
+pub mod EventsInTree
+pub mod DescentFindsPlace
 pub mod ByteIsLocated
 pub mod FaultInPlaceOfOpen
 pub mod StepsCompile

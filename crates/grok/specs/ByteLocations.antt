@@ -1,7 +1,7 @@
 -- Which piece of a pattern, or of one of its definitions, writes a byte of the expanded text.
-use Rattle.std.specs.Prelude.{◌≡◌, ◌<◌, ◌+◌, ℕ, suc, Bool, List, [], ◌∷◌, ◌++◌, length, Option, None, MatchOption}
+use Rattle.std.specs.Prelude.{◌≡◌, ◌<◌, ◌+◌, ℕ, zero, suc, Bool, List, [], ◌∷◌, ◌++◌, length, Option, None, MatchOption}
 use Rattle.std.specs.Borrow.{Bor}
-use Rattle.grok.specs.Tree.{Definitions, Label, Meaning, meaning_text, Item, TextItem, PlaceholderItem, Event, Text, Open, Close, items_of, events, inside, deepest, tree, first_structural}
+use Rattle.grok.specs.Tree.{Definitions, Label, Meaning, meaning_text, Fault, TooDeep, Item, TextItem, FaultItem, PlaceholderItem, Event, Text, Open, Close, FaultEvent, items_of, events, inside, deepest, tree, first_structural}
 use Rattle.grok.specs.Expanded.{expanded}
 use Rattle.grok.specs.FaultLocations.{IsPieceAt, path_view}
 use Rattle.grok.specs.declared.locate_byte.WrittenByte.{WrittenByte}
@@ -9,7 +9,7 @@ use Rattle.grok.specs.declared.locate_byte.WrittenByte.TheVariants as written
 use Rattle.grok.specs.declared.locate_byte.ByteLocation.{ByteLocation}
 
 -- `event` is an event of the item itself (a piece with its placeholder resolved to its definition), and not of that
--- definition: regular text, or the open or the close of a placeholder. `own` has the events of the item before
+-- definition: regular text, the open or the close of a placeholder, or a fault of the piece. `own` has the events of the item before
 -- `event`, and `levels` levels are left.
 pub data IsOwnEvent (stored : Definitions) : (levels : ℕ) (item : Item) (own : List Event) (event : Event) → Type 0 where
   Regular : (levels : ℕ) (part : List ℕ) → IsOwnEvent stored levels (TextItem part) [] (Text part)
@@ -18,6 +18,9 @@ pub data IsOwnEvent (stored : Definitions) : (levels : ℕ) (item : Item) (own :
   Closing : (levels : ℕ) (label : Label) (meaning : Meaning)
       → IsOwnEvent stored (suc levels) (PlaceholderItem label meaning)
       (Open label meaning ∷ events (inside (items_of stored) levels) (items_of stored (meaning_text meaning))) Close
+  Broken : (levels : ℕ) (fault : Fault) → IsOwnEvent stored levels (FaultItem fault) [] (FaultEvent fault)
+  Deep : (label : Label) (meaning : Meaning)
+      → IsOwnEvent stored zero (PlaceholderItem label meaning) (Open label meaning ∷ []) (FaultEvent TooDeep)
 
 -- WHERE AN EVENT COMES FROM, if `levels` levels are left in the text. `path` leads from `text` to the text `found`.
 -- The piece of `found` at the byte range from `from` to `to` has the item `item`, `event` is an event of that item,

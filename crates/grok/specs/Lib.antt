@@ -1,5 +1,6 @@
 pub mod Ascii
 pub mod Pieces
+pub mod PlaceholderNames
 pub mod Views
 pub mod Rest
 pub mod Grammar
@@ -13,7 +14,6 @@ pub mod Debugs
 pub mod Captures
 pub mod Locations
 pub mod RegexFinds
-pub mod OwnSearches
 pub mod Engines
 pub mod KeyTable
 pub mod KeyRanges
@@ -49,16 +49,21 @@ pub mod Measured
 pub mod MeasureCache
 pub mod CountedMeasures
 pub mod FaultLocations
-pub mod FirstWrong
+pub mod PlacedItems
+pub mod FaultSearches
 pub mod ByteLocations
-pub mod ByteSteps
+pub mod ByteSearches
+pub mod Searches
+pub mod Descents
 pub mod ClashLocations
 pub mod FirstFaultLocations
-pub mod UseSteps
+pub mod UseSearches
 pub mod TreeLaws
 -- THE WORDS FOR CALLERS: every definition that a contract of a public call uses.
 -- pieces
 pub use Rattle.grok.specs.Pieces.{Piece, Regular, Placeholder, Malformed, Parts, pieces}
+pub use Rattle.grok.specs.Pieces.{is_name_byte}
+pub use Rattle.grok.specs.PlaceholderNames.{is_name}
 pub use Rattle.grok.specs.Grammar.{ArePieces}
 pub use Rattle.grok.specs.Views.{piece_view}
 pub use Rattle.grok.specs.Texts.{component_text}
@@ -95,6 +100,6 @@ pub use Rattle.grok.specs.RegexFinds.{IsReadByDefault, captures_in, captures_by}
 pub use Rattle.grok.specs.Locations.{AreLocationsIn, located_texts}
 pub use Rattle.regex.specs.Strings
 -- patterns and matches
-pub use Rattle.grok.specs.KeyTable.{Entries, IsKeyTable}
+pub use Rattle.grok.specs.KeyTable.{Entries, IsKeyTable, group_in}
 pub use Rattle.grok.specs.Answers.{PatternValue, MatchesValue, value_of, walk}
 pub use Rattle.grok.specs.BorrowedMatches.{borrowed_keys, borrowed_captures}

@@ -55,6 +55,11 @@ abbrev pub result_view : Result PartialSize Failure → Result PartialSize tree.
 result_view (Ok sum) = Ok sum
 result_view (Err failure) = Err (fault_view failure.fault)
 
+-- the fault that measuring returned, if it returned one
+abbrev pub fault_in : Result Size tree.Fault → Option tree.Fault
+fault_in (Ok size) = None
+fault_in (Err fault) = Some fault
+
 -- the progress of a definition, with its size as the code keeps it
 abbrev pub shown_progress : kept.Progress Size → kept.Progress PartialSize
 shown_progress InProgress = InProgress

@@ -122,6 +122,8 @@ impl Grok {
         }
         let found = self.measure_fully(pattern, with_alias_only)?;
         match found.measure {
+            // own error: the text of the pattern would be longer than `usize::MAX` bytes, so no
+            // allocation could hold it.
             Measure::TooLong => Err(Error::Memory),
             Measure::Fault(fault) => match self.first_error(pattern, with_alias_only, &found)? {
                 Some(error) => Err(error),

@@ -1,6 +1,7 @@
 //! Definitions by name, and the default definitions.
-ghost use Rattle.std.specs.Prelude.{◌≡◌, OnOk, OnErr, IfOk, map, option_copied};
+ghost use Rattle.std.specs.Prelude.{◌≡◌, OnOk, OnErr, IfOk, map, option_copied, option_map};
 ghost use Rattle.std.specs.FinMap as finite;
+ghost use Rattle.grok.specs.Captures.{text_of};
 ghost use Rattle.grok.specs.Maps.{set_all, pair_texts};
 ghost use Rattle.grok.specs.DefaultDefinitions.{default_definitions};
 
@@ -9,6 +10,7 @@ pub(crate) mod definition;
 pub(crate) mod items;
 pub(crate) mod names;
 pub(crate) mod pieces;
+pub(crate) mod placed_items;
 mod spans;
 
 use crate::debug_map::write_map;
@@ -168,10 +170,20 @@ impl Grok {
     }
 
     /// Returns the definition of a name, cut into its pieces, if there is one.
-    pub(crate) fn definition(&self, name: &str) -> Option<&Definition>
+    pub(crate) fn stored(&self, name: &str) -> Option<&Definition>
         ensures { option_copied result ≡ finite.get self.now name.now }
     {
         self.definitions.get(name)
+    }
+
+    /// Returns the definition of a name, as it was set, or `None` if the name has none.
+    pub fn definition(&self, name: &str) -> Option<&str>
+        ensures { option_map text_of result ≡ finite.get self.now name.now }
+    {
+        match self.stored(name) {
+            Some(definition) => Some(definition.text()),
+            None => None,
+        }
     }
 }
 

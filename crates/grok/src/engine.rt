@@ -2,12 +2,9 @@
 ghost use Rattle.std.specs.Prelude.{◌≡◌, ℕ, List, Option, length, IfOk};
 ghost use Rattle.grok.specs.Captures.{name_texts, found_texts, IsMatchIn};
 
-mod match_facts;
 pub(crate) mod matcher;
-mod own_search;
 pub(crate) mod regex_engine;
 pub(crate) mod regex_matcher;
-mod shared_search;
 
 use std::alloc::{AllocError, Global};
 

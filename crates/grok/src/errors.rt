@@ -4,4 +4,4 @@ pub(crate) mod error;
 pub(crate) mod fault;
 
 pub use error::Error;
-pub use fault::Fault;
+pub use fault::{Fault, MAX_NESTING};

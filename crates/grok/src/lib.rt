@@ -36,6 +36,7 @@
 mod compile;
 mod debug_map;
 mod defs;
+mod descend;
 mod engine;
 mod errors;
 mod expand;
@@ -58,7 +59,7 @@ pub use engine::matcher::{EngineMatcher, HasMatcher};
 pub use engine::regex_engine::RegexEngine;
 pub use engine::regex_matcher::RegexMatcher;
 pub use engine::{Engine, Refusal};
-pub use errors::{Error, Fault};
+pub use errors::{Error, Fault, MAX_NESTING};
 pub use locate::FaultLocation;
 pub use locate_byte::{ByteLocation, WrittenByte};
 pub use locate_clash::{ClashLocation, PlaceholderLocation};

@@ -1,23 +1,21 @@
 //! Finds where the first structural fault of a pattern stands, without expanding it.
-ghost use Rattle.std.specs.Prelude.{◌≡◌, ◌<◌, ◌^◌, [], ◌∷◌, IfOk, IfSome, MatchOption, None, Some, option_map};
+ghost use Rattle.std.specs.Prelude.{◌≡◌, IfOk, IfSome, option_map, None, true};
 ghost use Rattle.std.specs.FinMap as finite;
 ghost use Rattle.grok.specs.Tree.{tree, deepest, first_structural};
 ghost use Rattle.grok.specs.Items.{fault_view, item_view};
 ghost use Rattle.grok.specs.MeasureCache.{IsIdle, HasCorrectCache};
-ghost use Rattle.grok.specs.FaultLocations.{IsFaultAt, fault_within, path_view, end_of};
-ghost use Rattle.grok.specs.FirstWrong.{IsResolvedItem, IsWrong, IsFirstWrong};
-ghost use Rattle.grok.specs.Tree.{items_of};
-ghost use Rattle.grok.specs.Pieces.{Piece};
-ghost use Rattle.grok.specs.Views.{piece_view};
+ghost use Rattle.grok.specs.Events.{event_view};
+ghost use Rattle.grok.specs.FaultLocations.{IsFaultAt, path_view};
+ghost use Rattle.grok.specs.FaultSearches.{is_fault, fault_of_item};
 
 use crate::defs::Grok;
 use crate::defs::definition::Definition;
-use crate::defs::items::{Item, Meaning};
-use crate::defs::pieces::pieces_of;
-use crate::errors::fault::{Fault, LEVELS};
+use crate::defs::items::Item;
+use crate::descend::{Search, descend};
+use crate::errors::fault::Fault;
+use crate::expand::events::Event;
 use crate::measure::measurer::Measurer;
 use crate::measure::settings::MeasureSettings;
-use crate::parser::GrokComponent;
 use std::alloc::AllocError;
 use std::ops::Range;
 
@@ -36,110 +34,58 @@ pub struct FaultLocation<'a> {
     pub range: Range<usize>,
 }
 
-/// What is wrong with a piece.
-#[derive(Clone, Copy)]
-enum Wrong<'a> {
-    /// The piece itself has this fault.
-    Here(Fault<'a>),
-    /// The stored definition of this name, which the piece uses, has a fault.
-    Inside(&'a str, &'a Definition),
+/// Returns whether an event is a structural fault.
+fn is_fault(event: Event<'_>) -> bool
+    ensures { result ≡ is_fault (event_view event.entry) }
+{
+    match event {
+        Event::Fault(_) => true,
+        Event::Text(_) => false,
+        Event::Open(..) => false,
+        Event::Close => false,
+    }
 }
 
-/// The first piece of a text that has a fault, and its byte range.
+/// The search for the first structural fault. It passes over each definition without a fault.
 #[derive(Drop)]
-struct FirstWrong<'a> {
-    wrong: Wrong<'a>,
-    range: Range<usize>,
+struct FaultSearch<'a> {
+    measurer: Measurer<'a>,
 }
 
-/// Returns what is wrong with an item, or `None` if it has no fault. Placeholders in the text of
-/// the item may be nested up to `levels` levels deep.
-fn wrong_item<'a>(
-    measurer: &mut Measurer<'a>,
-    item: Item<'a>,
-    levels: usize,
-) -> Result<Option<Wrong<'a>>, AllocError>
-    requires few { levels < 2 ^ 31 }
-    requires idle { IsIdle measurer.old }
-    ensures wrong { IfOk result (λ found.
-        HasCorrectCache measurer.old →
-        IsResolvedItem (finite.get measurer.old.settings.grok.now) (item_view item.entry) → MatchOption found
-        (fault_within (finite.get measurer.old.settings.grok.now) levels (item_view item.entry ∷ []) ≡ None)
-        (λ wrong. IsWrong (finite.get measurer.old.settings.grok.now) levels (item_view item.entry) wrong)) }
-    ensures cache { IfOk result
-        (λ found. HasCorrectCache measurer.old →
-        HasCorrectCache measurer.new) }
-    ensures idle { IfOk result (λ found. IsIdle measurer.new) }
-    ensures settings { IfOk result (λ found. measurer.new.settings ≡ measurer.old.settings) }
+impl<'a> Search<'a> for FaultSearch<'a> {
+    ghost definitions = { λ search. finite.get search.measurer.settings.grok.now };
+
+    ghost IsReady = { λ search. IsIdle search.measurer × HasCorrectCache search.measurer };
+
+    ghost HasPassed = { λ start es now. first_structural es ≡ None };
+
+    ghost IsSought = { λ start es event. is_fault event ≡ true };
+
+    fn pass_event(&mut self, event: Event<'a>) -> bool {
+        !is_fault(event)
+    }
+
+    fn pass_definition(
+        &mut self,
+        name: &'a str,
+        definition: &'a Definition,
+        levels: usize,
+    ) -> Result<bool, AllocError> {
+        let fault = self
+            .measurer
+            .fault_of_definition(name, definition, levels + 1)?;
+        Ok(fault.is_none())
+    }
+}
+
+/// Returns the fault of an item that has one itself.
+fn fault_of_item<'a>(item: Item<'a>) -> Fault<'a>
+    ensures { fault_view result ≡ fault_of_item (item_view item.entry) }
 {
     match item {
-        Item::Text(_) => Ok(None),
-        Item::Fault(fault) => Ok(Some(Wrong::Here(fault))),
-        Item::Placeholder(label, meaning) => {
-            if levels == 0 {
-                return Ok(Some(Wrong::Here(Fault::TooDeep)));
-            }
-            match meaning {
-                // An inline definition has no placeholders.
-                Meaning::Inline(_) => Ok(None),
-                Meaning::Stored(stored) => {
-                    match measurer.fault_of_definition(label.name, stored, levels)? {
-                        None => Ok(None),
-                        Some(_) => Ok(Some(Wrong::Inside(label.name, stored))),
-                    }
-                }
-            }
-        }
+        Item::Fault(fault) => fault,
+        Item::Text(_) | Item::Placeholder(..) => Fault::TooDeep,
     }
-}
-
-/// Returns the byte position where a piece of a text ends. A malformed piece takes the rest of the
-/// text.
-pub(crate) fn end_of(piece: Option<GrokComponent<'_>>, text: &str) -> usize
-    ensures { (known : Piece) → option_map piece_view piece.entry ≡ Some known →
-        result ≡ end_of text.now known }
-{
-    match piece {
-        Some(GrokComponent::RegularExpression { range, .. }) => range.end,
-        Some(GrokComponent::GrokPattern { range, .. }) => range.end,
-        Some(GrokComponent::PatternError(_)) | None => text.len(),
-    }
-}
-
-/// Returns the first piece of a text that has a fault, or `None` if the text has none. Placeholders
-/// in the text may be nested up to `levels` levels deep.
-fn first_wrong<'a>(
-    measurer: &mut Measurer<'a>,
-    text: &'a str,
-    levels: usize,
-) -> Result<Option<FirstWrong<'a>>, AllocError>
-    requires few { levels < 2 ^ 31 }
-    requires idle { IsIdle measurer.old }
-    ensures wrong { IfOk result (λ found.
-        HasCorrectCache measurer.old → MatchOption found
-        (fault_within (finite.get measurer.old.settings.grok.now) levels
-        (items_of (finite.get measurer.old.settings.grok.now) text.now) ≡ None)
-        (λ first. IsFirstWrong (finite.get measurer.old.settings.grok.now) levels text.now first)) }
-    ensures cache { IfOk result
-        (λ found. HasCorrectCache measurer.old →
-        HasCorrectCache measurer.new) }
-    ensures idle { IfOk result (λ found. IsIdle measurer.new) }
-    ensures settings { IfOk result (λ found. measurer.new.settings ≡ measurer.old.settings) }
-{
-    let mut items = measurer.items_of(text);
-    let mut pieces = pieces_of(text);
-    let mut begin = 0;
-    'items: while let Some(item) = items.next()? {
-        let end = end_of(pieces.next(), text);
-        if let Some(wrong) = wrong_item(measurer, item, levels)? {
-            return Ok(Some(FirstWrong {
-                wrong,
-                range: begin..end,
-            }));
-        }
-        begin = end;
-    }
-    Ok(None)
 }
 
 impl Grok {
@@ -159,32 +105,21 @@ impl Grok {
             IsFaultAt (finite.get self.now) deepest pattern.now (path_view location.path.items)
             location.text.now location.range.start location.range.end (fault_view location.fault))) }
     {
-        let alloc = self.alloc();
-        let mut measurer = Measurer::new(MeasureSettings {
-            grok: self,
-            alloc,
-            with_alias_only: false,
-        });
-        let mut path = Vec::new(alloc);
-        let mut text = pattern;
-        let mut levels = LEVELS;
-        'texts: while let Some(first) = first_wrong(&mut measurer, text, levels)? {
-            match first.wrong {
-                Wrong::Here(fault) => {
-                    return Ok(Some(FaultLocation {
-                        fault,
-                        path,
-                        text,
-                        range: first.range,
-                    }));
-                }
-                Wrong::Inside(name, stored) => {
-                    path.push(name)?;
-                    text = stored.text();
-                    levels -= 1;
-                }
-            }
+        let mut search = FaultSearch {
+            measurer: Measurer::new(MeasureSettings {
+                grok: self,
+                alloc: self.alloc(),
+                with_alias_only: false,
+            }),
+        };
+        match descend(self, &mut search, pattern)? {
+            None => Ok(None),
+            Some(place) => Ok(Some(FaultLocation {
+                fault: fault_of_item(place.item),
+                path: place.path,
+                text: place.text,
+                range: place.range,
+            })),
         }
-        Ok(None)
     }
 }

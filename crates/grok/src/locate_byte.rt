@@ -1,20 +1,21 @@
 //! Finds the piece that writes a byte of an expanded text, without expanding the pattern.
-ghost use Rattle.std.specs.Prelude.{◌≡◌, ◌<◌, ◌^◌, ℕ, Bool, List, [], ◌∷◌, IfOk, MatchOption, None};
+ghost use Rattle.std.specs.Prelude.{◌≡◌, ◌<◌, ◌+◌, ◌≤◌, ℕ, List, [], ◌∷◌, ◌++◌, IfOk, IsTrue, IsFalse, length};
 ghost use Rattle.std.specs.FinMap as finite;
-ghost use Rattle.grok.specs.Tree.{Definitions, Label as ItemLabel, Meaning as ItemMeaning, meaning_text, Event, TextItem, PlaceholderItem};
-ghost use Rattle.grok.specs.Keys.{is_capturing as captures};
-ghost use Rattle.grok.specs.Items.{item_view, label_view, meaning_view};
+ghost use Rattle.grok.specs.Tree.{Event as EventView};
+ghost use Rattle.grok.specs.Items.{item_view};
+ghost use Rattle.grok.specs.Events.{event_view};
+ghost use Rattle.grok.specs.Expanded.{expanded};
 ghost use Rattle.grok.specs.MeasureCache.{IsIdle, HasCorrectCache};
-ghost use Rattle.grok.specs.FaultLocations.{fault_within};
 ghost use Rattle.grok.specs.ByteLocations.{LocatesByte};
-ghost use Rattle.grok.specs.ByteSteps.{IsLater, IsSizedItem, IsSizeOfDefinition, IsByteStep, IsByteStepAfter, FindsWritingPiece};
+ghost use Rattle.grok.specs.Searches.{PassesMore, StopsAt};
+ghost use Rattle.grok.specs.ByteSearches.{IsSizeOf, IsPartOfItem, HasPassedBytes, WritesByte};
 
 use crate::defs::Grok;
-use crate::defs::items::{Item, Label, Meaning};
-use crate::defs::pieces::pieces_of;
-use crate::errors::fault::LEVELS;
+use crate::defs::definition::Definition;
+use crate::defs::items::Item;
+use crate::descend::{Search, descend};
+use crate::expand::events::Event;
 use crate::generated_name::CLOSE;
-use crate::locate::end_of;
 use crate::measure::Measure;
 use crate::measure::measurer::Measurer;
 use crate::measure::partial_size::{
@@ -54,198 +55,92 @@ pub struct ByteLocation<'a> {
     pub part: WrittenByte<'a>,
 }
 
-/// What writes a byte of the expanded text: a piece itself, or the definition that it stands for.
-#[derive(Clone, Copy)]
-enum Writer<'a> {
-    /// The piece itself.
-    Piece(WrittenByte<'a>),
-    /// The piece is a placeholder, and its definition writes the byte. The fields are the name of
-    /// the placeholder, the definition, and the size of all that is written before the definition.
-    Definition(&'a str, &'a str, PartialSize),
-}
-
-/// The result of looking for a byte in one item (a piece whose placeholder is resolved to its
-/// definition). No item before it writes the byte.
-#[derive(Clone, Copy)]
-enum ByteStep<'a> {
-    /// The item writes the byte.
-    Wrote(Writer<'a>),
-    /// The byte comes after the item. All that is written up to the end of the item has this size.
-    Later(PartialSize),
-}
-
-/// A piece of a text that writes a byte, itself or by its definition, and its byte range in the
-/// text.
+/// The search for the event that writes the byte at position `byte`. It passes over each definition
+/// that ends at or before it.
 #[derive(Drop)]
-struct WritingPiece<'a> {
-    writer: Writer<'a>,
-    range: Range<usize>,
-}
-
-/// Looks for the byte at position `byte` in a piece of regular text. All that is written before the
-/// piece has the size `before`.
-fn step_at_text<'a>(text: &'a str, before: PartialSize, byte: usize) -> ByteStep<'a>
-    ensures { (stored : Definitions) (alias_only : Bool) (levels : ℕ) (events : List Event) →
-        IsLater alias_only events byte before →
-        IsByteStep stored alias_only levels events byte (TextItem text.now) result }
-{
-    let after = add(before, size_of_text(text));
-    if has_byte(after, byte) {
-        ByteStep::Wrote(Writer::Piece(WrittenByte::Copied(offset_after(before, byte))))
-    } else {
-        ByteStep::Later(after)
-    }
-}
-
-/// Looks for the byte at position `byte` in the group that a placeholder writes. The placeholder's
-/// definition has the size `size`, and all that is written before the group has the size `before`.
-fn step_at_group<'a>(
-    is_capturing: bool,
-    name: &'a str,
-    definition: &'a str,
-    size: PartialSize,
-    before: PartialSize,
+struct ByteSearch<'a> {
+    measurer: Measurer<'a>,
     byte: usize,
-) -> ByteStep<'a>
-    ensures { (stored : Definitions) (alias_only : Bool) (levels : ℕ) (events : List Event)
-        (label : ItemLabel) (meaning : ItemMeaning) →
-        captures alias_only label ≡ is_capturing → label.name ≡ name.now →
-        meaning_text meaning ≡ definition.now →
-        IsSizeOfDefinition stored alias_only levels definition.now size →
-        IsLater alias_only events byte before →
-        IsByteStep stored alias_only levels events byte (PlaceholderItem label meaning) result }
-{
-    let own = ByteStep::Wrote(Writer::Piece(WrittenByte::OfGroup { name, definition }));
-    let head = add(before, size_of_head(is_capturing));
-    if has_byte(head, byte) {
-        return own;
+    /// The size of all that is written by the events that were passed over.
+    before: PartialSize,
+}
+
+impl<'a> ByteSearch<'a> {
+    /// Returns the size of what an event writes.
+    fn size_of_event(&self, event: Event<'a>) -> PartialSize
+        ensures { IsSizeOf self.now.measurer.settings.with_alias_only result (event_view event.entry ∷ []) }
+    {
+        match event {
+            Event::Text(text) => size_of_text(text),
+            Event::Open(label, _) => size_of_head(self.measurer.is_capturing(label)),
+            Event::Close => size_of_text(CLOSE),
+            Event::Fault(_) => size_of_text(""),
+        }
     }
-    let inner = add(head, size);
-    if has_byte(inner, byte) {
-        return ByteStep::Wrote(Writer::Definition(name, definition, head));
-    }
-    let after = add(inner, size_of_text(CLOSE));
-    if has_byte(after, byte) {
-        own
-    } else {
-        ByteStep::Later(after)
+
+    /// Passes over events that write a text of this size, unless the byte is in it. Returns whether
+    /// it passed over them.
+    fn pass_size(&mut self, size: PartialSize) -> bool
+        ensures passed { IsTrue result → (es : List EventView) →
+            IsSizeOf self.old.measurer.settings.with_alias_only size es →
+            PassesMore HasPassedBytes self.old es self.new }
+        ensures stopped { IsFalse result → (event : EventView) →
+            IsSizeOf self.old.measurer.settings.with_alias_only size (event ∷ []) →
+            StopsAt HasPassedBytes WritesByte self.old event }
+        ensures same { IsFalse result → self.new ≡ self.old }
+        ensures measurer { self.new.measurer ≡ self.old.measurer }
+    {
+        let after = add(self.before, size);
+        if has_byte(after, self.byte) {
+            return false;
+        }
+        self.before = after;
+        true
     }
 }
 
-/// Returns the size of a placeholder's definition, or `None` if the definition has a structural
-/// fault or is nested too deeply. `levels` is how many more levels are allowed, with that of the
-/// placeholder itself.
-fn size_of_meaning<'a>(
-    measurer: &mut Measurer<'a>,
-    label: Label<'a>,
-    meaning: Meaning<'a>,
-    levels: usize,
-) -> Result<Option<PartialSize>, AllocError>
-    requires few { levels < 2 ^ 31 }
-    requires idle { IsIdle measurer.old }
-    ensures size { IfOk result (λ found. HasCorrectCache measurer.old →
-        IsSizedItem (finite.get measurer.old.settings.grok.now) measurer.old.settings.with_alias_only
-        (PlaceholderItem (label_view label.entry) (meaning_view meaning.entry)) → MatchOption found
-        (fault_within (finite.get measurer.old.settings.grok.now) levels
-        (PlaceholderItem (label_view label.entry) (meaning_view meaning.entry) ∷ []) ≡ None → ⊥)
-        (λ size. IsSizeOfDefinition (finite.get measurer.old.settings.grok.now)
-        measurer.old.settings.with_alias_only levels (meaning_text (meaning_view meaning.entry)) size)) }
-    ensures cache { IfOk result
-        (λ found. HasCorrectCache measurer.old →
-        HasCorrectCache measurer.new) }
-    ensures idle { IfOk result (λ found. IsIdle measurer.new) }
-    ensures settings { IfOk result (λ found. measurer.new.settings ≡ measurer.old.settings) }
-{
-    if levels == 0 {
-        return Ok(None);
+impl<'a> Search<'a> for ByteSearch<'a> {
+    ghost definitions = { λ search. finite.get search.measurer.settings.grok.now };
+
+    ghost IsReady = { λ search. IsIdle search.measurer × HasCorrectCache search.measurer };
+
+    ghost HasPassed = { HasPassedBytes };
+
+    ghost IsSought = { WritesByte };
+
+    fn pass_event(&mut self, event: Event<'a>) -> bool {
+        let size = self.size_of_event(event);
+        self.pass_size(size)
     }
-    match meaning {
-        Meaning::Inline(text) => Ok(Some(size_of_text(text))),
-        Meaning::Stored(stored) => {
-            match measurer.size_of_definition(label.name, stored, levels)? {
-                Ok(size) => Ok(Some(size)),
-                Err(_) => Ok(None),
-            }
+
+    fn pass_definition(
+        &mut self,
+        name: &'a str,
+        definition: &'a Definition,
+        levels: usize,
+    ) -> Result<bool, AllocError> {
+        match self
+            .measurer
+            .size_of_definition(name, definition, levels + 1)?
+        {
+            Ok(size) => Ok(self.pass_size(size)),
+            Err(_) => Ok(false),
         }
     }
 }
 
-/// Looks for the byte at position `byte` in what an item writes. Placeholders in the text of the
-/// item may be nested up to `levels` levels deep. All that is written before the item has the size
-/// `before`.
-fn step_at_item<'a>(
-    measurer: &mut Measurer<'a>,
-    item: Item<'a>,
-    levels: usize,
-    before: PartialSize,
-    byte: usize,
-) -> Result<ByteStep<'a>, AllocError>
-    requires few { levels < 2 ^ 31 }
-    requires idle { IsIdle measurer.old }
-    ensures step { IfOk result (λ step. HasCorrectCache measurer.old →
-        IsByteStepAfter (finite.get measurer.old.settings.grok.now) measurer.old.settings.with_alias_only levels
-        before byte (item_view item.entry) step) }
-    ensures cache { IfOk result
-        (λ step. HasCorrectCache measurer.old →
-        HasCorrectCache measurer.new) }
-    ensures idle { IfOk result (λ step. IsIdle measurer.new) }
-    ensures settings { IfOk result (λ step. measurer.new.settings ≡ measurer.old.settings) }
+/// Returns what an item writes at the byte that comes `offset` bytes after the start of what its
+/// event writes.
+fn part_of_item<'a>(item: Item<'a>, offset: usize) -> WrittenByte<'a>
+    ensures { IsPartOfItem offset (item_view item.entry) result }
 {
     match item {
-        Item::Text(text) => Ok(step_at_text(text, before, byte)),
-        // This can't happen: `locate_byte` stops early if the pattern has a fault.
-        Item::Fault(_) => Ok(ByteStep::Later(before)),
-        Item::Placeholder(label, meaning) => {
-            let Some(size) = size_of_meaning(measurer, label, meaning, levels)? else {
-                // This can't happen either.
-                return Ok(ByteStep::Later(before));
-            };
-            let is_capturing = measurer.is_capturing(label);
-            let definition = meaning.text();
-            Ok(step_at_group(is_capturing, label.name, definition, size, before, byte))
-        }
+        Item::Placeholder(label, meaning) => WrittenByte::OfGroup {
+            name: label.name,
+            definition: meaning.text(),
+        },
+        Item::Text(_) | Item::Fault(_) => WrittenByte::Copied(offset),
     }
-}
-
-/// Returns the piece of a text that writes the byte at position `byte`, or `None` if the text ends
-/// before that byte. The text has no fault if its placeholders may be nested `levels` levels deep.
-/// All that is written before the text has the size `before`.
-fn writing_piece<'a>(
-    measurer: &mut Measurer<'a>,
-    text: &'a str,
-    levels: usize,
-    mut before: PartialSize,
-    byte: usize,
-) -> Result<Option<WritingPiece<'a>>, AllocError>
-    requires few { levels < 2 ^ 31 }
-    requires idle { IsIdle measurer.old }
-    ensures piece { IfOk result (λ found. HasCorrectCache measurer.old →
-        FindsWritingPiece (finite.get measurer.old.settings.grok.now) measurer.old.settings.with_alias_only
-        levels text.now before byte found) }
-    ensures cache { IfOk result
-        (λ found. HasCorrectCache measurer.old →
-        HasCorrectCache measurer.new) }
-    ensures idle { IfOk result (λ found. IsIdle measurer.new) }
-    ensures settings { IfOk result (λ found. measurer.new.settings ≡ measurer.old.settings) }
-{
-    let mut items = measurer.items_of(text);
-    let mut pieces = pieces_of(text);
-    let mut begin = 0;
-    'items: while let Some(item) = items.next()? {
-        let end = end_of(pieces.next(), text);
-        let step = step_at_item(measurer, item, levels, before, byte)?;
-        match step {
-            ByteStep::Wrote(writer) => {
-                return Ok(Some(WritingPiece {
-                    writer,
-                    range: begin..end,
-                }));
-            }
-            ByteStep::Later(after) => before = after,
-        }
-        begin = end;
-    }
-    Ok(None)
 }
 
 impl Grok {
@@ -268,38 +163,28 @@ impl Grok {
         ensures { IfOk result (λ found.
             LocatesByte (finite.get self.now) with_alias_only pattern.now byte found) }
     {
-        let alloc = self.alloc();
         let mut measurer = Measurer::new(MeasureSettings {
             grok: self,
-            alloc,
+            alloc: self.alloc(),
             with_alias_only,
         });
         let measure = measurer.measure_next(pattern)?;
         if let Measure::Fault(_) = measure {
             return Ok(None);
         }
-        let mut path = Vec::new(alloc);
-        let mut text = pattern;
-        let mut levels = LEVELS;
-        let mut before = size_of_text("");
-        'texts: while let Some(piece) = writing_piece(&mut measurer, text, levels, before, byte)? {
-            match piece.writer {
-                Writer::Piece(part) => {
-                    return Ok(Some(ByteLocation {
-                        path,
-                        text,
-                        range: piece.range,
-                        part,
-                    }));
-                }
-                Writer::Definition(name, definition, head) => {
-                    path.push(name)?;
-                    text = definition;
-                    levels -= 1;
-                    before = head;
-                }
-            }
+        let mut search = ByteSearch {
+            measurer,
+            byte,
+            before: size_of_text(""),
+        };
+        match descend(self, &mut search, pattern)? {
+            None => Ok(None),
+            Some(place) => Ok(Some(ByteLocation {
+                part: part_of_item(place.item, offset_after(search.before, byte)),
+                path: place.path,
+                text: place.text,
+                range: place.range,
+            })),
         }
-        Ok(None)
     }
 }

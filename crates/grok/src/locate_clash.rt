@@ -7,24 +7,23 @@ ghost use Rattle.grok.specs.Tree as tree;
 ghost use Rattle.grok.specs.Tree.{tree as tree_of, reached};
 ghost use Rattle.grok.specs.Keys.{Clash, first_fault, base_key as base_key_of};
 ghost use Rattle.grok.specs.NumberedBases.{opens_numbered_from, is_base_in};
-ghost use Rattle.grok.specs.Items.{label_view, meaning_view, item_view};
-ghost use Rattle.grok.specs.CountedDefinitions.{AreCounted, IsSoundItem, opened_events, is_counted};
+ghost use Rattle.grok.specs.Items.{label_view};
+ghost use Rattle.grok.specs.CountedDefinitions.{AreCounted, opened_events, is_counted};
 ghost use Rattle.grok.specs.FirstFaultSteps.{HasFittingNumber};
 ghost use Rattle.grok.specs.ClashLocations.{IsClashAt, IsFirstClash};
-ghost use Rattle.grok.specs.UseSteps.{HasPassed, HasPassedEvents, StepsAtUse, StepsAtMeaning, BeginsSearch, FindsUse};
+ghost use Rattle.grok.specs.UseSearches.{HasPassed, HasPassedEvents, HasPassedUses, IsSoughtUse, FindsUse};
 
 use crate::defs::Grok;
 use crate::defs::definition::Definition;
-use crate::defs::items::{Item, Items, Label, Meaning};
-use crate::defs::pieces::{Pieces, pieces_of};
-use crate::errors::fault::{LEVELS, TreeFault};
+use crate::defs::items::Label;
+use crate::descend::{Search, descend};
+use crate::errors::fault::TreeFault;
 use crate::expand::counted_definitions::{CompileSettings, CountedDefinitions};
+use crate::expand::events::Event;
 use crate::expand::first_fault::find_first_fault;
 use crate::expand::key_assigner::base_key;
 use crate::expand::numbered::parts_of_numbered;
-use crate::locate::end_of;
 use std::alloc::AllocError;
-use std::mem;
 use std::ops::Range;
 
 /// Where a placeholder stands.
@@ -66,25 +65,14 @@ struct UsesSoFar {
     is_other_used: bool,
 }
 
-/// Where to go on with the search.
+/// The search for a use of a base key: the one before which `so_far.left` other uses of it come. It
+/// passes over each definition that was counted to its end.
 #[derive(Clone, Copy)]
-enum UseStep<'a> {
-    /// The use that is sought comes after the piece and its definition.
-    Later,
-    /// The piece itself is the use that is sought.
-    Here,
-    /// The stored definition of this name, which the piece uses, has to be read.
-    Inside(&'a str, &'a Definition),
-}
-
-/// A text that is searched, from its next piece on.
-#[derive(Drop)]
-struct SearchedText<'a> {
-    text: &'a str,
-    items: Items<'a>,
-    pieces: Pieces<'a>,
-    /// The byte position where the next piece begins.
-    begin: usize,
+struct UseSearch<'a, 'f, 'd, 'k> {
+    settings: CompileSettings<'a, 'f>,
+    definitions: &'d CountedDefinitions<'a>,
+    keys: SoughtKeys<'k>,
+    so_far: UsesSoFar,
 }
 
 /// Returns 1 if a placeholder with this base key uses the key, or else 0.
@@ -138,7 +126,7 @@ fn pass_label<'a>(
 /// of it to what `so_far` has passed. Returns `false` and changes nothing if the definition isn't
 /// counted to its end, if it needs more than `levels` levels (its placeholder's among them), or if
 /// the use that is sought is in it.
-fn pass_definition<'a>(
+fn pass_counted<'a>(
     definitions: &CountedDefinitions<'a>,
     keys: SoughtKeys<'_>,
     name: &'a str,
@@ -161,68 +149,37 @@ fn pass_definition<'a>(
     }
 }
 
-/// Passes over what a placeholder stands for, or returns that it has to be read.
-fn step_at_meaning<'a>(
-    definitions: &CountedDefinitions<'a>,
-    keys: SoughtKeys<'_>,
-    label: Label<'a>,
-    meaning: Meaning<'a>,
-    levels: usize,
-    so_far: &mut UsesSoFar,
-) -> UseStep<'a>
-    ensures { (settings : CompileSettings) → AreCounted settings definitions.now
-        → IsSoundItem settings (tree.PlaceholderItem (label_view label.entry) (meaning_view meaning.entry)) →
-        StepsAtMeaning settings keys.entry levels (label_view label.entry) (meaning_view meaning.entry)
-        result so_far.old so_far.new }
-{
-    match meaning {
-        // An inline definition has no placeholders.
-        Meaning::Inline(_) => UseStep::Later,
-        Meaning::Stored(stored) => {
-            if levels == 0 || pass_definition(definitions, keys, label.name, levels, so_far) {
-                UseStep::Later
-            } else {
-                UseStep::Inside(label.name, stored)
-            }
+impl<'a> Search<'a> for UseSearch<'a, '_, '_, '_> {
+    ghost definitions = { λ search. finite.get search.settings.grok.now };
+
+    ghost IsReady = { λ search. AreCounted search.settings search.definitions.now };
+
+    ghost HasPassed = { HasPassedUses };
+
+    ghost IsSought = { IsSoughtUse };
+
+    fn pass_event(&mut self, event: Event<'a>) -> bool {
+        match event {
+            Event::Open(label, _) => pass_label(self.settings, self.keys, label, &mut self.so_far),
+            Event::Text(_) => true,
+            Event::Close => true,
+            Event::Fault(_) => true,
         }
     }
-}
 
-/// Passes over an item and its definition, or returns where to go on.
-fn step_at_item<'a>(
-    settings: CompileSettings<'a, '_>,
-    definitions: &CountedDefinitions<'a>,
-    keys: SoughtKeys<'_>,
-    item: Item<'a>,
-    levels: usize,
-    so_far: &mut UsesSoFar,
-) -> UseStep<'a>
-    requires { AreCounted settings definitions.now }
-    ensures { IsSoundItem settings.entry (item_view item.entry) →
-        StepsAtUse settings.entry keys.entry levels (item_view item.entry) result so_far.old so_far.new }
-{
-    match item {
-        Item::Text(_) | Item::Fault(_) => UseStep::Later,
-        Item::Placeholder(label, meaning) => {
-            if !pass_label(settings, keys, label, so_far) {
-                return UseStep::Here;
-            }
-            step_at_meaning(definitions, keys, label, meaning, levels, so_far)
-        }
-    }
-}
-
-impl<'a> SearchedText<'a> {
-    /// Begins to search a text.
-    fn new(grok: &'a Grok, text: &'a str) -> SearchedText<'a>
-        ensures { BeginsSearch (finite.get grok.now) text.now result }
-    {
-        SearchedText {
-            text,
-            items: Items::of_text(grok.alloc(), grok, text),
-            pieces: pieces_of(text),
-            begin: 0,
-        }
+    fn pass_definition(
+        &mut self,
+        name: &'a str,
+        _definition: &'a Definition,
+        levels: usize,
+    ) -> Result<bool, AllocError> {
+        Ok(pass_counted(
+            self.definitions,
+            self.keys,
+            name,
+            levels + 1,
+            &mut self.so_far,
+        ))
     }
 }
 
@@ -238,43 +195,21 @@ fn find_use<'a>(
     ensures { IfOk result (λ found.
         FindsUse settings.entry keys.entry pattern.now found so_far.old so_far.new) }
 {
-    let alloc = settings.grok.alloc();
-    let mut path = Vec::new(alloc);
-    let mut around = Vec::new(alloc);
-    let mut inner = SearchedText::new(settings.grok, pattern);
-    'items: loop {
-        let Some(item) = inner.items.next()? else {
-            let Some(outer) = around.pop() else {
-                return Ok(None);
-            };
-            inner = outer;
-            path.pop();
-            continue;
-        };
-        let begin = inner.begin;
-        inner.begin = end_of(inner.pieces.next(), inner.text);
-        match step_at_item(
-            settings,
-            definitions,
-            keys,
-            item,
-            LEVELS - around.len(),
-            so_far,
-        ) {
-            UseStep::Later => {}
-            UseStep::Here => {
-                return Ok(Some(PlaceholderLocation {
-                    path,
-                    text: inner.text,
-                    range: begin..inner.begin,
-                }));
-            }
-            UseStep::Inside(name, stored) => {
-                path.push(name)?;
-                let within = SearchedText::new(settings.grok, stored.text());
-                around.push(mem::replace(&mut inner, within))?;
-            }
-        }
+    let mut search = UseSearch {
+        settings,
+        definitions,
+        keys,
+        so_far: *so_far,
+    };
+    let found = descend(settings.grok, &mut search, pattern)?;
+    *so_far = search.so_far;
+    match found {
+        None => Ok(None),
+        Some(place) => Ok(Some(PlaceholderLocation {
+            path: place.path,
+            text: place.text,
+            range: place.range,
+        })),
     }
 }
 

@@ -12,6 +12,7 @@ ghost use Rattle.grok.specs.Captures.{text_of, capture_texts, IsMatchIn};
 ghost use Rattle.std.specs.Fmt.{DisplaysOnOk};
 ghost use Rattle.grok.specs.Maps.{pair_texts};
 ghost use Rattle.grok.specs.Debugs.{debug_pairs};
+ghost use Rattle.grok.specs.KeyTable.{group_in};
 ghost use Rattle.grok.specs.Answers.{extract_texts, capture_at, value_of, walk};
 
 pub(crate) mod borrowed;
@@ -149,6 +150,14 @@ impl<E: Engine> PatternOf<E> {
         CaptureNames {
             entries: self.keys.entries(),
         }
+    }
+
+    /// Returns the number of the engine's group that a key has its values from, or `None` if the
+    /// pattern has no such key.
+    pub fn group_of(&self, key: &str) -> Option<usize>
+        ensures { result ≡ group_in self.now.keys key.now }
+    {
+        self.keys.get(key)
     }
 
     /// Returns the extract of a key, or `None` if it has none. This doesn't depend on whether a

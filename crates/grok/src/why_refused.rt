@@ -41,6 +41,7 @@ fn reason_of(error: regex::Error) -> Result<RefusalReason, AllocError>
     match error {
         regex::Error::Syntax(error) => Ok(RefusalReason::Syntax(error)),
         regex::Error::CompiledTooBig => Ok(RefusalReason::TooBig),
+        // own error: `regex` reported that an allocation failed.
         regex::Error::OutOfMemory => Err(AllocError),
         regex::Error::Internal => unreachable!(),
     }

@@ -5,7 +5,7 @@ use crate::compiling::{check_debug, check_extracts, check_refusal};
 use crate::rows::{Compiled, Row};
 use crate::showing::shown;
 use crate::walk::{RowCheck, check_rows};
-use grok::{Engine, Error, Grok, MatchesOf, PatternOf};
+use grok::{Engine, Error, Grok, MatcherOf, PatternOf};
 use grok_engines::{Bare, Heads, Refuser};
 use std::alloc::AllocError;
 use std::process::Abort;
@@ -107,39 +107,45 @@ fn other_engines(rt: HostRuntime) -> Result<(), Fail> {
 }
 
 /// Checks that the first and the third group have the line as their value, and that the second has none.
-fn check_values(rt: &impl Abort, found: &MatchesOf<'_, Heads>, line: &str) {
-    for (key, expected) in [
-        ("x", Some(line)),
-        ("x[1]", Some(line)),
-        ("y", None),
-        ("z", None),
-    ] {
-        assert!(rt; found.get(key) == expected, "at {key}");
-    }
-    assert_eq!(rt; found.pattern().text(), "(?<_n_0>a)(?<_n_1>a)(?<_n_2>a)");
+fn check_value(rt: &impl Abort, key: &str, value: Option<&str>, line: &str) {
+    let expected = match key {
+        "x" | "x[1]" => Some(line),
+        _ => None,
+    };
+    assert!(rt; value == expected, "at {key} of {line}");
 }
 
-/// Checks that the line matches, with the values of `check_values`.
-fn check_found(rt: &impl Abort, found: Option<MatchesOf<'_, Heads>>, line: &str) {
-    match found {
-        Some(found) => check_values(rt, &found, line),
+/// Checks what the pattern's own call finds in a line.
+fn check_pattern(
+    rt: &impl Abort,
+    pattern: &PatternOf<Heads>,
+    line: &str,
+) -> Result<(), AllocError> {
+    match pattern.match_against(line)? {
+        Some(found) => {
+            for key in ["x", "x[1]", "y", "z"] {
+                check_value(rt, key, found.get(key), line);
+            }
+            assert_eq!(rt; found.pattern().text(), "(?<_n_0>a)(?<_n_1>a)(?<_n_2>a)");
+        }
         None => assert!(rt; false, "no match at {line}"),
-    }
-}
-
-/// Checks what the pattern's own call finds in three lines.
-fn check_pattern(rt: &impl Abort, pattern: &PatternOf<Heads>) -> Result<(), AllocError> {
-    for line in ["q", "", "other"] {
-        check_found(rt, pattern.match_against(line)?, line);
     }
     Ok(())
 }
 
-/// Checks what one kept matcher finds in three lines, one after the other.
-fn check_matcher(rt: &impl Abort, pattern: &PatternOf<Heads>) -> Result<(), AllocError> {
-    let mut kept = pattern.matcher()?;
-    for line in ["q", "", "other"] {
-        check_found(rt, kept.match_against(line)?, line);
+/// Checks what a kept matcher finds in a line.
+fn check_matcher(
+    rt: &impl Abort,
+    kept: &mut MatcherOf<'_, Heads>,
+    line: &str,
+) -> Result<(), AllocError> {
+    match kept.find(line)? {
+        Some(found) => {
+            for key in ["x", "x[1]", "y", "z"] {
+                check_value(rt, key, found.get(key), line);
+            }
+        }
+        None => assert!(rt; false, "no match at {line}"),
     }
     Ok(())
 }
@@ -150,7 +156,10 @@ fn values_over_heads(rt: HostRuntime) -> Result<(), Fail> {
     let grok = Grok::from_iter(rt.alloc(), &[("A", "a")])?;
     let pattern: PatternOf<Heads> = grok.compile_with("%{A:x}%{A:y:t}%{A:x}", false)?;
     assert_eq!(rt; pattern.get_extract("y"), Some("t"));
-    check_pattern(&rt, &pattern)?;
-    check_matcher(&rt, &pattern)?;
+    let mut kept = pattern.matcher()?;
+    for line in ["q", "", "other"] {
+        check_pattern(&rt, &pattern, line)?;
+        check_matcher(&rt, &mut kept, line)?;
+    }
     Ok(())
 }

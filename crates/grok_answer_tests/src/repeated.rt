@@ -1,14 +1,13 @@
-//! Tests that one pattern finds the same in line after line while its search builds and fills its tables, as a kept
+//! Tests that one pattern finds the same in line after line while its search is built and fills its caches, as a kept
 //! matcher and a pattern that is compiled for that line alone.
 
-use crate::answers::check_answer;
+use crate::answers::{check_answer, check_borrowed};
 use crate::library::library;
 use grok::{Grok, Matcher, Pattern};
-use std::alloc::{AllocError, Global};
 use std::process::Abort;
 use std::test::Fail;
 
-/// How many lines a pattern matches. They are more than twice as many as it matches before its tables are built.
+/// How many lines a pattern matches. The second one builds the search that the others use.
 const CALLS: usize = 40;
 
 /// Names with their definitions.
@@ -43,7 +42,7 @@ impl Asked<'_> {
         expected: &str,
     ) -> Result<(), Fail> {
         check_answer(rt, call, self.pattern.match_against(line)?, line, expected)?;
-        check_answer(rt, call, self.kept.match_against(line)?, line, expected)?;
+        check_borrowed(rt, call, self.kept.find(line)?, line, expected)?;
         let fresh = self.grok.compile(self.text, true)?;
         check_answer(rt, call, fresh.match_against(line)?, line, expected)
     }
@@ -216,59 +215,4 @@ fn lines_asked_again_and_again(rt: HostRuntime) -> Result<(), Fail> {
         check_both_orders(&rt, row.definitions, row.name, row.pattern, row.lines)?;
     }
     Ok(())
-}
-
-/// Lines that are about as long as the tables can handle: the number of `a`s, the text after them, and what the pattern
-/// `^a*(?<last>[^a!])?(?<end>z)?$` finds.
-const LONG_LINES: [(usize, &str, &str); 14] = [
-    // 399 bytes
-    (399, "", ""),
-    (397, "é", "last=é"),
-    (398, "!", "no match"),
-    // 400 bytes
-    (400, "", ""),
-    (398, "é", "last=é"),
-    (396, "日z", "end=z, last=日"),
-    (399, "!", "no match"),
-    // 401 bytes, the last ones with a character across the limit
-    (401, "", ""),
-    (400, "!", "no match"),
-    (399, "é", "last=é"),
-    (398, "日", "last=日"),
-    (398, "é!", "no match"),
-    // 402 bytes, with a character across the limit
-    (399, "éz", "end=z, last=é"),
-    // A short line, so that the tables are built soon.
-    (2, "b", "last=b"),
-];
-
-/// Returns the text of a line.
-fn long_line(alloc: Global, count: usize, tail: &str) -> Result<String, AllocError> {
-    let mut line = String::new(alloc);
-    for _ in 0..count {
-        line.push_str("a")?;
-    }
-    line.push_str(tail)?;
-    Ok(line)
-}
-
-/// Returns the texts of the long lines.
-fn long_lines(alloc: Global) -> Result<Vec<String>, AllocError> {
-    let mut lines = Vec::new(alloc);
-    for (count, tail, _) in LONG_LINES {
-        lines.push(long_line(alloc, count, tail)?)?;
-    }
-    Ok(lines)
-}
-
-/// A line may be too long for the tables that were used for the line before.
-#[test]
-fn lines_about_as_long_as_the_tables_serve(rt: HostRuntime) -> Result<(), Fail> {
-    let texts = long_lines(rt.alloc())?;
-    let mut lines = Vec::new(rt.alloc());
-    for (line, (_, _, expected)) in texts.iter().zip(LONG_LINES) {
-        lines.push((line.as_str(), expected))?;
-    }
-    let text = "^a*(?<last>[^a!])?(?<end>z)?$";
-    check_both_orders(&rt, &[], "long lines", text, &lines)
 }

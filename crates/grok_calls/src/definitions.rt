@@ -20,6 +20,7 @@ pub(crate) fn call(rt: &HostRuntime, name: &str) -> Result<()> {
         "empty" => empty(rt),
         "patterns" => patterns(rt),
         "names" => names(rt),
+        "definition" => definition(rt),
         "with_default_patterns" => with_default_patterns(rt),
         "default" => default(rt),
         "from_iter" => from_iter(rt),
@@ -48,6 +49,12 @@ fn first_names(grok: &Grok) -> [Option<&str>; 3] {
 fn names(rt: &HostRuntime) -> Result<()> {
     let grok = Grok::from_iter(rt.alloc(), &PAIRS)?;
     twice!(rt, first_names(&grok));
+    Ok(())
+}
+
+fn definition(rt: &HostRuntime) -> Result<()> {
+    let grok = Grok::from_iter(rt.alloc(), &PAIRS)?;
+    twice!(rt, (grok.definition("B"), grok.definition("NEW")));
     Ok(())
 }
 

@@ -3,7 +3,7 @@ use crate::LABELS;
 use anyhow::{Result, bail};
 use grok::{Engine, Grok, Matcher, Matches, Pattern, PatternOf};
 use grok_engines::Bare;
-use std::alloc::AllocError;
+use std::alloc::{AllocError, Global};
 
 const LINE: &str = "5E:FF:56:A2:AF:15";
 
@@ -12,18 +12,26 @@ const HALF_A_LINE: &str = "5E:FF";
 const LINE_WITH_DOTS: &str = "5EFF.56A2.AF15";
 
 /// How many calls of `match_against` come before the one that builds the pattern's shared search.
-const CALLS_BEFORE_TABLES: u32 = 1;
+const CALLS_BEFORE_SEARCH: u32 = 1;
 
-/// A number of calls of `match_against` after which the pattern's shared search has all of its tables.
-const CALLS_WITH_TABLES: u32 = 20;
+/// A number of calls of `match_against` after which the shared search has filled its caches.
+const CALLS_TO_FILL: u32 = 20;
 
-/// A number of lines after which the search of a matcher has all of its tables.
+/// How many lines the large pattern matches, and how many letters each of them has before its match.
+const LARGE_LINES: usize = 200;
+
+const LARGE_LENGTH: usize = 4000;
+
+/// A number of lines after which the search of a matcher has filled its caches.
 const WARM: usize = 100;
 
 pub(crate) fn call(rt: &HostRuntime, name: &str) -> Result<()> {
     let grok = Grok::with_default_patterns(rt.alloc())?;
-    if name == "bare" {
-        return match_bare(rt, &grok);
+    match name {
+        "bare" => return match_bare(rt, &grok),
+        "dropped" => return match_and_drop(rt, &grok),
+        "large" => return match_large(rt),
+        _ => {}
     }
     call_on_pattern(rt, name, &grok.compile("%{MAC::text}", false)?)
 }
@@ -32,21 +40,21 @@ fn call_on_pattern(rt: &HostRuntime, name: &str, pattern: &Pattern) -> Result<()
     match name {
         "match_against" => match_against(rt, pattern, LINE),
         "no_match" => match_against(rt, pattern, HALF_A_LINE),
-        "making_tables" => match_after(rt, pattern, CALLS_BEFORE_TABLES, LINE, LINE),
-        "with_tables" => match_after(rt, pattern, CALLS_WITH_TABLES, LINE, LINE),
-        "growing_tables" => match_after(rt, pattern, CALLS_WITH_TABLES, LINE, LINE_WITH_DOTS),
-        "no_match_with_tables" => {
-            match_after(rt, pattern, CALLS_WITH_TABLES, HALF_A_LINE, HALF_A_LINE)
+        "building_the_search" => match_after(rt, pattern, CALLS_BEFORE_SEARCH, LINE, LINE),
+        "filling_the_search" => match_after(rt, pattern, CALLS_BEFORE_SEARCH + 1, LINE, LINE),
+        "with_full_caches" => match_after(rt, pattern, CALLS_TO_FILL, LINE, LINE),
+        "growing_caches" => match_after(rt, pattern, CALLS_TO_FILL, LINE, LINE_WITH_DOTS),
+        "no_match_with_full_caches" => {
+            match_after(rt, pattern, CALLS_TO_FILL, HALF_A_LINE, HALF_A_LINE)
         }
         "matcher" => matcher(rt, pattern),
-        "line_matched" => match_lines(rt, pattern, LINE),
-        "line_not_matched" => match_lines(rt, pattern, HALF_A_LINE),
         "line_found" => find_lines(rt, pattern, LINE, 0),
         "line_not_found" => find_lines(rt, pattern, HALF_A_LINE, 0),
         "warm_line_found" => find_lines(rt, pattern, LINE, WARM),
         "text" => text(rt, pattern),
         "capture_names" => capture_names(rt, pattern),
         "get_extract" => get_extract(rt, pattern),
+        "group_of" => group_of(rt, pattern),
         _ => match pattern.match_against(LINE)? {
             Some(matches) => call_on_matches(rt, name, &matches),
             None => bail!("the line should match"),
@@ -90,6 +98,63 @@ fn match_after(
     match_against(rt, pattern, line)
 }
 
+/// Compiles a pattern, matches a line four times by the pattern and once by a matcher, and drops all of them.
+fn match_and_drop(rt: &HostRuntime, grok: &Grok) -> Result<()> {
+    twice!(rt, count_and_drop(grok));
+    Ok(())
+}
+
+/// Returns how many of the five calls find a match.
+fn count_and_drop(grok: &Grok) -> Result<u32, grok::Error> {
+    let pattern = grok.compile("%{MAC}", false)?;
+    let mut found = 0u32;
+    for _ in 0..4u32 {
+        if pattern.match_against(LINE)?.is_some() {
+            found = found.saturating_add(1);
+        }
+    }
+    let mut matcher = pattern.matcher()?;
+    if matcher.find(LINE)?.is_some() {
+        found = found.saturating_add(1);
+    }
+    Ok(found)
+}
+
+/// Matches lines that lead to ever more states of the pattern's automata: a state has to know at which of the last 20
+/// letters an `a` was.
+fn match_large(rt: &HostRuntime) -> Result<()> {
+    let grok = Grok::empty(rt.alloc());
+    let text = letters(rt.alloc(), LARGE_LINES * LARGE_LENGTH)?;
+    twice!(rt, count_large(&grok, text.as_str()));
+    Ok(())
+}
+
+/// Returns how many lines of the text match.
+fn count_large(grok: &Grok, text: &str) -> Result<usize, grok::Error> {
+    let pattern = grok.compile("(?<last>a[ab]{20})c", true)?;
+    let mut found = 0usize;
+    for line in text.lines() {
+        if pattern.match_against(line)?.is_some() {
+            found = found.saturating_add(1);
+        }
+    }
+    Ok(found)
+}
+
+/// Returns lines of the letters `a` and `b` in no order, each with the match `aaaaaaaaaaaaaaaaaaaaac` at its end.
+fn letters(alloc: Global, count: usize) -> Result<String, AllocError> {
+    let mut text = String::new(alloc);
+    let mut state = 1u32;
+    for number in 0..count {
+        state = state.wrapping_mul(1_664_525).wrapping_add(1_013_904_223);
+        text.push_str(if state >> 31 == 0 { "a" } else { "b" })?;
+        if number % LARGE_LENGTH == LARGE_LENGTH - 1 {
+            text.push_str("aaaaaaaaaaaaaaaaaaaaac\n")?;
+        }
+    }
+    Ok(text)
+}
+
 /// Makes a matcher twice, and prints what each of them finds.
 fn matcher(rt: &HostRuntime, pattern: &Pattern) -> Result<()> {
     'calls: for label in LABELS {
@@ -108,25 +173,14 @@ fn show_matcher(
     returned: Result<Matcher, AllocError>,
 ) -> Result<()> {
     match returned {
-        Ok(mut matcher) => println!(rt; "{label}: {:?}", matcher.match_against(LINE))?,
+        Ok(mut matcher) => println!(rt; "{label}: {:?}", matcher.find(LINE))?,
         Err(error) => println!(rt; "{label}: Err({error:?})")?,
     }
     Ok(())
 }
 
-/// Matches a line twice with one matcher. If an allocation failed in the first call, that doesn't change the result of
-/// the second one.
-fn match_lines<'t>(rt: &HostRuntime, pattern: &'t Pattern, line: &'t str) -> Result<()> {
-    let mut matcher = pattern.matcher()?;
-    ask_twice(rt, &mut matcher, line)
-}
-
-fn ask_twice<'t>(rt: &HostRuntime, matcher: &mut Matcher<'t>, line: &'t str) -> Result<()> {
-    twice!(rt, matcher.match_against(line));
-    Ok(())
-}
-
-/// Calls `find` for `line` twice with one matcher, after `before` calls for the same line.
+/// Calls `find` for `line` twice with one matcher, after `before` calls for the same line. If an allocation failed in the
+/// first call, that doesn't change the result of the second one.
 fn find_lines<'t>(
     rt: &HostRuntime,
     pattern: &'t Pattern,
@@ -168,6 +222,14 @@ fn get_extract(rt: &HostRuntime, pattern: &Pattern) -> Result<()> {
             pattern.get_extract("USER"),
             pattern.get_extract("nobody")
         )
+    );
+    Ok(())
+}
+
+fn group_of(rt: &HostRuntime, pattern: &Pattern) -> Result<()> {
+    twice!(
+        rt,
+        (pattern.group_of("COMMONMAC"), pattern.group_of("nobody"))
     );
     Ok(())
 }

@@ -17,10 +17,8 @@ const BETWEEN_PARTS: char = '\u{1f}';
 struct MatchesByWay {
     /// The pattern's own call, whose search is built by its second call and kept from then on.
     own: String,
-    /// A matcher that is kept for all lines, by its `match_against`.
+    /// A matcher that is kept for all lines.
     kept: String,
-    /// The same matcher, by its `find`.
-    found: String,
     /// A new matcher for each line.
     uncached: String,
 }
@@ -36,13 +34,12 @@ impl MatchesByWay {
         Ok(MatchesByWay {
             own: own_match(alloc, pattern, line)?,
             kept: kept_match(alloc, matcher, line)?,
-            found: found_match(alloc, matcher, line)?,
             uncached: uncached_match(alloc, pattern, line)?,
         })
     }
 
     fn are_the_same(&self) -> bool {
-        self.own == self.uncached && self.kept == self.uncached && self.found == self.uncached
+        self.own == self.uncached && self.kept == self.uncached
     }
 
     fn is_match(&self) -> bool {
@@ -54,12 +51,8 @@ impl fmt::Display for MatchesByWay {
     fn fmt<W: fmt::Write>(&self, f: &mut fmt::Formatter<W>) -> fmt::Result {
         let own = self.own.as_str();
         let kept = self.kept.as_str();
-        let found = self.found.as_str();
         let uncached = self.uncached.as_str();
-        write!(
-            f,
-            "own {own}, kept {kept}, find {found}, uncached {uncached}"
-        )
+        write!(f, "own {own}, kept {kept}, uncached {uncached}")
     }
 }
 
@@ -68,19 +61,7 @@ fn own_match<'a>(alloc: Global, pattern: &'a Pattern, line: &'a str) -> Result<S
     format!(in alloc; "{found:?}")
 }
 
-fn kept_match<'p, 'a>(
-    alloc: Global,
-    matcher: &mut Matcher<'p>,
-    line: &'a str,
-) -> Result<String, AllocError>
-where
-    'p: 'a,
-{
-    let found = matcher.match_against(line)?;
-    format!(in alloc; "{found:?}")
-}
-
-fn found_match<'p, 'm>(
+fn kept_match<'p, 'm>(
     alloc: Global,
     matcher: &'m mut Matcher<'p>,
     line: &'m str,
@@ -92,11 +73,7 @@ where
     format!(in alloc; "{found:?}")
 }
 
-fn uncached_match<'a>(
-    alloc: Global,
-    pattern: &'a Pattern,
-    line: &'a str,
-) -> Result<String, AllocError> {
+fn uncached_match(alloc: Global, pattern: &Pattern, line: &str) -> Result<String, AllocError> {
     let mut matcher = pattern.matcher()?;
     kept_match(alloc, &mut matcher, line)
 }

@@ -7,6 +7,8 @@ const PATTERN: &str = "Hello, %{name:alias[x]:extract=definition}! 100% %%{x} é
 pub(crate) fn call(rt: &HostRuntime, name: &str) -> Result<()> {
     match name {
         "split" => split(rt),
+        "is_name" => is_name(rt),
+        "split_name" => split_name(rt),
         _ => bail!("no call has this name"),
     }
 }
@@ -17,6 +19,16 @@ fn count_pieces() -> u64 {
         count = count.saturating_add(1);
     }
     count
+}
+
+fn is_name(rt: &HostRuntime) -> Result<()> {
+    twice!(rt, (parser::is_name("A_1"), parser::is_name("a-b")));
+    Ok(())
+}
+
+fn split_name(rt: &HostRuntime) -> Result<()> {
+    twice!(rt, parser::split_name("NAME=definition"));
+    Ok(())
 }
 
 fn show_pieces(rt: &HostRuntime) -> Result<()> {

@@ -4,6 +4,7 @@ use Rattle.std.specs.Prelude.{ℕ, List, ◌++◌, Option, Some, None, if◌then
 use Rattle.std.specs.Str.{is_utf8}
 use Rattle.grok.specs.KeyTable.{Entries}
 use Rattle.grok.specs.Answers.{walk}
+use Rattle.grok_lines.specs.Pairs.{pair_line}
 use Rattle.grok_commands.specs.JsonObjects.{object_text}
 use Rattle.grok_commands.specs.declared.line_answers.LineFormat.{LineFormat}
 use Rattle.grok_commands.specs.declared.line_answers.LineFormat.TheVariants.{Pairs, Object}
@@ -21,10 +22,6 @@ not_utf8_text Object = codes "false\n"
 abbrev pub no_match_text : LineFormat → List ℕ
 no_match_text Pairs = codes "no match\n\n"
 no_match_text Object = codes "null\n"
-
--- `KEY=VALUE` and a line feed
-abbrev pub pair_line : List ℕ × List ℕ → List ℕ
-pair_line pair = pair.0 ++ codes "=" ++ pair.1 ++ codes "\n"
 
 -- the answer to a line whose match has these pairs
 abbrev pub match_text : LineFormat → List (List ℕ × List ℕ) → List ℕ

@@ -42,6 +42,7 @@ impl From<AllocError> for ToolFault {
     ghost from_gives = { λ _ fault. fault ≡ Memory };
 
     fn from(_error: AllocError) -> ToolFault {
+        // own error: an allocation failed.
         ToolFault::Memory
     }
 }
@@ -50,6 +51,7 @@ impl<T: Drop> From<AllocFailed<T>> for ToolFault {
     ghost from_gives = { λ _ fault. fault ≡ Memory };
 
     fn from(_error: AllocFailed<T>) -> ToolFault {
+        // own error: an allocation failed.
         ToolFault::Memory
     }
 }
@@ -59,8 +61,11 @@ impl From<LinesError> for ToolFault {
 
     fn from(error: LinesError) -> ToolFault {
         match error {
+            // own error: `grok_lines` reported that an allocation failed.
             LinesError::Memory => ToolFault::Memory,
+            // own error: `grok_lines` reported that the input failed.
             LinesError::Read => ToolFault::Read,
+            // own error: `grok_lines` reported that the output failed.
             LinesError::Write(_) => ToolFault::Write,
         }
     }

@@ -39,6 +39,8 @@ pub fn object_line(alloc: Global, matches: MatchesRef<'_>) -> Result<Vec<u8>, Al
 {
     // Serializing fails only if an allocation fails.
     let Ok(mut line) = serde_json::to_vec(alloc, &MatchObject(matches)) else {
+        // own error: `serde_json` reported an error. Writing a map of texts into memory fails only
+        // if an allocation does.
         return Err(AllocError);
     };
     line.push(b'\n')?;

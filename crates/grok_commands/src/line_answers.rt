@@ -1,13 +1,13 @@
 //! The answers of `match` and of `json` to a line.
-ghost use Rattle.std.specs.Prelude.{◌≡◌, ◌++◌, OnOk, OnErr, Some, None, option_map, if◌then◌else◌, flat_map};
-ghost use Rattle.std.specs.Str.{is_utf8};
-ghost use Rattle.grok_commands.specs.LineTexts.{pair_line, not_utf8_text, no_match_text, match_text};
+ghost use Rattle.std.specs.Prelude.{◌≡◌, ◌++◌, OnOk, OnErr, flat_map};
+ghost use Rattle.grok_lines.specs.Pairs.{pair_line};
+ghost use Rattle.grok_commands.specs.LineTexts.{not_utf8_text, no_match_text, match_text};
 ghost use Rattle.grok.specs.Answers.{walk};
 ghost use Rattle.grok.specs.BorrowedMatches.{borrowed_keys, borrowed_captures};
 
 use crate::json_object::object_line;
 use grok::{HasMatcher, MatcherOf, MatchesRef};
-use grok_lines::LineAnswers;
+use grok_lines::{LineAnswers, append_pair};
 use std::alloc::{AllocError, Global};
 
 /// How the answer to a line is written.
@@ -19,36 +19,13 @@ pub enum LineFormat {
     Object,
 }
 
-/// Returns the line as a text, or `None` if it isn't UTF-8.
-#[tactic(auto, using(crate::proofs::Utf8IsDecided::text_of_line, crate::proofs::Utf8IsDecided::no_text_of_line))]
-fn utf8_text(line: &[u8]) -> Option<&str>
-    ensures { option_map (λ text. text.now) result
-        ≡ (if is_utf8 line.now then Some line.now else None) }
-{
-    match str::from_utf8(line) {
-        Ok(text) => Some(text),
-        Err(_) => None,
-    }
-}
-
-/// Appends `KEY=VALUE` and a line feed.
-fn write_pair(text: &mut Vec<u8>, key: &str, value: &str) -> Result<(), AllocError>
-    ensures { OnOk result (text.new.items ≡ text.old.items ++ pair_line (key.now, value.now)) }
-{
-    text.extend_from_slice(key.as_bytes())?;
-    text.push(b'=')?;
-    text.extend_from_slice(value.as_bytes())?;
-    text.push(b'\n')?;
-    Ok(())
-}
-
 /// Appends a line `KEY=VALUE` for each pair of a match.
 fn write_pairs(text: &mut Vec<u8>, matches: MatchesRef<'_>) -> Result<(), AllocError>
     ensures { OnOk result (text.new.items ≡ text.old.items
         ++ flat_map pair_line (walk (borrowed_keys matches.entry) (borrowed_captures matches.entry))) }
 {
     'pairs: for (key, value) in matches.iter() {
-        write_pair(text, key, value)?;
+        append_pair(text, key, value)?;
     }
     Ok(())
 }
@@ -116,23 +93,18 @@ impl<'p, E: HasMatcher<'p>> LineAnswers for MatchAnswers<'p, E> {
     ghost answer = { λ answers n. line_answer answers.format
         (E.finds answers.matcher.engine) answers.matcher.keys };
 
-    #[inline(never)]
-    fn answer_line(&mut self, text: &mut Vec<u8>, line: &[u8]) -> Result<(), AllocError> {
-        match utf8_text(line) {
-            Some(line) => self.answer_str(text, line),
-            None => text.extend_from_slice(self.format.not_utf8()),
-        }
-    }
-
     // This is inlined into the loop over lines, together with what it calls for a line that doesn't
     // match. That is faster.
     #[inline(always)]
-    #[tactic(auto, using(crate::proofs::Utf8IsDecided::text_of_line))]
     fn answer_str(&mut self, text: &mut Vec<u8>, line: &str) -> Result<(), AllocError> {
         let Some(matches) = self.matcher.find(line)? else {
             return text.extend_from_slice(self.format.no_match());
         };
         self.format
             .write_match(self.alloc, text, &mut self.pairs, matches)
+    }
+
+    fn answer_broken(&mut self, text: &mut Vec<u8>, _line: &[u8]) -> Result<(), AllocError> {
+        text.extend_from_slice(self.format.not_utf8())
     }
 }

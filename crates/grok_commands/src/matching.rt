@@ -22,6 +22,7 @@ fn pattern_fault(error: grok::Error) -> ToolFault
     ensures pattern { error_value error ≢ memory → result ≡ ToolFault.Pattern error }
 {
     match error {
+        // own error: `compile` reported that an allocation failed.
         grok::Error::Memory => ToolFault::Memory,
         error => ToolFault::Pattern(error),
     }

@@ -168,14 +168,10 @@ fn line_of_1100(alloc: Global) -> Result<String, AllocError> {
 
 /// The kept matcher finds the line, which has an `a` for each group.
 fn check_kept(rt: &impl Abort, matcher: &mut Matcher<'_>, line: &str) -> Result<(), Fail> {
-    check_many_pairs(rt, matcher.find(line)?)?;
-    let found = matcher.match_against(line)?;
-    let is_right = found.is_some_and(|found| found.get("k1099") == Some("a"));
-    assert!(rt; is_right);
-    Ok(())
+    check_many_pairs(rt, matcher.find(line)?)
 }
 
-/// The second and the third time the line is matched with the tables that the matcher made at the first.
+/// The second and the third time the line is matched with the caches that the matcher filled at the first.
 #[test]
 fn a_kept_matcher_with_1100_named_groups(rt: HostRuntime) -> Result<(), Fail> {
     let grok = library_of(rt.alloc(), "A", "a")?;
@@ -269,12 +265,9 @@ fn a_clash_after_two_million_uses(rt: HostRuntime) -> Result<(), Fail> {
     check_clash(&rt, &grok, text.as_str(), "Alias k[1999999] already exists")
 }
 
-/// Checks that both calls of a matcher find the z at the end of the line.
+/// Checks that a matcher finds the z at the end of the line.
 fn check_matcher(rt: &impl Abort, pattern: &Pattern, line: &str) -> Result<(), Fail> {
     let mut matcher = pattern.matcher()?;
-    let found = matcher.match_against(line)?;
-    let is_right = found.is_some_and(|found| found.get("l") == Some("z"));
-    assert!(rt; is_right);
     let found = matcher.find(line)?;
     let is_right = found.is_some_and(|found| found.get("l") == Some("z"));
     assert!(rt; is_right);

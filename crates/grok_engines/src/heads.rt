@@ -145,14 +145,6 @@ impl<'e> EngineMatcher for HeadsMatcher<'e> {
 
     ghost group_count = { λ matcher. length matcher.engine.now.names.items };
 
-    fn captures<'t>(
-        &mut self,
-        alloc: Global,
-        line: &'t str,
-    ) -> Result<Option<Vec<Option<&'t str>>>, AllocError> {
-        self.engine.captures(alloc, line)
-    }
-
     fn captures_read(
         &mut self,
         locations: &mut Vec<Option<(usize, usize)>>,

@@ -31,12 +31,11 @@ fn heads_reads_names(rt: HostRuntime) -> Result<(), Fail> {
         }
     }
     let mut matcher = engine.matcher(rt.alloc())?;
-    let Some(found) = matcher.captures(rt.alloc(), "line")? else {
-        return Err("no match")?;
-    };
+    let mut locations = Vec::new(rt.alloc());
+    assert!(rt; matcher.captures_read(&mut locations, "line")?);
     assert_eq!(rt;
-        found.as_slice(),
-        [Some("line"), Some("line"), None, Some("line")].as_slice()
+        locations.as_slice(),
+        [Some((0, 4)), Some((0, 4)), None, Some((0, 4))].as_slice()
     );
     Ok(())
 }

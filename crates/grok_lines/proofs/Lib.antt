@@ -6,3 +6,4 @@ pub mod LineLaws
 pub mod HeldBytesAreKept
 pub mod AnswersAreNumberedOn
 pub mod AnswersHaveGoneOut
+pub mod Utf8IsDecided

@@ -1,5 +1,5 @@
--- Whether an error is a failure of the output.
-use Rattle.std.specs.Prelude.{Result, Ok, Err}
+-- Whether an error is a failure of the output, and the text of each error.
+use Rattle.std.specs.Prelude.{ℕ, List, Option, Some, None, Result, Ok, Err, codes}
 use Rattle.grok_lines.specs.declared.error.LinesError.{LinesError}
 use Rattle.grok_lines.specs.declared.error.LinesError.TheVariants.{Memory, Read, Write}
 
@@ -15,3 +15,9 @@ UnlessWriteFailed (Ok a) Holds = Holds
 UnlessWriteFailed (Err Memory) Holds = Holds
 UnlessWriteFailed (Err Read) Holds = Holds
 UnlessWriteFailed (Err (Write reason)) Holds = Unit {0}
+
+-- The text that Display shows. The system's words for a failure of the output aren't specified.
+abbrev pub lines_error_text : LinesError → Option (List ℕ)
+lines_error_text Memory = Some (codes "Out of memory")
+lines_error_text Read = Some (codes "read failed")
+lines_error_text (Write reason) = None

@@ -21,8 +21,10 @@ pub fn send<W: Write>(held: &mut Vec<u8>, output: &mut W) -> Result<(), LinesErr
     ensures none_held { OnOk result (held.new.items ≡ []) }
     ensures kind { IfErr result IsWriteError }
 {
+    // own error: the writer reported an error.
     output.write_all(held).map_err(LinesError::Write)?;
     held.clear();
+    // own error: the writer reported an error when it was flushed.
     output.flush().map_err(LinesError::Write)
 }
 

@@ -1,5 +1,7 @@
 //! Reads lines and answers each.
-ghost use Rattle.std.specs.Prelude.{◌≡◌, ◌≤◌, ◌<◌, ◌++◌, ◌∷◌, [], ◌⊎◌, length, take, MatchOption, OnOk, OnErr, IfOk, IfErr, IfSome, IfNone, IsErrOf, vec_len};
+ghost use Rattle.std.specs.Prelude.{◌≡◌, ◌≢◌, ◌≤◌, ◌<◌, ◌++◌, ◌∷◌, [], ◌⊎◌, length, take, true, false, MatchOption, OnOk, OnErr, IfOk, IfErr, IfSome, IfNone, IsErrOf, vec_len};
+ghost use Rattle.std.specs.Str.{is_utf8};
+ghost use Rattle.std.specs.IoError.{error_kind};
 ghost use Rattle.std.specs.Io.KnownBytes.{Appends, Consumes, IsAtEnd, Keeps, append_known};
 ghost use Rattle.grok_lines.specs.Lines.{IsLine, ended_lines_of, unended_of, last_line};
 ghost use Rattle.grok_lines.specs.Traffic.{traffic};
@@ -11,12 +13,14 @@ use crate::output::{finish, send, send_long};
 use memchr::{memchr, memchr_iter, memrchr};
 use simdutf8::basic::from_utf8;
 use std::alloc::{AllocError, Global};
-use std::io::{ErrorKind, Read, Write};
+use std::io::{self, ErrorKind, Read, Write};
 
 /// How many bytes are read at once.
 const READ_SIZE: usize = 64 * 1024;
 
 /// Answers lines, one after another. An answer may depend on how many lines came before.
+///
+/// [`answer_lines`] decides whether a line is UTF-8, and calls `answer_str` or `answer_broken`.
 pub trait LineAnswers {
     ghost use Rattle.std.specs.Prelude.{ℕ, List};
 
@@ -25,18 +29,46 @@ pub trait LineAnswers {
 
     /// Appends to `text` the answer to the next line, which is `line`. If an allocation fails, appends nothing, and
     /// doesn't count the line as answered.
-    fn answer_line(&mut self, text: &mut Vec<u8>, line: &[u8]) -> Result<(), AllocError>
+    fn answer_str(&mut self, text: &mut Vec<u8>, line: &str) -> Result<(), AllocError>
+        requires { is_utf8 line.now ≡ true }
         ensures ok { OnOk result (text.new.items ≡ text.old.items ++ answer self.old 0 line.now) }
         ensures memory { OnErr result (text.new.items ≡ text.old.items) }
         ensures next { OnOk result (AreAnswersAfter 1 (answer self.old) (answer self.new)) }
         ensures same { OnErr result (answer self.new ≡ answer self.old) };
 
-    /// Does the same as `answer_line`, for a line that is UTF-8.
-    fn answer_str(&mut self, text: &mut Vec<u8>, line: &str) -> Result<(), AllocError>
+    /// Does the same as `answer_str`, for a line that isn't UTF-8.
+    fn answer_broken(&mut self, text: &mut Vec<u8>, line: &[u8]) -> Result<(), AllocError>
+        requires { is_utf8 line.now ≡ false }
         ensures ok { OnOk result (text.new.items ≡ text.old.items ++ answer self.old 0 line.now) }
         ensures memory { OnErr result (text.new.items ≡ text.old.items) }
         ensures next { OnOk result (AreAnswersAfter 1 (answer self.old) (answer self.new)) }
         ensures same { OnErr result (answer self.new ≡ answer self.old) };
+
+    /// Does the same as `answer_str`, for any line.
+    #[inline(never)]
+    final fn answer_line(&mut self, text: &mut Vec<u8>, line: &[u8]) -> Result<(), AllocError>
+        ensures ok { OnOk result (text.new.items ≡ text.old.items ++ answer self.old 0 line.now) }
+        ensures memory { OnErr result (text.new.items ≡ text.old.items) }
+        ensures next { OnOk result (AreAnswersAfter 1 (answer self.old) (answer self.new)) }
+        ensures same { OnErr result (answer self.new ≡ answer self.old) }
+    {
+        match utf8_text(line) {
+            Some(line) => self.answer_str(text, line),
+            None => self.answer_broken(text, line),
+        }
+    }
+}
+
+/// Returns the bytes as a text, or `None` if they aren't UTF-8.
+#[tactic(auto, using(crate::proofs::Utf8IsDecided::text_of_line, crate::proofs::Utf8IsDecided::no_text_of_line))]
+fn utf8_text(bytes: &[u8]) -> Option<&str>
+    ensures { MatchOption result (is_utf8 bytes.now ≡ false)
+        (λ text. (text.now ≡ bytes.now) × (is_utf8 bytes.now ≡ true)) }
+{
+    match from_utf8(bytes) {
+        Ok(text) => Some(text),
+        Err(_) => None,
+    }
 }
 
 /// Returns what comes before the first line feed, and what comes after it. Returns `None` if there is no line feed.
@@ -52,6 +84,7 @@ fn first_line(bytes: &[u8]) -> Option<(&[u8], &[u8])>
 }
 
 /// Answers each line of `lines` that ends in a line feed. Answers that aren't sent yet are in `held`.
+#[tactic(auto, using(crate::proofs::Utf8IsDecided::text_of_line))]
 fn answer_ended<A: LineAnswers, W: Write>(
     answers: &mut A,
     held: &mut Vec<u8>,
@@ -70,7 +103,7 @@ fn answer_ended<A: LineAnswers, W: Write>(
     ensures kind { IfErr result (λ error. (error ≡ LinesError.Memory) ⊎ IsWriteError error) }
 {
     // If all the lines together are UTF-8, so is each of them.
-    let utf8 = from_utf8(lines).ok();
+    let utf8 = utf8_text(lines);
     let mut start = 0;
     'lines: for end in memchr_iter(b'\n', lines) {
         match utf8 {
@@ -152,6 +185,27 @@ fn answer_last<A: LineAnswers>(
     answers.answer_line(held, partial_line)
 }
 
+/// Decides how a read ended. Returns how many bytes were read, or `None` if the read was interrupted, so that it has to
+/// be tried again.
+///
+/// # Errors
+///
+/// If the read failed for another reason.
+fn end_of_read(read: io::Result<usize>) -> Result<Option<usize>, LinesError>
+    ensures bytes { IfOk read (λ n. result ≡ Ok (Some n)) }
+    ensures interrupted { IfErr read (λ error.
+        error_kind error ≡ ErrorKind.Interrupted → result ≡ Ok None) }
+    ensures failed { IfErr read (λ error.
+        error_kind error ≢ ErrorKind.Interrupted → result ≡ Err LinesError.Read) }
+{
+    match read {
+        Ok(n) => Ok(Some(n)),
+        Err(error) if error.kind() == ErrorKind::Interrupted => Ok(None),
+        // own error: the reader reported an error, and the read wasn't interrupted.
+        Err(_) => Err(LinesError::Read),
+    }
+}
+
 /// Sends all that is held, and then reads once. Returns how many bytes were read, or `None` if the read was
 /// interrupted. If the output fails, nothing is read.
 fn send_and_read<R: Read, W: Write>(
@@ -178,11 +232,7 @@ fn send_and_read<R: Read, W: Write>(
     ensures kind { IfErr result (λ error. (error ≡ LinesError.Read) ⊎ IsWriteError error) }
 {
     send(held, output)?;
-    match input.read(block) {
-        Ok(n) => Ok(Some(n)),
-        Err(error) if error.kind() == ErrorKind::Interrupted => Ok(None),
-        Err(_) => Err(LinesError::Read),
-    }
+    end_of_read(input.read(block))
 }
 
 /// Returns `count` zeros. It is a function of its own, so that no proof has to handle a list of 65,536 items.
@@ -227,6 +277,7 @@ fn answer_blocks<A: LineAnswers, R: Read, W: Write>(
             Some(n) => feed(answers, held, output, &mut partial_line, &block[..n])?,
         }
     }
+    // own error: there were 2^64 - 1 reads, which no run makes. The bound is there for the proof that the loop ends.
     Err(LinesError::Read)
 }
 

@@ -13,6 +13,7 @@ use std::{env, io};
 /// and otherwise `Usage`, since a word isn't UTF-8.
 fn words_fault(error: io::Error) -> ToolFault {
     if error.kind() == ErrorKind::OutOfMemory {
+        // own error: the words of the command line could not be read because an allocation failed.
         ToolFault::Memory
     } else {
         ToolFault::Usage

@@ -16,6 +16,8 @@ fn pattern_fault(
     error: &Error,
 ) -> Result<Fault, AllocError> {
     match error {
+        // own error: the library reported that an allocation failed, or that the text of the pattern
+        // is too long for any.
         Error::Memory => Ok(Fault::Memory),
         error => {
             let report = report_of(alloc, library, pattern, with_alias_only, error)?;

@@ -11,6 +11,8 @@ use std::fmt;
 pub enum Origin<'a> {
     /// It is one of the default definitions.
     Default,
+    /// It is one of the common definitions.
+    Common,
     /// It is on the line `number` of the file `file`. Lines are counted from 1.
     Line { file: &'a str, number: u64 },
     /// It is a word after `-D`.
@@ -21,6 +23,7 @@ impl fmt::Display for Origin<'_> {
     fn fmt<W: fmt::Write>(&self, f: &mut fmt::Formatter<W>) -> fmt::Result {
         match self {
             Origin::Default => f.write_str("a default definition"),
+            Origin::Common => f.write_str("a common definition"),
             Origin::Line { file, number } => write!(f, "{file}:{number}"),
             Origin::Word => f.write_str("-D"),
         }

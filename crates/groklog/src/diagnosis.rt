@@ -1,6 +1,6 @@
 //! Reports what is wrong with a pattern that can't be compiled, where, and what to do.
 
-use crate::excerpt::excerpt;
+use crate::excerpt::add_excerpt;
 use crate::expansion::definitions_in;
 use crate::library::Library;
 use crate::pattern_text::{PatternText, ordinal};
@@ -38,16 +38,26 @@ fn in_upper_case(alloc: Global, name: &str) -> Result<String, AllocError> {
     Ok(upper)
 }
 
+/// How many bytes a name may have that is compared with the names of definitions.
+const MOST_COMPARED: usize = 64;
+
 /// Returns the name of a definition that has the smallest edit distance from `name`, or `None` if
 /// none is close enough. An edit inserts, drops or replaces a character, or swaps two neighbours.
 /// One edit is allowed for each three characters, but at least one if there are two. Upper and
-/// lower case count as the same.
+/// lower case count as the same. Names of more than `MOST_COMPARED` bytes have no nearest one, and
+/// names whose lengths differ by more than the edits that are allowed aren't compared.
 fn nearest_name(alloc: Global, grok: &Grok, name: &str) -> Result<Option<String>, AllocError> {
+    if name.len() > MOST_COMPARED {
+        return Ok(None);
+    }
     let upper_name = in_upper_case(alloc, name)?;
     let most = (name.len() / 3).max(1).min(name.len().saturating_sub(1));
     let mut nearest = None;
     let mut fewest = most.saturating_add(1);
     for known in grok.names() {
+        if known.len().abs_diff(name.len()) >= fewest {
+            continue;
+        }
         let upper = in_upper_case(alloc, known)?;
         let edits = osa_distance(alloc, upper_name.as_str(), upper.as_str())?;
         if edits < fewest {
@@ -65,7 +75,7 @@ fn advice_for_name(alloc: Global, grok: &Grok, name: &str) -> Result<String, All
             "write {nearest} if you mean that, or define {name} by -d FILE or -D {name}=DEF"
         ),
         None => format!(in alloc;
-            "define {name} by -d FILE or -D {name}=DEF; examples/common.definitions has many"
+            "define {name} by -d FILE or -D {name}=DEF, or look for another name by --list"
         ),
     }
 }
@@ -256,7 +266,7 @@ fn located_report(
 ) -> Result<Report, AllocError> {
     let (mut report, part) = structural_report(alloc, library, location)?;
     let words = describe_location(alloc, library, pattern, location.path.as_slice())?;
-    report.add_part(words, excerpt(alloc, location.text, part)?)?;
+    add_excerpt(alloc, &mut report, words.as_str(), location.text, part)?;
     Ok(report)
 }
 
@@ -291,7 +301,7 @@ fn clash_report(
     for placeholder in [&clash.first, &clash.second] {
         let words = describe_location(alloc, library, pattern, placeholder.path.as_slice())?;
         let range = placeholder.range.start..placeholder.range.end;
-        report.add_part(words, excerpt(alloc, placeholder.text, range)?)?;
+        add_excerpt(alloc, &mut report, words.as_str(), placeholder.text, range)?;
     }
     Ok(report)
 }
@@ -397,6 +407,7 @@ fn error_alone(
         },
         Ok(None) => Ok(None),
         Err(error) => match error {
+            // own error: the library reported that an allocation failed.
             Error::Memory => Err(AllocError),
             _ => Ok(None),
         },
@@ -459,7 +470,13 @@ fn syntax_report<'x>(
     let advice = advice_for_refusal(alloc, origin.text)?;
     let words = describe_location(alloc, library, pattern, path.as_slice())?;
     let mut report = Report::new(alloc, what.as_str(), advice)?;
-    report.add_part(words, excerpt(alloc, origin.text, origin.range)?)?;
+    add_excerpt(
+        alloc,
+        &mut report,
+        words.as_str(),
+        origin.text,
+        origin.range,
+    )?;
     Ok(report)
 }
 
@@ -491,9 +508,13 @@ fn refusal_report(
             RefusalReason::TooBig => too_large(alloc, pattern),
         },
         // The engine accepts this text now, so it was refused before because an allocation failed.
+        // own error: the engine refused this text before and now takes it, so an allocation failed
+        // the first time.
         Ok(None) => Err(AllocError),
         // Compiling the pattern had already reached the engine, so only an allocation can have
         // failed here.
+        // own error: the engine refused the text of this pattern before, so only an allocation can
+        // have failed since.
         Err(_) => Err(AllocError),
     }
 }

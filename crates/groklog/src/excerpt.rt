@@ -1,5 +1,6 @@
 //! Shows a part of a text, with some of the text around it and carets under it.
 
+use groklog_input::{Report, visible};
 use std::alloc::{AllocError, Global};
 use std::ops::Range;
 use unicode_width::UnicodeWidthStr;
@@ -9,12 +10,6 @@ const CONTEXT: usize = 30;
 
 /// How many characters of a part are shown at most.
 const MOST_SHOWN: usize = 40;
-
-/// Returns the character that is shown for this one. A control character is shown as a space,
-/// because it could move the cursor, and the carets would then be in the wrong column.
-fn shown(c: char) -> char {
-    if c.is_control() { ' ' } else { c }
-}
 
 /// Returns how many characters of a text begin before the byte position `end`.
 fn chars_before(text: &str, end: usize) -> usize {
@@ -29,23 +24,29 @@ fn push_many(line: &mut String, c: char, count: usize) -> Result<(), AllocError>
     Ok(())
 }
 
-/// Returns `count` characters of a text as they are shown, beginning with the character number
+/// Returns `count` characters of a text as messages show them, beginning with the character number
 /// `first`.
 fn shown_part(alloc: Global, text: &str, first: usize, count: usize) -> Result<String, AllocError> {
     let mut part = String::new(alloc);
     for c in text.chars().skip(first).take(count) {
-        part.push(shown(c))?;
+        part.push(c)?;
     }
-    Ok(part)
+    visible(alloc, part.as_str())
 }
 
-/// Returns two lines: one shows this byte range of a text and some characters around it, and the
-/// other has carets under that range, one for each column that it takes on a terminal.
+/// Adds to a report the byte range of a text that is wrong: some of the text around it, and under
+/// the range a caret for each column that it takes on a terminal. `location` says where the text is.
 ///
 /// # Errors
 ///
 /// If an allocation fails.
-pub fn excerpt(alloc: Global, text: &str, part: Range<usize>) -> Result<String, AllocError> {
+pub fn add_excerpt(
+    alloc: Global,
+    report: &mut Report,
+    location: &str,
+    text: &str,
+    part: Range<usize>,
+) -> Result<(), AllocError> {
     let begin = chars_before(text, part.start);
     let size = chars_before(text, part.end)
         .saturating_sub(begin)
@@ -58,12 +59,13 @@ pub fn excerpt(alloc: Global, text: &str, part: Range<usize>) -> Result<String, 
     let cut = if first > 0 { "..." } else { "" };
     let is_cut_after = chars_before(text, text.len()) > end.saturating_add(CONTEXT);
     let cut_after = if is_cut_after { "..." } else { "" };
-    let mut lines = format!(in alloc; "{cut}{before}{wrong}{after}{cut_after}\n    ")?;
+    let line = format!(in alloc; "{cut}{before}{wrong}{after}{cut_after}")?;
+    let mut carets = String::new(alloc);
     push_many(
-        &mut lines,
+        &mut carets,
         ' ',
         cut.len().saturating_add(before.as_str().width()),
     )?;
-    push_many(&mut lines, '^', wrong.as_str().width().max(1))?;
-    Ok(lines)
+    push_many(&mut carets, '^', wrong.as_str().width().max(1))?;
+    report.add_part(alloc, location, line.as_str(), carets.as_str())
 }

@@ -4,13 +4,14 @@
 use crate::library::Library;
 use grok::parser::{GrokComponent, GrokSplit, grok_split};
 use std::alloc::{AllocError, Global};
+use std::collections::BTreeMap;
 
 /// A text that is being read: the pattern, or the definition of a placeholder.
 #[derive(Drop)]
 struct Frame<'a> {
     pieces: GrokSplit<'a>,
-    /// The inline definitions of this text that were read so far: names and texts.
-    inline: Vec<(&'a str, &'a str)>,
+    /// The inline definitions of this text that were read so far: the text of each name.
+    inline: BTreeMap<&'a str, &'a str>,
 }
 
 /// A placeholder, by its parts. A part that is missing is empty.
@@ -71,12 +72,11 @@ fn group_head(text: &str) -> (usize, bool) {
 /// Returns the definition that a name has in a text with these inline definitions before it.
 fn definition_of<'a>(
     library: &'a Library<'_>,
-    inline: &[(&'a str, &'a str)],
+    inline: &BTreeMap<&'a str, &'a str>,
     name: &str,
 ) -> &'a str {
-    let defined = inline.iter().rev().find(|(known, _)| *known == name);
-    match (defined, library.source(name)) {
-        (Some((_, text)), _) => text,
+    match (inline.get(name).copied(), library.source(name)) {
+        (Some(text), _) => text,
         (None, Some(source)) => source.text.as_str(),
         // This doesn't happen: the pattern was expanded, so the name has a definition.
         (None, None) => "",
@@ -95,7 +95,7 @@ pub fn definitions_in<'a>(
     text: &'a str,
 ) -> Result<Vec<(&'a str, &'a str)>, AllocError> {
     let mut found = Vec::new(alloc);
-    let mut inline = Vec::new(alloc);
+    let mut inline = BTreeMap::new(alloc);
     for piece in grok_split(text) {
         if let GrokComponent::GrokPattern {
             name,
@@ -104,7 +104,7 @@ pub fn definitions_in<'a>(
         } = piece
         {
             if !definition.is_empty() {
-                inline.push((name, definition))?;
+                inline.insert(name, definition)?;
             }
             found.push((name, definition_of(library, &inline, name)))?;
         }
@@ -116,7 +116,7 @@ impl<'a> Frame<'a> {
     fn new(alloc: Global, text: &'a str) -> Frame<'a> {
         Frame {
             pieces: grok_split(text),
-            inline: Vec::new(alloc),
+            inline: BTreeMap::new(alloc),
         }
     }
 
@@ -168,7 +168,7 @@ impl<'a, 'd> Expansion<'a, 'd> {
     ) -> Result<ExpansionStep<'a>, AllocError> {
         let name = placeholder.name;
         if !placeholder.definition.is_empty() {
-            frame.inline.push((name, placeholder.definition))?;
+            frame.inline.insert(name, placeholder.definition)?;
         }
         let text = frame.meaning(self.library, name);
         self.frames.push(frame)?;

@@ -3,7 +3,7 @@
 use crate::expansion::{Expansion, ExpansionStep};
 use crate::library::Library;
 use grok::{Measure, Pattern};
-use groklog_input::meant_key;
+use groklog_input::{meant_key, visible};
 use regex::Regex;
 use std::alloc::{AllocError, Global};
 use std::collections::BTreeMap;
@@ -19,7 +19,11 @@ fn numbered(alloc: Global, key: &str, before: u64) -> Result<String, AllocError>
 
 /// Returns the keys of the capturing placeholders of the pattern `text`, in reading order. The one
 /// with the index k is the key of the group `_n_k` in `expanded`.
-fn keys_of<'x>(
+///
+/// # Errors
+///
+/// If an allocation fails.
+pub fn keys_of<'x>(
     alloc: Global,
     library: &'x Library<'_>,
     text: &'x str,
@@ -45,6 +49,13 @@ fn keys_of<'x>(
     Ok(keys)
 }
 
+/// Appends a line as messages show it, and a line feed.
+fn push_line(alloc: Global, lines: &mut String, line: &str) -> Result<(), AllocError> {
+    let shown = visible(alloc, line)?;
+    lines.push_str(shown.as_str())?;
+    lines.push('\n')
+}
+
 /// Appends the line that shows a key, with its group and its extract.
 fn push_key(
     alloc: Global,
@@ -54,10 +65,10 @@ fn push_key(
     group: usize,
 ) -> Result<(), AllocError> {
     let line = match pattern.get_extract(key) {
-        Some(extract) => format!(in alloc; "  {key}: group {group}, extract {extract}\n")?,
-        None => format!(in alloc; "  {key}: group {group}\n")?,
+        Some(extract) => format!(in alloc; "  {key}: group {group}, extract {extract}")?,
+        None => format!(in alloc; "  {key}: group {group}")?,
     };
-    lines.push_str(line.as_str())
+    push_line(alloc, lines, line.as_str())
 }
 
 /// Appends a line for each named group that shows its key.
@@ -68,6 +79,7 @@ fn push_keys(
     keys: &[String],
 ) -> Result<(), AllocError> {
     let Ok(regex) = Regex::new(alloc, pattern.text()) else {
+        // own error: `regex` has built this text before, so only an allocation can fail.
         return Err(AllocError);
     };
     for (group, name) in regex.capture_names().iter().enumerate() {
@@ -110,7 +122,11 @@ pub fn explain(
     with_alias_only: bool,
 ) -> Result<String, AllocError> {
     let expanded = pattern.text();
-    let mut lines = format!(in alloc; "pattern: {text}\nexpands to: {expanded}\n")?;
+    let mut lines = String::new(alloc);
+    let pattern_line = format!(in alloc; "pattern: {text}")?;
+    push_line(alloc, &mut lines, pattern_line.as_str())?;
+    let expanded_line = format!(in alloc; "expands to: {expanded}")?;
+    push_line(alloc, &mut lines, expanded_line.as_str())?;
     let size = size_line(alloc, library, text, with_alias_only)?;
     lines.push_str(size.as_str())?;
     let keys = keys_of(alloc, library, text, expanded)?;

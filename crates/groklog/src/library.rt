@@ -1,8 +1,9 @@
-//! Builds the library of definitions that patterns are compiled with: the default definitions,
-//! those from files, and those from the words after `-D`.
+//! Builds the library of definitions that patterns are compiled with: the default definitions, the
+//! common definitions, those from files, and those from the words after `-D`.
 
+use crate::common::add_common_definitions;
 use crate::definitions::{Definition, Origin, read_file, read_word};
-use crate::excerpt::excerpt;
+use crate::excerpt::add_excerpt;
 use grok::{Grok, patterns};
 use groklog_input::{Fault, Report, Rewritten, name_of_spaced, rewrite};
 use std::alloc::{AllocError, Global};
@@ -10,8 +11,8 @@ use std::collections::BTreeMap;
 
 /// The name and the text of a file of definitions.
 #[derive(Drop)]
-pub struct DefinitionFile<'a> {
-    pub name: &'a str,
+pub struct DefinitionFile {
+    pub name: String,
     pub text: String,
 }
 
@@ -50,7 +51,7 @@ fn no_definition(alloc: Global, origin: Origin<'_>, line: &str) -> Result<Fault,
         )?,
     };
     let location = format!(in alloc; "{origin}")?;
-    report.add_part(location, excerpt(alloc, line, 0..line.len())?)?;
+    add_excerpt(alloc, &mut report, location.as_str(), line, 0..line.len())?;
     Ok(Fault::Pattern(report))
 }
 
@@ -58,9 +59,9 @@ fn no_definition(alloc: Global, origin: Origin<'_>, line: &str) -> Result<Fault,
 fn add_file<'a>(
     alloc: Global,
     found: &mut Vec<Definition<'a>>,
-    file: &'a DefinitionFile<'a>,
+    file: &'a DefinitionFile,
 ) -> Result<(), Fault> {
-    match read_file(found, file.name, file.text.as_str())? {
+    match read_file(found, file.name.as_str(), file.text.as_str())? {
         None => Ok(()),
         Some((origin, line)) => Err(no_definition(alloc, origin, line)?),
     }
@@ -78,13 +79,18 @@ fn add_word<'a>(
     }
 }
 
-/// Returns the definitions of the files, followed by those of the words.
+/// Returns the common definitions if `with_common` is set, then those of the files, and then those
+/// of the words.
 fn collect<'a>(
     alloc: Global,
-    files: &'a [DefinitionFile<'a>],
+    with_common: bool,
+    files: &'a [DefinitionFile],
     words: &[&'a str],
 ) -> Result<Vec<Definition<'a>>, Fault> {
     let mut found = Vec::new(alloc);
+    if with_common {
+        add_common_definitions(&mut found)?;
+    }
     for file in files {
         add_file(alloc, &mut found, file)?;
     }
@@ -114,7 +120,8 @@ impl<'a> Library<'a> {
         })
     }
 
-    /// Makes the library with the default definitions, those of the files, and those of the words.
+    /// Makes the library with the default definitions, the common definitions if `with_common` is
+    /// set, those of the files, and those of the words.
     /// A later definition of a name replaces an earlier one.
     ///
     /// # Errors
@@ -122,11 +129,12 @@ impl<'a> Library<'a> {
     /// Returns an error if a line or a word isn't a definition, or if an allocation fails.
     pub fn new(
         alloc: Global,
-        files: &'a [DefinitionFile<'a>],
+        with_common: bool,
+        files: &'a [DefinitionFile],
         words: &[&'a str],
         is_from_logstash: bool,
     ) -> Result<Library<'a>, Fault> {
-        let definitions = collect(alloc, files, words)?;
+        let definitions = collect(alloc, with_common, files, words)?;
         let mut last = BTreeMap::new(alloc);
         for (number, definition) in definitions.iter().enumerate() {
             last.insert(definition.name, number)?;
@@ -146,7 +154,11 @@ impl<'a> Library<'a> {
     fn set(&mut self, alloc: Global, definition: Definition<'a>) -> Result<(), AllocError> {
         let Definition { name, text, origin } = definition;
         let location = format!(in alloc; "the definition {name} ({origin})")?;
-        let text = self.adapt(alloc, text, location.as_str())?;
+        let text = match origin {
+            // A common definition isn't made for Logstash.
+            Origin::Common => String::from_str(alloc, text)?,
+            _ => self.adapt(alloc, text, location.as_str())?,
+        };
         self.grok.add_pattern(name, text.as_str())?;
         self.sources.insert(name, Source { text, origin })?;
         Ok(())

@@ -1,44 +1,53 @@
 //! Reads logs with grok patterns, and writes what they find.
 #![tactic(auto)]
 
+mod common;
 mod compiled;
+mod definition_files;
 mod definitions;
 mod diagnosis;
 mod excerpt;
 mod expansion;
 mod explain;
 mod library;
+mod notes;
 mod options;
 mod pattern_text;
 mod run;
 mod terminal;
 
+use crate::run::Outcome;
 use groklog_input::{Fault, Report};
 use std::env;
 use std::io::ErrorKind;
 use std::process::ExitCode;
 
+/// The exit status of a run in which a file couldn't be read.
+const UNREAD: u8 = 3;
+
 /// Reads the words of the command line. The first one is the name of the program.
 fn read_words(rt: &HostRuntime) -> Result<Vec<String>, Fault> {
     match env::args(rt) {
         Ok(words) => Ok(words.collect(rt.alloc())?),
+        // own error: the words could not be read because an allocation failed.
         Err(error) if error.kind() == ErrorKind::OutOfMemory => Err(Fault::Memory),
         Err(_) => Err(Fault::Usage(Report::new(
             rt.alloc(),
             "a word of the command line isn't UTF-8",
-            "write patterns and names of files in UTF-8",
+            "write patterns in UTF-8, and let standard input read a file with such a name: groklog PATTERN <FILE",
         )?)),
     }
 }
 
 /// Runs the program with the words of its command line.
-fn work(rt: &HostRuntime) -> Result<(), Fault> {
+fn work(rt: &HostRuntime) -> Result<Outcome, Fault> {
     let words = read_words(rt)?;
     match options::read_options(rt.alloc(), words.as_slice()) {
         Ok(options) => run::run(rt, &options),
         Err(error) if options::is_answer(&error) => {
             let text = error.to_string(rt.alloc())?;
-            run::write_output(rt, text.as_str())
+            run::write_output(rt, text.as_str())?;
+            Ok(Outcome::AllRead)
         }
         Err(error) => Err(options::usage_fault(rt.alloc(), &error)?),
     }
@@ -46,7 +55,8 @@ fn work(rt: &HostRuntime) -> Result<(), Fault> {
 
 fn main(rt: HostRuntime) -> ExitCode {
     match work(&rt) {
-        Ok(()) => ExitCode::SUCCESS,
+        Ok(Outcome::AllRead) => ExitCode::SUCCESS,
+        Ok(Outcome::SomeUnread) => ExitCode::from(UNREAD),
         Err(fault) => {
             // If writing to standard error fails too, there is nothing left to do.
             let _ = eprint!(rt; "{fault}");

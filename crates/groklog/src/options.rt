@@ -17,19 +17,29 @@ const USAGE: &str =
 const EXAMPLES: &str =
     "A pattern is a regular expression with placeholders: %{NAME}, %{NAME:key} or %{NAME:key:int}.\n\
     Standard input is read if no file is named, and for the file -.\n\
-    examples/common.definitions defines the names that users of Logstash know.\n\n\
+    The names that users of Logstash know are defined, and --list shows their definitions.\n\n\
     Examples:\n  \
     groklog '%{USERNAME:user} logged in' auth.log\n  \
-    groklog -d examples/common.definitions --typed '%{COMMONAPACHELOG}' access.log | jq .response\n  \
+    groklog --typed '%{COMMONAPACHELOG}' access.log | jq .response\n  \
     groklog --typed -D 'NUM=\\d+' '%{NUM:n:int}' counts.log\n\n\
     Exit status: 0, 1 for a fault of a pattern or a definition, 2 for wrong options, 3 if memory, reading or writing fails.";
+
+/// The advice for an option that there isn't.
+const UNKNOWN_OPTION: &str =
+    "groklog --help, which lists the options; for a pattern that begins with -, write -e before it";
 
 /// The options and arguments of the command line.
 #[derive(Drop)]
 pub struct Options<'a> {
     pub patterns: Vec<&'a str>,
+    /// Whether the pattern is the first word, and not the value of `-e`.
+    pub is_pattern_first: bool,
     pub files: Vec<&'a str>,
     pub definition_files: Vec<&'a str>,
+    /// The text that the names of the listed definitions have, if definitions are to be listed.
+    pub list: Option<&'a str>,
+    /// Whether the common definitions are there.
+    pub has_common: bool,
     /// The words after `-D`.
     pub definitions: Vec<&'a str>,
     pub lines: Lines,
@@ -91,12 +101,18 @@ fn repeated<'a>(alloc: Global, id: &'a str, short: char, value: &'a str, help: &
         .allow_hyphen_values(true)
 }
 
-/// Makes an option without a value.
+/// Makes an option without a value. It may be given several times, so that a script can add it to
+/// words that may have it already.
 fn flag<'a>(alloc: Global, id: &'a str, help: &'a str) -> Arg<'a> {
     Arg::new(alloc, id)
         .long(id)
         .help(help)
-        .action(ArgAction::SetTrue)
+        .action(ArgAction::Count)
+}
+
+/// Returns whether an option without a value was given.
+fn is_set(matches: &ArgMatches<'_>, id: &str) -> bool {
+    matches.get_count(id) > 0
 }
 
 /// Adds the options that name patterns and definitions.
@@ -121,7 +137,7 @@ fn with_sources<'a>(alloc: Global, command: Command<'a>) -> Result<Command<'a>, 
             "definitions",
             'd',
             "FILE",
-            "Definitions: lines NAME=DEF, or NAME DEF as Logstash has them",
+            "Definitions: lines NAME=DEF, or NAME DEF as Logstash has them; also a folder of such files",
         )
         .long("definitions"))?
         .arg(repeated(
@@ -131,6 +147,18 @@ fn with_sources<'a>(alloc: Global, command: Command<'a>) -> Result<Command<'a>, 
             "NAME=DEF",
             "A definition; it replaces one of a file",
         ))?
+        .arg(flag(
+            alloc,
+            "no-common",
+            "Leave out the common definitions, which --list shows",
+        ))?
+        .arg(with_value(
+            alloc,
+            "list",
+            "TEXT",
+            "Write the common definitions, or those whose name has this text, and read no lines",
+        )
+        .num_args(0..=1))?
         .arg(flag(
             alloc,
             "from-logstash",
@@ -204,9 +232,9 @@ fn values_of<'a>(
 
 /// Returns which lines are answered, by `--matched` and `--unmatched`.
 fn chosen_lines(matches: &ArgMatches<'_>) -> Lines {
-    if matches.get_flag("matched") {
+    if is_set(matches, "matched") {
         Lines::Matched
-    } else if matches.get_flag("unmatched") {
+    } else if is_set(matches, "unmatched") {
         Lines::Unmatched
     } else {
         Lines::All
@@ -232,6 +260,15 @@ fn patterns_and_files<'a>(
     }
 }
 
+/// Returns the text after `--list`, which is empty if there is none, or `None` without that option.
+fn listed<'a>(matches: &ArgMatches<'a>) -> Option<&'a str> {
+    if matches.contains_id("list") {
+        Some(matches.get_str("list").unwrap_or(""))
+    } else {
+        None
+    }
+}
+
 /// Reads the options from the words of the command line. The first word is the name of the program.
 ///
 /// # Errors
@@ -242,23 +279,29 @@ pub fn read_options<'a>(alloc: Global, words: &'a [String]) -> Result<Options<'a
     let mut command = describe(alloc)?;
     let matches = command.try_get_matches_from_mut(words)?;
     let (patterns, files) = patterns_and_files(alloc, &matches)?;
-    if patterns.is_empty() {
+    let list = listed(&matches);
+    if patterns.is_empty() && list.is_none() {
+        // own error: there is no pattern. This is clap's word for it, and no error of memory or of a
+        // device.
         return Err(command.error(ErrorKind::MissingRequiredArgument, "there is no pattern")?);
     }
     Ok(Options {
         patterns,
+        is_pattern_first: values_of(alloc, &matches, "pattern")?.is_empty(),
         files,
         definition_files: values_of(alloc, &matches, "definitions")?,
         definitions: values_of(alloc, &matches, "define")?,
+        list,
+        has_common: !is_set(&matches, "no-common"),
         lines: chosen_lines(&matches),
         keep: matches.get_str("keep"),
         tag: matches.get_str("tag"),
         number: matches.get_str("number"),
-        are_pairs: matches.get_flag("pairs"),
-        is_typed: matches.get_flag("typed"),
-        is_all: matches.get_flag("all"),
-        is_explained: matches.get_flag("explain"),
-        is_from_logstash: matches.get_flag("from-logstash"),
+        are_pairs: is_set(&matches, "pairs"),
+        is_typed: is_set(&matches, "typed"),
+        is_all: is_set(&matches, "all"),
+        is_explained: is_set(&matches, "explain"),
+        is_from_logstash: is_set(&matches, "from-logstash"),
     })
 }
 
@@ -310,6 +353,7 @@ pub fn is_answer(error: &Error) -> bool {
 /// If an allocation fails.
 pub fn usage_fault(alloc: Global, error: &Error) -> Result<Fault, AllocError> {
     if error.kind() == ErrorKind::OutOfMemory {
+        // own error: clap reported that an allocation failed.
         return Ok(Fault::Memory);
     }
     let text = error.to_string(alloc)?;
@@ -319,6 +363,8 @@ pub fn usage_fault(alloc: Global, error: &Error) -> Result<Fault, AllocError> {
         .unwrap_or(text.as_str());
     let (what, rest) = text.split_once("\n\n").unwrap_or((text, ""));
     let advice = match rest.trim_start().strip_prefix("tip: ") {
+        // Clap's own advice for an option that it doesn't know is how to pass it as a value.
+        Some(tip) if tip.starts_with("to pass ") => UNKNOWN_OPTION,
         Some(tip) => tip.split('\n').next().unwrap_or(tip),
         None => "groklog --help",
     };

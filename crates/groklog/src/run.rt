@@ -1,43 +1,39 @@
 //! Runs the program over files, or over standard input.
 
+use crate::common::list_common_definitions;
 use crate::compiled::{compile_all, taken_key};
+use crate::definition_files::read_definition_files;
 use crate::explain::explain;
-use crate::library::{DefinitionFile, Library};
+use crate::library::Library;
+use crate::notes::{notes_of_pattern, notes_of_words};
 use crate::options::{Options, repeated_key};
 use crate::pattern_text::{PatternText, adapt_patterns};
 use crate::terminal::shows_progress;
 use grok::Pattern;
 use groklog_answers::{Layout, LogAnswers, NamedPattern, OutputFormat};
-use groklog_input::{Answered, Fault, Report, Watched, answer_input, file_fault, write_fault};
+use groklog_input::{
+    Answered, Fault, Report, Watched, answer_input, file_fault, visible, write_fault,
+};
 use std::alloc::{AllocError, Global};
-use std::fs::{self, File};
+use std::fs::File;
 use std::io::{self, Write};
 
-/// Reads a file of definitions.
-fn read_definitions<'a>(rt: &HostRuntime, name: &'a str) -> Result<DefinitionFile<'a>, Fault> {
-    match fs::read_to_string(rt, name) {
-        Ok(text) => Ok(DefinitionFile { name, text }),
-        Err(error) => Err(file_fault(rt.alloc(), name, error.kind())?),
-    }
-}
-
-/// Reads all files of definitions.
-fn read_all_definitions<'a>(
-    rt: &HostRuntime,
-    names: &[&'a str],
-) -> Result<Vec<DefinitionFile<'a>>, Fault> {
-    let mut files = Vec::new(rt.alloc());
-    for name in names {
-        files.push(read_definitions(rt, name)?)?;
-    }
-    Ok(files)
+/// How a run ended in which nothing failed but reading.
+#[derive(Clone, Copy, PartialEq, Eq)]
+pub enum Outcome {
+    /// All files were read, or as much of them as was wanted.
+    AllRead,
+    /// A file couldn't be read, which was reported. The other files were read.
+    SomeUnread,
 }
 
 /// Writes these notes to standard error.
 fn show_notes(rt: &HostRuntime, notes: &[String]) {
     for note in notes {
-        // The run goes on if a note can't be written.
-        let _ = eprintln!(rt; "groklog: {note}");
+        // The run goes on if a note can't be written, or if there is no memory to show it.
+        if let Ok(note) = visible(rt.alloc(), note.as_str()) {
+            let _ = eprintln!(rt; "groklog: {note}");
+        }
     }
 }
 
@@ -131,30 +127,40 @@ fn answer_file(
     }
     match File::open(rt, name) {
         Ok(file) => {
-            let mut input = watch(rt, file, name, shows);
+            let shown = visible(alloc, name)?;
+            let mut input = watch(rt, file, shown.as_str(), shows);
             answer_input(alloc, answers, &mut input, &mut output, name)
         }
         Err(error) => Err(file_fault(alloc, name, error.kind())?),
     }
 }
 
-/// Answers each line of each file, or of standard input if there is none.
+/// Answers each line of each file, or of standard input if there is none. Reports each file that
+/// can't be read, and goes on with the next one.
 fn answer_files(
     rt: &HostRuntime,
     answers: &mut LogAnswers<'_>,
     files: &[&str],
-) -> Result<(), Fault> {
+) -> Result<Outcome, Fault> {
     if files.is_empty() {
         answer_file(rt, answers, "-", false)?;
-        return Ok(());
+        return Ok(Outcome::AllRead);
     }
     let shows = shows_progress(rt);
+    let mut outcome = Outcome::AllRead;
     for file in files {
-        if answer_file(rt, answers, file, shows)? == Answered::Enough {
-            break;
+        match answer_file(rt, answers, file, shows) {
+            Ok(Answered::All) => {}
+            Ok(Answered::Enough) => break,
+            Err(Fault::Read(report)) => {
+                // The run goes on if the report can't be written.
+                let _ = eprint!(rt; "{report}");
+                outcome = Outcome::SomeUnread;
+            }
+            Err(fault) => return Err(fault),
         }
     }
-    Ok(())
+    Ok(outcome)
 }
 
 /// Writes a text to standard output.
@@ -190,11 +196,18 @@ fn explain_all(
 ///
 /// Returns the first fault of a definition, a pattern or a key before any line is read. After that,
 /// returns an error if an allocation, a file or the output fails.
-pub fn run(rt: &HostRuntime, options: &Options<'_>) -> Result<(), Fault> {
+pub fn run(rt: &HostRuntime, options: &Options<'_>) -> Result<Outcome, Fault> {
     let alloc = rt.alloc();
-    let files = read_all_definitions(rt, &options.definition_files)?;
+    if let Some(text) = options.list {
+        let lines = list_common_definitions(alloc, text)?;
+        write_output(rt, lines.as_str())?;
+        return Ok(Outcome::AllRead);
+    }
+    show_notes(rt, &notes_of_words(rt, options)?);
+    let files = read_definition_files(rt, &options.definition_files)?;
     let mut library = Library::new(
         alloc,
+        options.has_common,
         &files,
         &options.definitions,
         options.is_from_logstash,
@@ -208,8 +221,12 @@ pub fn run(rt: &HostRuntime, options: &Options<'_>) -> Result<(), Fault> {
             show_notes(rt, &notes_of_extracts(alloc, pattern)?);
         }
     }
+    for (text, pattern) in texts.iter().zip(&patterns) {
+        show_notes(rt, &notes_of_pattern(alloc, &library, text, pattern)?);
+    }
     if options.is_explained {
-        return explain_all(rt, &library, &texts, &patterns, !options.is_all);
+        explain_all(rt, &library, &texts, &patterns, !options.is_all)?;
+        return Ok(Outcome::AllRead);
     }
     let named = with_texts(alloc, &options.patterns, &patterns)?;
     let mut answers = LogAnswers::new(alloc, &named, layout_of(options))?;

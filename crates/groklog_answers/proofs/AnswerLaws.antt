@@ -7,7 +7,8 @@ use Rattle.grok.specs.Numeral.{numeral}
 use Rattle.groklog_answers.specs.Layouts.{LayoutValue}
 use Rattle.groklog_answers.specs.Patterns.{PatternText, MatchText, match_of, first_match}
 use Rattle.groklog_answers.specs.Objects.{match_members, unmatched_members, object_text}
-use Rattle.groklog_answers.specs.PairTexts.{pair_line, optional_line}
+use Rattle.grok_lines.specs.Pairs.{pair_line}
+use Rattle.groklog_answers.specs.PairTexts.{optional_line}
 use Rattle.groklog_answers.specs.LogAnswers.{match_text, unmatched_text, match_answer, unmatched_answer, answer_by, log_answer}
 use Rattle.groklog_answers.specs.AnswerLaws.{FirstThatMatchesAnswers, NoneThatMatchesIsNoMatch, with_lines, Share, EachLineIsAnswered, EachAnswerIsOfOneKind}
 use Rattle.groklog_answers.specs.declared.layout.Lines.{Lines}

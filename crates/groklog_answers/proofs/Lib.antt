@@ -2,7 +2,6 @@ mod NumbersAreJson
 mod NumeralsAreJson
 mod FirstMatchIsOfFirstPattern
 mod TokensOfMembers
-mod Utf8IsDecided
 mod ObjectsReadBack
 mod AnswerLaws
 mod LinesAreNumbered

@@ -1,12 +1,9 @@
 -- The `KEY=VALUE` lines for a line of a log.
 use Rattle.std.specs.Prelude.{ℕ, List, [], ◌++◌, Option, Some, None, codes, flat_map}
 use Rattle.grok.specs.Numeral.{numeral}
+use Rattle.grok_lines.specs.Pairs.{pair_line}
 use Rattle.groklog_answers.specs.Layouts.{LayoutValue}
 use Rattle.groklog_answers.specs.Patterns.{MatchText}
-
--- `KEY=VALUE` and a line feed
-abbrev pub pair_line : List ℕ × List ℕ → List ℕ
-pair_line pair = pair.0 ++ codes "=" ++ pair.1 ++ codes "\n"
 
 -- The `KEY=VALUE` line with this key and the value `text`, such as the tag or the line of the log
 -- itself. If the key is `None`, it is the empty text.

@@ -1,7 +1,6 @@
 //! Answers each line with the match of the first pattern that matches it.
-ghost use Rattle.std.specs.Prelude.{◌≡◌, ◌+◌, ◌++◌, OnOk, OnErr, IfOk, map, true, false};
+ghost use Rattle.std.specs.Prelude.{◌≡◌, ◌+◌, ◌<◌, ◌++◌, IsErr, OnOk, IfOk, map, true, false};
 ghost use Rattle.std.specs.Option.{is_some};
-ghost use Rattle.std.specs.Str.Lossy.{utf8_lossy};
 ghost use Rattle.groklog_answers.specs.Layouts.{layout_value};
 ghost use Rattle.groklog_answers.specs.Patterns.{match_of, first_match};
 ghost use Rattle.groklog_answers.specs.LogAnswers.{match_answer, unmatched_answer, answer_by};
@@ -67,10 +66,13 @@ pub struct LogAnswers<'p> {
 ///
 /// If `number` is `u64::MAX`.
 fn number_after(number: u64) -> Result<u64, AllocError>
-    ensures { IfOk result (λ after. after ≡ number + 1) }
+    ensures ok { number < u64.MAX → result ≡ Ok (number + 1) }
+    ensures err { number ≡ u64.MAX → IsErr result }
 {
     match number.checked_add(1) {
         Some(after) => Ok(after),
+        // own error: the number is `u64::MAX`, so the next line would have none. No run reads so
+        // many lines.
         None => Err(AllocError),
     }
 }
@@ -215,34 +217,6 @@ impl<'p> LogAnswers<'p> {
     }
 }
 
-impl LogAnswers<'_> {
-    /// Appends the answer to a line that isn't UTF-8. It is answered like a line that no pattern
-    /// matches.
-    #[inline(never)]
-    fn answer_broken(&mut self, text: &mut Vec<u8>, line: &[u8]) -> Result<(), AllocError>
-        ensures ok { OnOk result (text.new.items ≡ text.old.items ++ unmatched_answer
-            (layout_of self.old).lines (layout_of self.old) (next_number_of self.old)
-            (utf8_lossy line.now)) }
-        ensures memory { OnErr result (text.new.items ≡ text.old.items) }
-        ensures layout { layout_of self.new ≡ layout_of self.old }
-        ensures patterns { patterns_of self.new ≡ patterns_of self.old }
-        ensures counted { OnOk result (next_number_of self.new ≡ next_number_of self.old + 1) }
-        ensures not_counted { OnErr result (next_number_of self.new ≡ next_number_of self.old) }
-    {
-        let next_number = number_after(self.next_number)?;
-        let lossy = String::from_utf8_lossy(self.alloc, line)?;
-        let line = NumberedLine {
-            number: self.next_number,
-            text: &lossy,
-        };
-        let mut answer = Vec::new(self.alloc);
-        self.layout.append_unmatched(self.alloc, &mut answer, line)?;
-        text.extend_from_slice(&answer)?;
-        self.next_number = next_number;
-        Ok(())
-    }
-}
-
 impl LineAnswers for LogAnswers<'_> {
     ghost use Rattle.groklog_answers.specs.LogAnswers.{log_answers_from};
     ghost use Rattle.groklog_answers.specs.Views.{patterns_of, layout_of, next_number_of};
@@ -250,17 +224,8 @@ impl LineAnswers for LogAnswers<'_> {
     ghost answer = { λ answers. log_answers_from (layout_of answers) (patterns_of answers)
         (next_number_of answers) };
 
-    #[inline(never)]
-    #[tactic(auto, using(crate::proofs::Utf8IsDecided::text_of_line, crate::proofs::Utf8IsDecided::no_text_of_line, crate::proofs::LinesAreNumbered::counts_on))]
-    fn answer_line(&mut self, text: &mut Vec<u8>, line: &[u8]) -> Result<(), AllocError> {
-        match str::from_utf8(line) {
-            Ok(line) => self.answer_str(text, line),
-            Err(_) => self.answer_broken(text, line),
-        }
-    }
-
     #[inline(always)]
-    #[tactic(auto, using(crate::proofs::Utf8IsDecided::text_of_line, crate::proofs::LinesAreNumbered::counts_on))]
+    #[tactic(auto, using(crate::proofs::LinesAreNumbered::counts_on))]
     fn answer_str(&mut self, text: &mut Vec<u8>, line: &str) -> Result<(), AllocError> {
         let next_number = number_after(self.next_number)?;
         self.answer.clear();
@@ -280,6 +245,23 @@ impl LineAnswers for LogAnswers<'_> {
             layout.append_unmatched(alloc, &mut self.answer, line)?;
         }
         text.extend_from_slice(&self.answer)?;
+        self.next_number = next_number;
+        Ok(())
+    }
+
+    /// Answers the line like one that no pattern matches.
+    #[inline(never)]
+    #[tactic(auto, using(crate::proofs::LinesAreNumbered::counts_on))]
+    fn answer_broken(&mut self, text: &mut Vec<u8>, line: &[u8]) -> Result<(), AllocError> {
+        let next_number = number_after(self.next_number)?;
+        let lossy = String::from_utf8_lossy(self.alloc, line)?;
+        let line = NumberedLine {
+            number: self.next_number,
+            text: &lossy,
+        };
+        let mut answer = Vec::new(self.alloc);
+        self.layout.append_unmatched(self.alloc, &mut answer, line)?;
+        text.extend_from_slice(&answer)?;
         self.next_number = next_number;
         Ok(())
     }

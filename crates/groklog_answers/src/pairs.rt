@@ -3,26 +3,17 @@ ghost use Rattle.std.specs.Prelude.{◌≡◌, ◌++◌, OnOk, option_map, flat_
 ghost use Rattle.grok.specs.Answers.{walk};
 ghost use Rattle.grok.specs.BorrowedMatches.{borrowed_keys, borrowed_captures};
 ghost use Rattle.grok.specs.Numeral.{numeral};
+ghost use Rattle.grok_lines.specs.Pairs.{pair_line};
 ghost use Rattle.groklog_answers.specs.Layouts.{layout_value};
-ghost use Rattle.groklog_answers.specs.PairTexts.{pair_line, optional_line, match_lines, unmatched_lines};
+ghost use Rattle.groklog_answers.specs.PairTexts.{optional_line, match_lines, unmatched_lines};
 ghost use Rattle.groklog_answers.specs.Views.{match_text_of};
 
 use crate::layout::Layout;
 use crate::log_answers::{NamedPattern, NumberedLine};
 use grok::MatchesRef;
+use grok_lines::append_pair;
 use itoa::Buffer;
 use std::alloc::AllocError;
-
-/// Appends `KEY=VALUE` and a line feed.
-fn append_pair(text: &mut Vec<u8>, key: &str, value: &str) -> Result<(), AllocError>
-    ensures { OnOk result (text.new.items ≡ text.old.items ++ pair_line (key.now, value.now)) }
-{
-    text.extend_from_slice(key.as_bytes())?;
-    text.push(b'=')?;
-    text.extend_from_slice(value.as_bytes())?;
-    text.push(b'\n')?;
-    Ok(())
-}
 
 /// Appends a `KEY=VALUE` line with the key `name`. If `name` is `None`, appends nothing.
 fn append_optional(text: &mut Vec<u8>, name: Option<&str>, value: &str) -> Result<(), AllocError>

@@ -1,2 +1,3 @@
 pub mod NamesAndBlanksEndAtBoundaries
 pub mod FirstCharacterDecides
+pub mod ShownTextHasNoRawCharacter

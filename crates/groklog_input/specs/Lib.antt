@@ -1,6 +1,8 @@
 pub mod Definitions
 pub mod Faults
 pub mod Rewriting
+pub mod Visible
 -- THE WORDS FOR CALLERS: each definition that a contract of a public call uses.
 pub use Rattle.groklog_input.specs.Definitions.{without_blanks, definition_of, name_of_spaced}
-pub use Rattle.groklog_input.specs.Faults.{faulty_part, fault_status}
+pub use Rattle.groklog_input.specs.Faults.{excerpt_text, part_texts, fault_status}
+pub use Rattle.groklog_input.specs.Visible.{has_raw, visible}

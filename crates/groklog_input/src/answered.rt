@@ -1,8 +1,8 @@
 //! Answers the lines of an input, and reports why an input or the output failed.
-ghost use Rattle.std.specs.Prelude.{◌≡◌, IfOk, IfSome};
-ghost use Rattle.grok_lines.specs.Streams.{HasAnsweredInputThen};
+ghost use Rattle.std.specs.Prelude.{◌≡◌, IfOk, IfErr};
+ghost use Rattle.grok_lines.specs.Streams.{answers_of, HasAnsweredInputThen, HasAnsweredEnded};
 ghost use Rattle.grok_lines.specs.Traffic.{traffic};
-ghost use Rattle.groklog_input.specs.Faults.{fault_status};
+ghost use Rattle.groklog_input.specs.Faults.{IsReadFault, IsDeviceFault, IsFaultOfFile, IsFaultOfWrite, IsFaultOfLines};
 
 use crate::fault::{Fault, Report};
 use crate::watched::Watched;
@@ -34,9 +34,10 @@ fn advice_for_unreadable(kind: ErrorKind) -> &'static str {
 ///
 /// If an allocation fails.
 pub fn file_fault(alloc: Global, file: &str, kind: ErrorKind) -> Result<Fault, AllocError>
-    ensures { IfOk result (λ fault. fault_status fault ≡ 3) }
+    ensures { IfOk result (IsFaultOfFile kind) }
 {
     let (what, advice) = match kind {
+        // own error: the file could not be read because an allocation failed.
         ErrorKind::OutOfMemory => return Ok(Fault::Memory),
         ErrorKind::NotFound => (
             format!(in alloc; "there is no file {file}")?,
@@ -48,6 +49,7 @@ pub fn file_fault(alloc: Global, file: &str, kind: ErrorKind) -> Result<Fault, A
             advice_for_unreadable(kind),
         ),
     };
+    // own error: opening or reading the file failed, and no allocation did.
     Ok(Fault::Read(Report::new(alloc, what.as_str(), advice)?))
 }
 
@@ -58,7 +60,7 @@ pub fn file_fault(alloc: Global, file: &str, kind: ErrorKind) -> Result<Fault, A
 ///
 /// If an allocation fails.
 pub fn write_fault(alloc: Global, error: &io::Error) -> Result<Option<Fault>, AllocError>
-    ensures { IfOk result (λ found. IfSome found (λ fault. fault_status fault ≡ 3)) }
+    ensures { IfOk result (IsFaultOfWrite error.now) }
 {
     if error.kind() == ErrorKind::BrokenPipe {
         return Ok(None);
@@ -70,6 +72,7 @@ pub fn write_fault(alloc: Global, error: &io::Error) -> Result<Option<Fault>, Al
         }
         _ => "check where standard output goes",
     };
+    // own error: the writer reported an error, and its reader didn't close the pipe.
     Ok(Some(Fault::Write(Report::new(alloc, what.as_str(), advice)?)))
 }
 
@@ -81,10 +84,14 @@ fn lines_fault(
     name: &str,
     failure: Option<ErrorKind>,
     error: &LinesError,
-) -> Result<Option<Fault>, AllocError> {
+) -> Result<Option<Fault>, AllocError>
+    ensures { IfOk result (IsFaultOfLines failure error.now) }
+{
     match error {
+        // own error: `grok_lines` reported that an allocation failed.
         LinesError::Memory => Ok(Some(Fault::Memory)),
         LinesError::Read => {
+            // own error: reading ended without a reason, which no run does.
             let kind = failure.unwrap_or(ErrorKind::Other);
             Ok(Some(file_fault(alloc, name, kind)?))
         }
@@ -104,10 +111,15 @@ pub fn answer_input<A: LineAnswers, R: Read, W: Write>(
     output: &mut W,
     name: &str,
 ) -> Result<Answered, Fault>
-    ensures { IfOk result (λ answered. answered ≡ Answered.All
+    ensures all { IfOk result (λ answered. answered ≡ Answered.All
         → HasAnsweredInputThen (A.answer answers.old) (A.answer answers.new)
         (traffic (R.remaining input.old.input) (R.remaining input.new.input)
         (W.contents output.old) (W.contents output.new))) }
+    ensures read { IfErr result (λ fault. IsReadFault fault
+        → HasAnsweredEnded (answers_of (A.answer answers.old))
+        (traffic (R.remaining input.old.input) (R.remaining input.new.input)
+        (W.contents output.old) (W.contents output.new))) }
+    ensures kind { IfErr result IsDeviceFault }
 {
     let answered = answer_lines(alloc, answers, input, output);
     let failure = input.finish();

@@ -1,9 +1,12 @@
 //! Faults as the program reports them to users: what is wrong, where, and what to do.
 
-ghost use Rattle.std.specs.Prelude.{◌≡◌, [], ◌∷◌, ◌++◌, IfOk, OnOk, string_bytes};
-ghost use Rattle.groklog_input.specs.Faults.{faulty_part, fault_status};
+ghost use Rattle.std.specs.Prelude.{◌≡◌, [], ◌∷◌, ◌++◌, map, Some, IfOk, OnOk, OnErr, string_bytes};
+ghost use Rattle.std.specs.Fmt.{WritesOnOk};
+ghost use Rattle.groklog_input.specs.Faults.{excerpt_text, part_texts, fault_status, part_text, parts_text, advice_text, report_text, fault_text};
+ghost use Rattle.groklog_input.specs.Visible.{visible};
 ghost use Rattle.groklog_input.specs.declared.fault.Fault.TheVariants.{Memory};
 
+use crate::visible_text::visible;
 use std::alloc::{AllocError, AllocFailed, Global};
 use std::fmt;
 
@@ -16,7 +19,9 @@ pub struct FaultyPart {
     pub excerpt: String,
 }
 
-/// What is wrong, where, and what to do. If there is no advice, it is empty.
+/// What is wrong, where, and what to do. If there is no advice, it is empty. All texts are shown by
+/// [`visible`], so that nothing in them, such as the name of a file, can reach a terminal as a
+/// command.
 #[derive(Debug, Drop)]
 pub struct Report {
     pub what: String,
@@ -41,6 +46,17 @@ pub enum Fault {
     Write(Report),
 }
 
+/// Returns two lines: a part of a text, and the carets under it. Both are shown by [`visible`].
+fn excerpt_of(alloc: Global, text: &str, carets: &str) -> Result<String, AllocError>
+    ensures { IfOk result (λ excerpt. string_bytes excerpt ≡ excerpt_text text.now carets.now) }
+{
+    let mut excerpt = visible(alloc, text)?;
+    excerpt.push_str("\n    ")?;
+    let carets = visible(alloc, carets)?;
+    excerpt.push_str(carets.as_str())?;
+    Ok(excerpt)
+}
+
 impl Report {
     /// Makes a report that shows no part of a text.
     ///
@@ -48,28 +64,39 @@ impl Report {
     ///
     /// If an allocation fails.
     pub fn new(alloc: Global, what: &str, advice: &str) -> Result<Report, AllocError>
-        ensures what { IfOk result (λ report. string_bytes report.what ≡ what.now) }
+        ensures what { IfOk result (λ report. string_bytes report.what ≡ visible what.now) }
         ensures parts { IfOk result (λ report. report.parts.items ≡ []) }
-        ensures advice { IfOk result (λ report. string_bytes report.advice ≡ advice.now) }
+        ensures advice { IfOk result (λ report. string_bytes report.advice ≡ visible advice.now) }
     {
         Ok(Report {
-            what: String::from_str(alloc, what)?,
+            what: visible(alloc, what)?,
             parts: Vec::new(alloc),
-            advice: String::from_str(alloc, advice)?,
+            advice: visible(alloc, advice)?,
         })
     }
 
-    /// Adds a part that is wrong: where its text is, and an excerpt of that text.
+    /// Adds a part that is wrong: where its text is, the part with some of the text around it, and
+    /// the carets that stand under the part.
     ///
     /// # Errors
     ///
-    /// If an allocation fails.
-    pub fn add_part(&mut self, location: String, excerpt: String) -> Result<(), AllocError>
+    /// If an allocation fails. The report stays as it was then.
+    pub fn add_part(
+        &mut self,
+        alloc: Global,
+        location: &str,
+        text: &str,
+        carets: &str,
+    ) -> Result<(), AllocError>
         ensures what { self.new.what ≡ self.old.what }
-        ensures parts { OnOk result (self.new.parts.items
-            ≡ self.old.parts.items ++ (faulty_part location excerpt ∷ [])) }
+        ensures parts { OnOk result (map part_texts self.new.parts.items
+            ≡ map part_texts self.old.parts.items
+            ++ ((visible location.now, excerpt_text text.now carets.now) ∷ [])) }
+        ensures memory { OnErr result (self.new.parts.items ≡ self.old.parts.items) }
         ensures advice { self.new.advice ≡ self.old.advice }
     {
+        let location = visible(alloc, location)?;
+        let excerpt = excerpt_of(alloc, text, carets)?;
         Ok(self.parts.push(FaultyPart { location, excerpt })?)
     }
 }
@@ -89,22 +116,52 @@ impl Fault {
     }
 }
 
+impl fmt::Display for FaultyPart {
+    ghost output = { λ part. Some (part_text part) };
+
+    fn fmt<W: fmt::Write>(&self, f: &mut fmt::Formatter<W>) -> fmt::Result {
+        writeln!(f, "{}:", self.location)?;
+        writeln!(f, "    {}", self.excerpt)
+    }
+}
+
+/// Writes each part that is wrong, the first one after "in" and each further one after "and in".
+fn write_parts<W: fmt::Write>(f: &mut fmt::Formatter<W>, parts: &[FaultyPart]) -> fmt::Result
+    ensures { WritesOnOk W.write_str_gives f.old result (parts_text parts.now) f.new }
+{
+    let Some((first, more)) = parts.split_first() else {
+        return Ok(());
+    };
+    write!(f, "  in {first}")?;
+    'parts: for part in more {
+        write!(f, "  and in {part}")?;
+    }
+    Ok(())
+}
+
+/// Writes the advice, or nothing if it is empty.
+fn write_advice<W: fmt::Write>(f: &mut fmt::Formatter<W>, advice: &str) -> fmt::Result
+    ensures { WritesOnOk W.write_str_gives f.old result (advice_text advice.now) f.new }
+{
+    if advice.is_empty() {
+        return Ok(());
+    }
+    writeln!(f, "  try: {advice}")
+}
+
 impl fmt::Display for Report {
+    ghost output = { λ report. Some (report_text report) };
+
     fn fmt<W: fmt::Write>(&self, f: &mut fmt::Formatter<W>) -> fmt::Result {
         writeln!(f, "groklog: {}", self.what)?;
-        for (index, part) in self.parts.iter().enumerate() {
-            let start = if index == 0 { "in" } else { "and in" };
-            writeln!(f, "  {start} {}:", part.location)?;
-            writeln!(f, "    {}", part.excerpt)?;
-        }
-        if !self.advice.is_empty() {
-            writeln!(f, "  try: {}", self.advice)?;
-        }
-        Ok(())
+        write_parts(f, &self.parts)?;
+        write_advice(f, &self.advice)
     }
 }
 
 impl fmt::Display for Fault {
+    ghost output = { λ fault. Some (fault_text fault) };
+
     fn fmt<W: fmt::Write>(&self, f: &mut fmt::Formatter<W>) -> fmt::Result {
         match self {
             Fault::Pattern(report)
@@ -120,6 +177,7 @@ impl From<AllocError> for Fault {
     ghost from_gives = { λ _ fault. fault ≡ Memory };
 
     fn from(_error: AllocError) -> Fault {
+        // own error: an allocation failed.
         Fault::Memory
     }
 }
@@ -128,6 +186,7 @@ impl<T: Drop> From<AllocFailed<T>> for Fault {
     ghost from_gives = { λ _ fault. fault ≡ Memory };
 
     fn from(_error: AllocFailed<T>) -> Fault {
+        // own error: an allocation failed.
         Fault::Memory
     }
 }

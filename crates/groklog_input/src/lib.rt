@@ -16,6 +16,9 @@ mod definition;
 mod fault;
 mod group_names;
 mod logstash;
+#[cfg(test)]
+mod tests;
+mod visible_text;
 mod watched;
 
 pub use answered::{Answered, answer_input, file_fault, write_fault};
@@ -23,4 +26,5 @@ pub use definition::{name_of_spaced, read_definition, skip_blanks};
 pub use fault::{Fault, FaultyPart, Report};
 pub use group_names::meant_key;
 pub use logstash::{Change, ChangeKind, Rewritten, rewrite};
+pub use visible_text::visible;
 pub use watched::Watched;

@@ -1,6 +1,9 @@
 //! Watches an input while it is read: remembers why a read failed, and shows a line of progress on
 //! a terminal.
-ghost use Rattle.std.specs.Prelude.{◌≡◌};
+ghost use Rattle.std.specs.Prelude.{◌≡◌, OnOk, IfErr};
+ghost use Rattle.std.specs.Io.{ReadsAtMost};
+ghost use Rattle.std.specs.Io.KnownBytes.{ReadConsumes};
+ghost use Rattle.std.specs.IoError.{error_kind};
 
 use memchr::memchr_iter;
 use std::io::{self, ErrorKind, Read};
@@ -115,7 +118,14 @@ impl<'a, R> Watched<'a, R> {
 impl<'a, R: Read> Read for Watched<'a, R> {
     ghost remaining = { λ watched. R.remaining watched.input };
 
-    fn read(&mut self, buf: &mut [u8]) -> io::Result<usize> {
+    /// Reads from the input. If that fails, remembers why.
+    fn read(&mut self, buf: &mut [u8]) -> io::Result<usize>
+        ensures bound { ReadsAtMost result buf.new }
+        ensures bytes { ReadConsumes (R.remaining self.old.input) (R.remaining self.new.input)
+            result buf.new }
+        ensures failed { IfErr result (λ error. self.new.failure ≡ Some (error_kind error)) }
+        ensures kept { OnOk result (self.new.failure ≡ self.old.failure) }
+    {
         match self.input.read(buf) {
             Ok(count) => {
                 if let Some(progress) = &mut self.progress {

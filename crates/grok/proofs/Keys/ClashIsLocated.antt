@@ -14,14 +14,14 @@ use Rattle.grok.specs.FaultLocations.{path_view}
 use Rattle.grok.specs.FirstFault.{IsFaultAfter, StructuralEvent, ClashingOpen}
 use Rattle.grok.specs.ByteLocations.{IsEventAt}
 use Rattle.grok.specs.ClashLocations.{HasKeyAt, IsClashAt}
-use Rattle.grok.specs.UseSteps.{is_some_use, IsUseAt, FindsUse}
+use Rattle.grok.specs.UseSearches.{is_some_use, IsUseAt, FindsUse}
 use Rattle.grok.specs.declared.expand.counted_definitions.CompileSettings.{CompileSettings}
 use Rattle.grok.specs.declared.locate_clash.SoughtKeys.{SoughtKeys}
 use Rattle.grok.specs.declared.locate_clash.UsesSoFar.{UsesSoFar}
 use Rattle.grok.specs.declared.locate_clash.PlaceholderLocation.{PlaceholderLocation}
 use Rattle.grok.specs.declared.locate_clash.ClashLocation.{ClashLocation}
 use Rattle.grok.proofs.Sizes.SizeIsThatOfTree.{first_structural-append, or_else}
-use Rattle.grok.proofs.Trees.ByteIsLocated.{event_follows}
+use Rattle.grok.proofs.Trees.EventsInTree.{event_follows}
 use Rattle.grok.proofs.Trees.StepsCompile.{no_structural}
 use Rattle.grok.proofs.Keys.KeysAreDistinct.{numbered_both}
 use Rattle.grok.proofs.Keys.KeysThatCanClashAreEnough.{base_can_clash, numbered_can_clash, counted_as_used}

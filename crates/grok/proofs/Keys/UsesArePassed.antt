@@ -1,15 +1,13 @@
 -- The search for a use passes over events one after the other, and over a counted definition at once.
-use Rattle.std.proofs.Common.{◌≡◌, ℕ, zero, suc, ◌+◌, ◌<◌, Bool, true, false, ◌||◌, List, [], ◌∷◌, ◌++◌, refl, sym, ◌∙◌, ap, subst, arith, append-nil}
-use Rattle.grok.specs.Tree.{Label, Meaning, meaning_text, Item, PlaceholderItem, Event, Open, events}
+use Rattle.std.proofs.Common.{◌≡◌, ℕ, zero, suc, ◌+◌, ◌<◌, Bool, true, false, ◌||◌, List, [], ◌++◌, refl, sym, ◌∙◌, ap, subst, arith}
+use Rattle.grok.specs.Tree.{Event}
 use Rattle.grok.specs.Keys.{how_often}
 use Rattle.grok.specs.CountedDefinitions.{opened_events, counted, IsCountOfText}
-use Rattle.grok.specs.UseSteps.{is_some_use, HasPassed, HasPassedEvents, StepsAtUse, StepsAtMeaning}
+use Rattle.grok.specs.UseSearches.{is_some_use, HasPassed, HasPassedEvents}
 use Rattle.grok.specs.declared.expand.counted_definitions.CompileSettings.{CompileSettings}
 use Rattle.grok.specs.declared.expand.counted_definitions.CountedItems.{CountedItems}
 use Rattle.grok.specs.declared.locate_clash.SoughtKeys.{SoughtKeys}
 use Rattle.grok.specs.declared.locate_clash.UsesSoFar.{UsesSoFar}
-use Rattle.grok.specs.declared.locate_clash.UseStep.{UseStep}
-use Rattle.grok.specs.declared.locate_clash.UseStep.TheVariants as step
 use Rattle.grok.proofs.Keys.DefinitionsAreCounted.{often_both}
 
 -- ---- uses
@@ -53,32 +51,9 @@ module _ (settings : CompileSettings) (keys : SoughtKeys) where
       (sym (often_both settings xs ys base)) (sym (often_both settings xs ys other))
       (passed_both (how_often (counted settings xs) base) (how_often (counted settings xs) other) (how_often (counted settings ys) base) (how_often (counted settings ys) other) old mid new h g)
 
-  -- a placeholder, whose open and whose definition were passed over
-  pub passed_placeholder : (levels : ℕ) (label : Label) (meaning : Meaning) (old mid new : UsesSoFar) → HasPassedEvents settings keys (Open label meaning ∷ []) old mid
-      → HasPassedEvents settings keys (opened_events settings levels (meaning_text meaning)) mid new → HasPassedEvents settings keys (events (opened_events settings levels) (PlaceholderItem label meaning ∷ [])) old new
-  passed_placeholder levels label meaning old mid new h g =
-      subst (λ es. HasPassedEvents settings keys (Open label meaning ∷ es) old new) (sym (append-nil (opened_events settings levels (meaning_text meaning))))
-      (passed_events (Open label meaning ∷ []) (opened_events settings levels (meaning_text meaning)) old mid new h g)
-
   -- a counted definition
   pub passed_counted : (levels : ℕ) (text : List ℕ) (count : CountedItems) (uses others : ℕ) (old new : UsesSoFar) → (t : IsCountOfText settings text count) → count.height < levels
       → uses ≡ t.uses base → others ≡ t.uses other → HasPassed uses others old new → HasPassedEvents settings keys (opened_events settings levels text) old new
   passed_counted levels text count uses others old new t high one two =
       passed_same uses others (how_often (counted settings (opened_events settings levels text)) base) (how_often (counted settings (opened_events settings levels text)) other) old new
       (one ∙ sym (t.often levels high base)) (two ∙ sym (t.often levels high other))
-
-  -- ---- one item
-
-  -- the step at a placeholder, after its own use was passed over
-  pub step_at_placeholder : (levels : ℕ) (item : Item) (label : Label) (meaning : Meaning) (found : UseStep) (old mid new : UsesSoFar) → item ≡ PlaceholderItem label meaning
-      → HasPassedEvents settings keys (Open label meaning ∷ []) old mid → StepsAtMeaning settings keys levels label meaning found mid new → StepsAtUse settings keys levels item found old new
-  step_at_placeholder levels item label meaning step.Later old mid new is opened later =
-      subst (λ i. HasPassedEvents settings keys (events (opened_events settings levels) (i ∷ [])) old new) (sym is) (passed_placeholder levels label meaning old mid new opened later)
-  step_at_placeholder levels item label meaning step.Here old mid new is opened later = absurd later
-  step_at_placeholder levels item label meaning (step.Inside name definition) old mid new is opened (means, named, room, same) = record {
-    label = label;
-    is = is ∙ ap (PlaceholderItem label) means;
-    named = named;
-    room = room;
-    passed = subst (λ m. HasPassedEvents settings keys (Open label m ∷ []) old new) means (subst (HasPassedEvents settings keys (Open label meaning ∷ []) old) (sym same) opened);
-  }

@@ -3,7 +3,8 @@
 ghost use Rattle.std.specs.Prelude.{◌≡◌, drop, [], ◌∷◌, Option, Some, option_map, IfOk, OnOk, MatchOption, List, ℕ, not, ◌&&◌, ◌++◌, IsTrue, IsFalse, if◌then◌else◌};
 ghost use Rattle.std.specs.Str.{bytes_eq};
 ghost use Rattle.std.specs.FinMap as finite;
-ghost use Rattle.grok.specs.Pieces.{pieces};
+ghost use Rattle.grok.specs.Pieces.{Piece, pieces};
+ghost use Rattle.grok.specs.Views.{piece_view};
 ghost use Rattle.grok.specs.Tree.{no_definitions, items_of, items_after, is_absent, resolved, meaning_text};
 ghost use Rattle.grok.specs.Keys.{is_capturing};
 ghost use Rattle.grok.specs.Items.{item_view, label_view, meaning_view, written_in};
@@ -96,7 +97,7 @@ fn open_label<'a>(grok: &'a Grok, label: Label<'a>, written: Option<&'a str>) ->
 {
     match written {
         Some(text) => Item::Placeholder(label, Meaning::Inline(text)),
-        None => match grok.definition(label.name) {
+        None => match grok.stored(label.name) {
             Some(stored) => Item::Placeholder(label, Meaning::Stored(stored)),
             None => Item::Fault(Fault::Missing(label.name)),
         },
@@ -117,6 +118,38 @@ fn write_definition<'a>(
         written.insert(name, definition)?;
     }
     Ok(())
+}
+
+/// Returns the item of a piece. `written` has the inline definitions of the pieces before it, and
+/// that of the piece is stored there too.
+pub(super) fn item_of<'a>(
+    grok: &'a Grok,
+    written: &mut BTreeMap<&'a str, &'a str>,
+    piece: GrokComponent<'a>,
+) -> Result<Item<'a>, AllocError>
+    ensures { IfOk result (λ item. (rest : List Piece) →
+        items_after (finite.get grok.now) (written_in written.old) (piece_view piece.entry ∷ rest)
+        ≡ item_view item ∷ items_after (finite.get grok.now) (written_in written.new) rest) }
+{
+    match piece {
+        GrokComponent::RegularExpression { string, .. } => Ok(Item::Text(string)),
+        GrokComponent::PatternError(fault) => Ok(Item::Fault(Fault::Malformed(fault))),
+        GrokComponent::GrokPattern {
+            name,
+            alias,
+            extract,
+            definition,
+            ..
+        } => {
+            write_definition(written, name, definition)?;
+            let label = Label {
+                name,
+                alias,
+                extract,
+            };
+            Ok(open_label(grok, label, written.get(&name).copied()))
+        }
+    }
 }
 
 impl<'a> Items<'a> {
@@ -170,28 +203,7 @@ impl<'a> Items<'a> {
     {
         match self.source.next() {
             None => Ok(None),
-            Some(GrokComponent::RegularExpression { string, .. }) => Ok(Some(Item::Text(string))),
-            Some(GrokComponent::PatternError(fault)) => {
-                Ok(Some(Item::Fault(Fault::Malformed(fault))))
-            }
-            Some(
-                GrokComponent::GrokPattern {
-                    name,
-                    alias,
-                    extract,
-                    definition,
-                    ..
-                },
-            ) => {
-                write_definition(&mut self.written, name, definition)?;
-                let label = Label {
-                    name,
-                    alias,
-                    extract,
-                };
-                let written = self.written.get(&name).copied();
-                Ok(Some(open_label(self.grok, label, written)))
-            }
+            Some(piece) => Ok(Some(item_of(self.grok, &mut self.written, piece)?)),
         }
     }
 }

@@ -1,6 +1,5 @@
 //! Searches that keep what they need from line to line.
 ghost use Rattle.std.specs.Prelude.{◌≡◌, ℕ, List, Option, Some, None, length, vec_len, if◌then◌else◌, IfOk, IsTrue};
-ghost use Rattle.grok.specs.Captures.{found_texts, IsMatchIn};
 ghost use Rattle.grok.specs.Locations.{AreLocationsIn, located_texts};
 
 use crate::engine::Engine;
@@ -15,17 +14,6 @@ pub trait EngineMatcher: Sized + Drop {
 
     /// The number of groups, with group 0.
     ghost group_count: { Self → ℕ };
-
-    /// Returns the text of each group of the first match in the line, or `None` if nothing matches.
-    fn captures<'t>(
-        &mut self,
-        alloc: Global,
-        line: &'t str,
-    ) -> Result<Option<Vec<Option<&'t str>>>, AllocError>
-        ensures captures { IfOk result (λ found. IsMatchIn line.now (finds self.old)
-            (group_count self.old) (found_texts found)) }
-        ensures same { finds self.new ≡ finds self.old }
-        ensures count { group_count self.new ≡ group_count self.old };
 
     /// Searches for the first match in the line, and returns whether there is one. If so,
     /// `locations` has the start and the end of each group in bytes, from group 0 on, with `None`

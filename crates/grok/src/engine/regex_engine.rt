@@ -7,9 +7,9 @@ ghost use Rattle.grok.specs.RegexFinds.{IsReadByDefault, captures_by, texts_at, 
 ghost use Rattle.regex.specs.declared.error.Error.TheVariants.{OutOfMemory};
 ghost use Rattle.regex.specs.Strings.{captures_haystack, captures_span, captures_names, regex_names};
 
-use crate::engine::shared_search::SharedSearch;
 use crate::engine::{Engine, Refusal};
 use regex::{Captures, Regex};
+use regex_shared::SharedSearch;
 use std::alloc::{AllocError, Global};
 
 /// The engine over the crate `regex`, with its defaults: no flag and no limit is set.
@@ -39,6 +39,7 @@ impl From<regex::Error> for Refusal {
 
     fn from(error: regex::Error) -> Refusal {
         match error {
+            // own error: `regex` reported that an allocation failed.
             regex::Error::OutOfMemory => Refusal::Memory,
             _ => Refusal::Refused,
         }
@@ -115,7 +116,7 @@ fn write_captures_uncached<'t>(
 }
 
 /// Returns the text of each group in a new list, from group 0 on.
-pub(crate) fn group_texts<'t>(
+fn group_texts<'t>(
     alloc: Global,
     found: &Captures<'_, 't>,
 ) -> Result<Vec<Option<&'t str>>, AllocError>

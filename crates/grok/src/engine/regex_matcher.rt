@@ -1,7 +1,7 @@
 //! The search of `regex` that keeps its caches.
 
 use crate::engine::matcher::{EngineMatcher, HasMatcher};
-use crate::engine::regex_engine::{RegexEngine, group_texts, write_locations};
+use crate::engine::regex_engine::{RegexEngine, write_locations};
 use std::alloc::{AllocError, Global};
 
 /// A search of `regex`, which keeps its caches.
@@ -25,18 +25,6 @@ impl<'e> EngineMatcher for RegexMatcher<'e> {
         (length (matcher_names matcher.matcher)) };
 
     ghost group_count = { λ matcher. length (matcher_names matcher.matcher) };
-
-    #[inline(always)]
-    fn captures<'t>(
-        &mut self,
-        alloc: Global,
-        line: &'t str,
-    ) -> Result<Option<Vec<Option<&'t str>>>, AllocError> {
-        match self.matcher.captures(line) {
-            Some(found) => Ok(Some(group_texts(alloc, &found)?)),
-            None => Ok(None),
-        }
-    }
 
     fn captures_read(
         &mut self,

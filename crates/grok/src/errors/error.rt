@@ -50,6 +50,7 @@ impl Error {
             Error::GenericCompilationFailure(message) => {
                 Error::GenericCompilationFailure(message.clone()?)
             }
+            // own error: the error that is copied is this one.
             Error::Memory => Error::Memory,
         })
     }
@@ -91,6 +92,7 @@ impl From<AllocError> for Error {
     ghost from_gives = { λ _ error. error ≡ Memory };
 
     fn from(_error: AllocError) -> Error {
+        // own error: an allocation failed.
         Error::Memory
     }
 }
@@ -99,6 +101,7 @@ impl<T: Drop> From<AllocFailed<T>> for Error {
     ghost from_gives = { λ _ error. error ≡ Memory };
 
     fn from(_error: AllocFailed<T>) -> Error {
+        // own error: an allocation failed.
         Error::Memory
     }
 }
@@ -150,6 +153,7 @@ impl Refusal {
         ensures { IfOk result (λ error. error_value error ≡ error_of_refusal self text.now) }
     {
         match self {
+            // own error: the engine reported that an allocation failed.
             Refusal::Memory => Ok(Error::Memory),
             Refusal::Refused => refused(alloc, text),
         }

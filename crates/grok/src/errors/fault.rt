@@ -3,7 +3,10 @@
 use crate::parser::GrokPatternError;
 
 /// How many placeholders may be nested in one another.
-pub(crate) const LEVELS: usize = 1023;
+pub const MAX_NESTING: usize = 1023;
+
+/// The same, as the modules of the library know it.
+pub(crate) const LEVELS: usize = MAX_NESTING;
 
 /// A structural fault of a pattern. `Grok::measure` returns the first one in reading order.
 #[derive(Clone, Copy, PartialEq, Eq, Debug)]

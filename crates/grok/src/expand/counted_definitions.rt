@@ -227,7 +227,7 @@ impl<'a> CountedDefinitions<'a> {
         requires { AreCounted settings self.old }
         ensures { OnOk result (AreCounted settings.entry self.new) }
     {
-        let Some(stored) = settings.grok.definition(name) else {
+        let Some(stored) = settings.grok.stored(name) else {
             return Ok(());
         };
         if let Some(part) = self.count_text(settings, stored)? {

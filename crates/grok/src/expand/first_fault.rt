@@ -52,6 +52,7 @@ fn count_use<'a>(
     let mut own = KeyUses::new(alloc);
     own.add(base)?;
     let Some(is_free) = total.is_free_with(&own) else {
+        // own error: the key is used more than `usize::MAX` times before the first fault.
         return Err(AllocError);
     };
     if is_free {

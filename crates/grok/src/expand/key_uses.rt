@@ -72,6 +72,7 @@ impl<'a> KeyUses<'a> {
     {
         let count = self.count_of(key);
         let Some(times) = more.times.checked_add(count.times) else {
+            // own error: the key is used more than `usize::MAX` times.
             return Err(AllocError);
         };
         let most = more.most.min(count.most);

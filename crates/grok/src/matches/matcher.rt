@@ -6,9 +6,9 @@ ghost use mir.Syntax.{named};
 ghost use Rattle.grok.specs.Captures.{IsMatchIn};
 
 use crate::engine::matcher::{EngineMatcher, HasMatcher};
+use crate::matches::PatternOf;
 use crate::matches::borrowed::MatchesRef;
 use crate::matches::search::KeptSearch;
-use crate::matches::{MatchesOf, PatternOf};
 use std::alloc::{AllocError, Global};
 use std::marker::Model;
 
@@ -16,7 +16,6 @@ use std::marker::Model;
 /// one line to the next. [`PatternOf::matcher`] makes it.
 #[derive(Drop)]
 pub struct MatcherOf<'p, E: HasMatcher<'p>> {
-    alloc: Global,
     search: KeptSearch<'p, E>,
 }
 
@@ -46,36 +45,12 @@ impl<'p, E: HasMatcher<'p>> MatcherOf<'p, E> {
         ensures { IfOk result (λ matcher. matcher ≡ pattern.now) }
     {
         let search = KeptSearch::new(alloc, pattern, engine)?;
-        Ok(MatcherOf { alloc, search })
+        Ok(MatcherOf { search })
     }
 
-    /// Returns the first match in the line, as `PatternOf::match_against` does.
-    ///
-    /// # Errors
-    ///
-    /// If an allocation fails.
-    #[inline(always)]
-    pub fn match_against<'a>(
-        &mut self,
-        text: &'a str,
-    ) -> Result<Option<MatchesOf<'a, E>>, AllocError>
-    where
-        'p: 'a,
-        ensures captures { IfOk result (λ found. IsMatchIn text.now (E.finds self.old.engine)
-            (length (E.group_names self.old.engine))
-            (option_map (λ matches. matches.captures) found)) }
-        ensures pattern { IfOk result
-            (λ found. IfSome found (λ matches. matches.pattern ≡ self.old)) }
-        ensures same { self.new ≡ self.old }
-    {
-        match self.search.captures(self.alloc, text)? {
-            Some(captures) => Ok(Some(MatchesOf::new(self.search.pattern, captures))),
-            None => Ok(None),
-        }
-    }
-
-    /// Returns the first match in the line, borrowed until the next call. It has the same pairs as
-    /// the match that `match_against` returns. Only the engine may allocate.
+    /// Returns the first match in the line, or `None` if the engine finds none. The match is
+    /// borrowed until the next call, and has the same pairs as the one that
+    /// [`PatternOf::match_against`] returns. Only the engine may allocate.
     ///
     /// # Errors
     ///

@@ -1,7 +1,7 @@
 //! A pattern with a search that is kept from line to line.
 ghost use Rattle.std.specs.Prelude.{◌≡◌, Some, None, vec_len, length, if◌then◌else◌, IfOk, IsTrue};
 ghost use Rattle.grok.specs.Locations.{AreLocationsIn, located_texts};
-ghost use Rattle.grok.specs.Captures.{found_texts, AreSlicesOf, IsMatchIn};
+ghost use Rattle.grok.specs.Captures.{AreSlicesOf};
 
 use crate::engine::Engine;
 use crate::engine::matcher::{EngineMatcher, HasMatcher};
@@ -59,25 +59,6 @@ impl<'p, E: HasMatcher<'p>> KeptSearch<'p, E> {
         ensures pattern { self.new.pattern.now ≡ self.old.pattern.now }
     {
         self.matcher.captures_read(&mut self.locations, line)
-    }
-
-    /// Searches the line, and returns the texts of the groups of the first match in a new list, or
-    /// `None` if nothing matches.
-    ///
-    /// # Errors
-    ///
-    /// If an allocation fails.
-    pub(crate) fn captures<'t>(
-        &mut self,
-        alloc: Global,
-        line: &'t str,
-    ) -> Result<Option<Vec<Option<&'t str>>>, AllocError>
-        ensures captures { IfOk result (λ found. IsMatchIn line.now
-            (E.finds self.old.pattern.now.engine)
-            (length (E.group_names self.old.pattern.now.engine)) (found_texts found)) }
-        ensures pattern { self.new.pattern.now ≡ self.old.pattern.now }
-    {
-        self.matcher.captures(alloc, line)
     }
 
     /// Returns the match that `read` found in this line, borrowed from the search.

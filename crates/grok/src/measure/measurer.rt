@@ -2,7 +2,7 @@
 //! the text until it is.
 ghost use Rattle.std.specs.Prelude.{◌≡◌, ◌+◌, ◌<◌, ◌≤◌, ◌^◌, [], ◌∷◌, Option, Result, OnOk, IfOk, IfErr, MatchOption, length, Some, option_map};
 ghost use Rattle.std.specs.FinMap as finite;
-ghost use Rattle.grok.specs.Tree.{first_structural, inside, items_of};
+ghost use Rattle.grok.specs.Tree.{first_structural, inside};
 ghost use Rattle.grok.specs.Sizes.{sizes, size_or_fault};
 ghost use Rattle.grok.specs.MeasuredOnce.{State, items_within, nothing_measured};
 ghost use Rattle.grok.specs.Measured.{tree_of, measured_tree, saturated};
@@ -88,13 +88,6 @@ impl<'a> Measurer<'a> {
         ensures { result ≡ is_capturing self.now.settings.with_alias_only (label_view label.entry) }
     {
         label.is_capturing(self.settings.with_alias_only)
-    }
-
-    /// Returns the items of a text, resolved by the library of the measurer.
-    pub fn items_of(&self, text: &'a str) -> Items<'a>
-        ensures { result ≡ items_of (finite.get self.now.settings.grok.now) text.now }
-    {
-        Items::of_text(self.settings.alloc, self.settings.grok, text)
     }
 
     /// Measures a text with `levels` levels left: returns its size, or its first fault. If it uses

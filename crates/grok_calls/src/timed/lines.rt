@@ -1,4 +1,4 @@
-//! Matches the lines of a log in four ways.
+//! Matches the lines of a log in three ways.
 use crate::timed::library;
 use anyhow::{Result, bail};
 use grok::{Matcher, Matches, MatchesIter, MatchesRef, Pattern};
@@ -14,35 +14,31 @@ const FIRST_CALLS: usize = 5;
 enum Way<'p> {
     /// The pattern's own call `match_against`.
     Shared(&'p Pattern),
-    /// `match_against` of one matcher for all lines, whose matches own their lists.
+    /// `find` of one matcher for all lines.
     Kept(Matcher<'p>),
-    /// `find` of one matcher for all lines, whose match is borrowed until the next line.
-    Found(Matcher<'p>),
     /// A new matcher for each line.
-    Fresh(&'p Pattern),
+    New(&'p Pattern),
 }
 
 impl<'p> Way<'p> {
     fn name(&self) -> &'static str {
         match self {
             Way::Shared(_) => "match_against",
-            Way::Kept(_) => "kept",
-            Way::Found(_) => "find",
-            Way::Fresh(_) => "fresh",
+            Way::Kept(_) => "find",
+            Way::New(_) => "new",
         }
     }
 
     /// Matches a line in this way, and adds its match to `summary`.
     fn match_line(&mut self, line: &str, summary: &mut MatchSummary) -> Result<(), AllocError> {
         match self {
-            Way::Shared(pattern) => summary.add_matches(&ask_pattern(pattern, line)?),
-            Way::Kept(matcher) => summary.add_matches(&ask_kept(matcher, line)?),
-            Way::Found(matcher) => {
-                if let Some(found) = ask_find(matcher, line)? {
+            Way::Shared(pattern) => {
+                if let Some(found) = ask_pattern(pattern, line)? {
                     summary.add(found.iter());
                 }
             }
-            Way::Fresh(pattern) => summary.add_matches(&ask_fresh(pattern, line)?),
+            Way::Kept(matcher) => summary.add_borrowed(matcher.find(line)?),
+            Way::New(pattern) => summary.add_borrowed(pattern.matcher()?.find(line)?),
         }
         Ok(())
     }
@@ -51,9 +47,8 @@ impl<'p> Way<'p> {
     fn is_match(&mut self, line: &str) -> Result<bool, AllocError> {
         match self {
             Way::Shared(pattern) => Ok(ask_pattern(pattern, line)?.is_some()),
-            Way::Kept(matcher) => Ok(ask_kept(matcher, line)?.is_some()),
-            Way::Found(matcher) => Ok(ask_find(matcher, line)?.is_some()),
-            Way::Fresh(pattern) => Ok(ask_fresh(pattern, line)?.is_some()),
+            Way::Kept(matcher) => ask_kept(matcher, line),
+            Way::New(pattern) => ask_new(pattern, line),
         }
     }
 }
@@ -66,30 +61,13 @@ fn ask_pattern<'a>(pattern: &'a Pattern, line: &'a str) -> Result<Option<Matches
 }
 
 #[inline(never)]
-fn ask_kept<'p, 'a>(
-    matcher: &mut Matcher<'p>,
-    line: &'a str,
-) -> Result<Option<Matches<'a>>, AllocError>
-where
-    'p: 'a,
-{
-    matcher.match_against(line)
+fn ask_kept(matcher: &mut Matcher<'_>, line: &str) -> Result<bool, AllocError> {
+    Ok(matcher.find(line)?.is_some())
 }
 
 #[inline(never)]
-fn ask_find<'p, 'm>(
-    matcher: &'m mut Matcher<'p>,
-    line: &'m str,
-) -> Result<Option<MatchesRef<'m>>, AllocError>
-where
-    'p: 'm,
-{
-    matcher.find(line)
-}
-
-#[inline(never)]
-fn ask_fresh<'a>(pattern: &'a Pattern, line: &'a str) -> Result<Option<Matches<'a>>, AllocError> {
-    pattern.matcher()?.match_against(line)
+fn ask_new(pattern: &Pattern, line: &str) -> Result<bool, AllocError> {
+    ask_kept(&mut pattern.matcher()?, line)
 }
 
 /// How many lines matched, and a checksum of all keys and values, which depends on their order.
@@ -122,7 +100,7 @@ impl MatchSummary {
         }
     }
 
-    fn add_matches(&mut self, found: &Option<Matches<'_>>) {
+    fn add_borrowed(&mut self, found: Option<MatchesRef<'_>>) {
         if let Some(found) = found {
             self.add(found.iter());
         }
@@ -150,35 +128,41 @@ fn count_matches(way: &mut Way<'_>, lines: &[&str]) -> Result<u64> {
     Ok(matches)
 }
 
-/// Matches all lines once, checks that the result is the expected one, and then measures the time for all lines.
+/// Measures the time of a pass over all lines, and returns how many of them match. `pass` says which pass it is.
+fn time_pass(rt: &HostRuntime, way: &mut Way<'_>, lines: &[&str], pass: &str) -> Result<u64> {
+    let start = Instant::now(rt)?;
+    let matches = count_matches(way, lines)?;
+    let time = start.elapsed(rt)?.as_nanos();
+    let line_time = time.checked_div(lines.len() as u128).unwrap_or(0);
+    let name = way.name();
+    eprintln!(rt; "{name}{pass} {line_time} ns a line")?;
+    Ok(matches)
+}
+
+/// Measures the time of the first pass over all lines, in which caches are built, and of a later one. Between them it checks
+/// that the lines have the expected matches.
 fn time_way(
     rt: &HostRuntime,
     mut way: Way<'_>,
     lines: &[&str],
     expected: MatchSummary,
 ) -> Result<()> {
-    let name = way.name();
-    if ask_all(&mut way, lines)? != expected {
-        bail!("other matches by `{name}`");
-    }
-    let start = Instant::now(rt)?;
-    let matches = count_matches(&mut way, lines)?;
-    let time = start.elapsed(rt)?.as_nanos();
-    let line_time = time.checked_div(lines.len() as u128).unwrap_or(0);
-    eprintln!(rt; "{name} {line_time} ns a line")?;
-    if matches != expected.matches {
+    let first = time_pass(rt, &mut way, lines, " first")?;
+    let found = ask_all(&mut way, lines)?;
+    let warm = time_pass(rt, &mut way, lines, "")?;
+    if found != expected || first != expected.matches || warm != expected.matches {
+        let name = way.name();
         bail!("other matches by `{name}`");
     }
     Ok(())
 }
 
-/// Measures the time of each way to match. A first round over the lines fills the tables of its search.
+/// Measures the time of each way to match.
 fn time_ways(rt: &HostRuntime, pattern: &Pattern, lines: &[&str]) -> Result<()> {
-    let expected = ask_all(&mut Way::Fresh(pattern), lines)?;
+    let expected = ask_all(&mut Way::New(pattern), lines)?;
     time_way(rt, Way::Shared(pattern), lines, expected)?;
     time_way(rt, Way::Kept(pattern.matcher()?), lines, expected)?;
-    time_way(rt, Way::Found(pattern.matcher()?), lines, expected)?;
-    time_way(rt, Way::Fresh(pattern), lines, expected)?;
+    time_way(rt, Way::New(pattern), lines, expected)?;
     println!(rt; "{expected}")?;
     Ok(())
 }
@@ -187,7 +171,7 @@ fn time_ways(rt: &HostRuntime, pattern: &Pattern, lines: &[&str]) -> Result<()> 
 fn time_own_and_find(rt: &HostRuntime, pattern: &Pattern, lines: &[&str]) -> Result<()> {
     let expected = ask_all(&mut Way::Kept(pattern.matcher()?), lines)?;
     time_way(rt, Way::Shared(pattern), lines, expected)?;
-    time_way(rt, Way::Found(pattern.matcher()?), lines, expected)?;
+    time_way(rt, Way::Kept(pattern.matcher()?), lines, expected)?;
     println!(rt; "{expected}")?;
     Ok(())
 }
@@ -227,7 +211,7 @@ fn lines_of(alloc: Global, text: &str) -> Result<Vec<&str>, AllocError> {
 /// What is done with the lines of a log.
 #[derive(Clone, Copy)]
 pub(crate) enum Asked {
-    /// The time is measured for all lines in each of the four ways.
+    /// The time is measured for all lines in each of the three ways.
     Ways,
     /// The time is measured for all lines, by the pattern's own call and by `find` of a kept matcher.
     OwnAndFind,

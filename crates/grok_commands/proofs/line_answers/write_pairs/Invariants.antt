@@ -1,7 +1,7 @@
 use Rattle.std.proofs.Common.{◌≡◌, ◌++◌, flat_map}
 use Rattle.grok.specs.Answers.{walk}
 use Rattle.grok.specs.BorrowedMatches.{borrowed_keys, borrowed_captures}
-use Rattle.grok_commands.specs.LineTexts.{pair_line}
+use Rattle.grok_lines.specs.Pairs.{pair_line}
 use Rattle.grok_commands.proofs.line_answers.write_pairs.Given as goal
 
 abbrev pub invariant-pairs : goal.invariant-pairs

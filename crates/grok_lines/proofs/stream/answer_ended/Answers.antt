@@ -1,9 +1,7 @@
-use Rattle.std.proofs.Common.{◌≡◌, ◌≤◌, ◌+◌, take, drop, length, IfSome, MatchResult, List, ℕ, [], ◌-◌, Bor, Result, Ok, Err, sym, ◌∙◌, arith}
+use Rattle.std.proofs.Common.{◌≡◌, ◌≤◌, ◌+◌, take, drop, length, IfSome, MatchOption, true, false, List, ℕ, [], ◌-◌, Bor, Option, Some, None, sym, ◌∙◌, arith}
 use Rattle.std.specs.Io.KnownBytes.{Appends, append_known}
-use Rattle.std.specs.Result.{result_ok}
-use Rattle.simdutf8.specs.declared.basic.Utf8Error.{Utf8Error}
-use Rattle.std.specs.Str.{IsUtf8, IsCharBoundary}
-use Rattle.std.proofs.lemmas.Str.{IsCharBoundary-start, IsCharBoundary-before_ascii, IsCharBoundary-after_ascii}
+use Rattle.std.specs.Str.{is_utf8, IsUtf8, IsCharBoundary}
+use Rattle.std.proofs.lemmas.Str.{IsUtf8-from_is_utf8, IsCharBoundary-start, IsCharBoundary-before_ascii, IsCharBoundary-after_ascii}
 use Rattle.grok_lines.proofs.LineFeedsEndLines.{next_line, no_line}
 use Rattle.grok_lines.proofs.AppendsAddUp.{appends_still}
 use Rattle.grok_lines.proofs.HeldBytesAreKept.{held_more}
@@ -12,17 +10,17 @@ use Rattle.grok_lines.proofs.AnswersHaveGoneOut.{fed_start, fed_step, fed_end, f
 use Rattle.grok_lines.proofs.stream.answer_ended.Goals.{in-Some-utf8+in_ok-answer_str-in-Some-utf8, in-None-utf8+in_ok-answer_line-in-None-utf8}
 use Rattle.grok_lines.proofs.stream.answer_ended.Goals as goal
 
-text_of_lines : (lines : List ℕ) (read : Result (Bor (List ℕ)) Utf8Error) → MatchResult read (λ text. (text.now ≡ lines) × IsUtf8 lines) (λ _. ¬ (IsUtf8 lines))
-    → IfSome (result_ok read) (λ text. (text.now ≡ lines) × IsUtf8 lines × IsCharBoundary lines 0)
-text_of_lines lines (Ok text) h = (h.0, h.1, IsCharBoundary-start lines h.1)
-text_of_lines lines (Err error) h = tt
+text_of_lines : (lines : List ℕ) (read : Option (Bor (List ℕ))) → MatchOption read (is_utf8 lines ≡ false) (λ text. (text.now ≡ lines) × (is_utf8 lines ≡ true))
+    → IfSome read (λ text. (text.now ≡ lines) × IsUtf8 lines × IsCharBoundary lines 0)
+text_of_lines lines (Some text) h = let is = IsUtf8-from_is_utf8 lines h.1 in (h.0, is, IsCharBoundary-start lines is)
+text_of_lines lines None h = tt
 
 pub lines-init : goal.lines-init
 lines-init g c = record {
   fed = fed_start (g.A.LineAnswers.answer c.args.answers.now) (append_known (g.W.Write.contents c.args.output.now) c.args.held.now.items) c.args.lines.now;
   feeds = c.into_iter-end-iterator.ensures.into_iter_gives ∙ c.memchr_iter-end-items.ensures.value;
   start = omega arith;
-  utf8 = rw c.ok-utf8.ensures.value (text_of_lines c.args.lines.now c.from_utf8.result c.from_utf8.ensures);
+  utf8 = text_of_lines c.args.lines.now c.utf8_text-utf8.result c.utf8_text-utf8.ensures;
 }
 
 pub range-requires-clause-start_le_end : goal.range-requires-clause-start_le_end

@@ -1,7 +1,7 @@
 use Rattle.std.proofs.Common.{◌≡◌, ◌++◌, flat_map}
 use Rattle.grok.specs.Answers.{walk}
 use Rattle.grok.specs.BorrowedMatches.{borrowed_keys, borrowed_captures}
-use Rattle.groklog_answers.specs.PairTexts.{pair_line}
+use Rattle.grok_lines.specs.Pairs.{pair_line}
 use Rattle.groklog_answers.proofs.pairs.append_pairs.Given as goal
 
 abbrev pub invariant-pairs : goal.invariant-pairs

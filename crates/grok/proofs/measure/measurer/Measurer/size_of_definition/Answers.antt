@@ -2,7 +2,7 @@ use Rattle.std.proofs.Common.{suc, ◌-◌, ◌≡◌, Result, Ok, Err, subst, a
 use Rattle.std.specs.Prelude.{IfOk}
 use Rattle.grok.specs.Sizes.{size_or_fault, sizes}
 use Rattle.grok.specs.MeasureCache.{items_in, result_view, shown_result}
-use Rattle.grok.proofs.Trees.FirstFaultIsLocated.{known_is}
+use Rattle.grok.proofs.Sizes.KnownResultsAreRight.{known_is}
 use Rattle.grok.proofs.measure.measurer.Measurer.size_of_definition.Goals as goal
 
 if_ok : {A E : Type 0} (P Q : A → Type 0) (r : Result A E) → ((x : A) → P x → Q x) → IfOk r P → IfOk r Q

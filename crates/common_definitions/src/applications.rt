@@ -1,0 +1,43 @@
+//! The logs of programs in Go, Python and Ruby, of Kubernetes, and in the form of logfmt.
+
+/// The logs of programs in Go, Python and Ruby, of Kubernetes, and in the form of logfmt.
+pub const APPLICATIONS: &str = r##"
+# klog, which Kubernetes uses, and glog: Lmmdd hh:mm:ss.uuuuuu threadid file:line] message (the comment of klog.go). The
+# message may end with pairs KEY=VALUE.
+KLOGLEVEL=[IWEF]
+KLOGTIME=%{YEAR4}?%{MONTHNUM2}%{MONTHDAY2} %{TIME}
+SOURCEFILE=[^\s:()]+
+KLOG=%{KLOGLEVEL:level}%{KLOGTIME:timestamp} +%{NONNEGINT:thread:int} %{SOURCEFILE:file}:%{NONNEGINT:line:int}\] %{GREEDYDATA:message}
+
+# The logs of containers that the kubelet reads (the Kubernetes design "CRI: Log management"). `part` is F for a whole line
+# and P for a part of one.
+CRISTREAM=(?:stdout|stderr)
+CRIPART=[FP]
+CRILOG=%{TIMESTAMP_ISO8601:timestamp} %{CRISTREAM:stream} %{CRIPART:part}(?: %{GREEDYDATA:message})?
+
+# Go's package log, with its flags for the standard format, microseconds and the file (pkg.go.dev/log).
+GOLOG=%{TIMESTAMP_SLASHES:timestamp} (?:%{SOURCEFILE:file}:%{NONNEGINT:line:int}: )?%{GREEDYDATA:message}
+
+# logfmt: KEY=VALUE, with quotes around a value that has blanks, as Go's log/slog (TextHandler), logrus and Heroku write it.
+# LOGFMT is a line that begins with the time and the level, and `pairs` is what follows them.
+LOGFMTKEY=[^\s="]+
+LOGFMTVALUE=(?:%{DOUBLEQUOTED}|[^\s"]*)
+LOGFMTPAIR=%{LOGFMTKEY}=%{LOGFMTVALUE}
+LOGFMTPAIRS=%{LOGFMTPAIR}(?: +%{LOGFMTPAIR})*
+LOGFMTHEAD=\b(?:time|timestamp|ts|t)="?%{TIMESTAMP_ISO8601:timestamp}"? +(?:level|lvl|severity)="?%{LOGLEVEL:level}"?
+LOGFMT=%{LOGFMTHEAD} +%{LOGFMTPAIRS:pairs}
+
+# Python's logging (its HOWTO): the default format, the format of the HOWTO's formatter, and the head of a traceback's part.
+PYTHONLEVEL=(?:DEBUG|INFO|WARNING|ERROR|CRITICAL)
+PYTHONLOGGER=[0-9A-Za-z_.-]+
+PYTHONBASICLOG=%{PYTHONLEVEL:level}:%{PYTHONLOGGER:logger}:%{GREEDYDATA:message}
+PYTHONLOG=%{TIMESTAMP_ISO8601:timestamp} - %{PYTHONLOGGER:logger} - %{LOGLEVEL:level} - %{GREEDYDATA:message}
+PYTHONTRACEBACKPART=\s*File "%{INQUOTES:file}", line %{NONNEGINT:line:int}(?:, in %{GREEDYDATA:function})?
+
+# Gunicorn's error log (its settings, "errorlog"): the time, the process and the level in brackets.
+GUNICORNLOG=\[%{TIMESTAMP_ISO8601:timestamp}\] \[%{NONNEGINT:pid:int}\] \[%{LOGLEVEL:level}\] %{GREEDYDATA:message}
+
+# Ruby's Logger (Logger::Formatter).
+RUBY_LOGLEVEL=(?:DEBUG|INFO|WARN|ERROR|FATAL|ANY|UNKNOWN)
+RUBY_LOGGER=[DIWEFAU], \[%{TIMESTAMP_ISO8601:timestamp} #%{NONNEGINT:pid:int}\] +%{RUBY_LOGLEVEL:loglevel} -- +%{DATA:progname}: %{GREEDYDATA:message}
+"##;

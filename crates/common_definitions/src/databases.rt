@@ -1,0 +1,33 @@
+//! The logs of databases.
+
+/// The logs of databases.
+pub const DATABASES: &str = r##"
+# PostgreSQL's log (its documentation, "Error Reporting and Logging"): with the prefixes '%m [%p] ', which is the default,
+# '%m [%p] %q%u@%d ', which Debian sets, and '%t [%p]: [%l-1] user=%u,db=%d,app=%a,client=%h ', which pgBadger recommends.
+POSTGRESQLLEVEL=(?:DEBUG[1-5]|INFO|NOTICE|WARNING|ERROR|LOG|FATAL|PANIC|DETAIL|HINT|QUERY|CONTEXT|STATEMENT|LOCATION|BACKTRACE)
+POSTGRESQLTIME=%{DATE_ISO8601} %{TIME} %{TZ}
+POSTGRESQLNAME=[^\s@,]*
+POSTGRESQLCLIENT=(?:user=)?%{POSTGRESQLNAME:user}(?:@|,db=)%{POSTGRESQLNAME:database}(?:,app=%{POSTGRESQLAPPLICATION:application})?(?:,client=%{POSTGRESQLNAME:client})?
+POSTGRESQLAPPLICATION=[^,]*
+POSTGRESQL=%{POSTGRESQLTIME:timestamp} \[%{NONNEGINT:pid:int}\]:?(?: \[%{NONNEGINT:line:int}-[0-9]+\])?(?: %{POSTGRESQLCLIENT})? %{POSTGRESQLLEVEL:level}: +%{GREEDYDATA:message}
+
+# The error log of MySQL 8 (its Reference Manual, "Error Log Output Format").
+MYSQLLEVEL=(?:System|Error|Warning|Note)
+MYSQLCODE=MY-[0-9]+
+MYSQLERROR=%{TIMESTAMP_ISO8601:timestamp} %{NONNEGINT:thread:int} \[%{MYSQLLEVEL:level}\] \[%{MYSQLCODE:code}\] \[%{NOTSPACE:subsystem}\] %{GREEDYDATA:message}
+
+# The log of Redis, with the role of the process since version 3 (X sentinel, C child, S replica, M master) and the level
+# (. debug, - verbose, * notice, # warning), and the output of its command MONITOR (Redis's documentation).
+REDISTIMESTAMP=%{MONTHDAY} %{MONTH}(?: %{YEAR4})? %{TIME}
+REDISROLE=[XCSM]
+REDISLEVEL=[.*#-]
+REDISLOG=\[?%{NONNEGINT:pid:int}(?:\]|:%{REDISROLE:role}) %{REDISTIMESTAMP:timestamp} %{REDISLEVEL:level} %{GREEDYDATA:message}
+REDISMONLOG=%{NUMBER:timestamp:float} \[%{NONNEGINT:database:int} (?:lua|unix:%{REDISSOCKET:socket}|\[?%{IP:client}\]?:%{PORT:port:int})\] "%{INQUOTES:command}"(?: %{GREEDYDATA:params})?
+REDISSOCKET=[^\s\]]+
+
+# The log of MongoDB 3.0 to 4.2 (its manual, "Log Messages"). Later versions write JSON.
+MONGO3_SEVERITY=(?:[FEWI]|D[1-5]?)
+MONGO3_COMPONENT=(?:-|[A-Z_]+)
+MONGO3_CONTEXT=[^\]]*
+MONGO3_LOG=%{TIMESTAMP_ISO8601:timestamp} %{MONGO3_SEVERITY:severity} +%{MONGO3_COMPONENT:component} +(?:\[%{MONGO3_CONTEXT:context}\] +)?%{GREEDYDATA:message}
+"##;

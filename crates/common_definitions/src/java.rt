@@ -1,0 +1,26 @@
+//! The logs of Java: stack traces, Tomcat, and the usual layouts of log4j, Logback and Spring Boot.
+
+/// The logs of Java: stack traces, Tomcat, and the usual layouts of log4j, Logback and Spring Boot.
+pub const JAVA: &str = r##"
+# Names and stack traces (java.lang.StackTraceElement.toString).
+JAVANAME=[A-Za-z_$][0-9A-Za-z_$]*
+JAVACLASS=%{JAVANAME}(?:\.%{JAVANAME})*(?:/0x[0-9A-Fa-f]+)?
+JAVAMETHOD=(?:<(?:cl)?init>|%{JAVANAME})
+JAVAFILE=[0-9A-Za-z_$][0-9A-Za-z_$. -]*
+JAVAMODULE=(?:[0-9A-Za-z_$.@+-]*/){1,2}
+JAVASTACKTRACEPART=\s*at %{JAVAMODULE}?%{JAVACLASS:class}\.%{JAVAMETHOD:method}\(%{JAVAFILE:file}(?::%{NONNEGINT:line:int})?\)
+
+# The logs of Tomcat: catalina.out of its OneLineFormatter and of java.util.logging's SimpleFormatter (Tomcat's
+# documentation, "Logging in Apache Tomcat"), and a layout of log4j with bars between its parts.
+JAVATHREAD=[^\]]+
+JAVALOGMESSAGE=.*
+CATALINALOG=%{CATALINA_DATESTAMP:timestamp} (?:%{LOGLEVEL:level} \[%{JAVATHREAD:thread}\] )?%{JAVACLASS:class} %{JAVALOGMESSAGE:logmessage}
+TOMCATLOG=%{TOMCAT_DATESTAMP:timestamp} \| %{LOGLEVEL:level} +\| %{JAVACLASS:class} - %{JAVALOGMESSAGE:logmessage}
+
+# Usual layouts: '%d [%t] %-5p %c - %m' of log4j, '%d %-5level [%thread] %logger - %msg' of Logback (both manuals, chapter
+# "Layouts"), and Spring Boot's own ("Logging" in its reference).
+JAVALOGGER=[0-9A-Za-z_$.\[\]/-]+
+LOG4JLOG=%{TIMESTAMP_ISO8601:timestamp} \[%{JAVATHREAD:thread}\] %{LOGLEVEL:level} +%{JAVALOGGER:logger} - %{JAVALOGMESSAGE:message}
+LOGBACKLOG=%{TIMESTAMP_ISO8601:timestamp} +%{LOGLEVEL:level} +\[%{JAVATHREAD:thread}\] %{JAVALOGGER:logger} - %{JAVALOGMESSAGE:message}
+SPRINGBOOTLOG=%{TIMESTAMP_ISO8601:timestamp} +%{LOGLEVEL:level} %{NONNEGINT:pid:int} --- (?:\[ *%{JAVATHREAD:application}\] )??\[ *%{JAVATHREAD:thread}\] %{JAVALOGGER:logger} +: %{JAVALOGMESSAGE:message}
+"##;

@@ -1,0 +1,72 @@
+//! The logs of web servers and proxies.
+
+/// The logs of web servers and proxies.
+pub const WEB: &str = r##"
+# Requests (RFC 9110, 9112). 000 is what some servers and proxies log if they sent no status.
+HTTPMETHOD=\b[A-Z]+\b
+HTTPVERSION=[0-9](?:\.[0-9])?
+HTTPSTATUS=\b(?:[1-5][0-9]{2}|000)\b
+HTTPREQUEST=(?:%{HTTPMETHOD:verb} %{NOTSPACE:request}(?: HTTP/%{HTTPVERSION:httpversion})?|%{INQUOTES:rawrequest})
+
+# The access logs of Apache's httpd (its documentation, "Log Files"): the Common Log Format, the combined format, and the
+# combined format with the virtual host before it. A status or a size that is `-` has no key.
+HTTPDUSER=\S+
+HTTPD_FIELDS=%{HTTPDUSER:ident} %{HTTPDUSER:auth} \[%{HTTPDATE:timestamp}\] "%{HTTPREQUEST}" (?:-|%{HTTPSTATUS:response:int}) (?:-|%{NONNEGINT:bytes:int})
+HTTPD_COMMONLOG=%{IPORHOST:clientip} %{HTTPD_FIELDS}
+HTTPD_COMBINEDLOG=%{HTTPD_COMMONLOG} %{QS:referrer} %{QS:agent}
+HTTPD_VHOSTLOG=%{HOSTNAME:vhost}:%{PORT:vhost_port:int} %{HTTPD_COMBINEDLOG}
+COMMONAPACHELOG=%{HTTPD_COMMONLOG}
+COMBINEDAPACHELOG=%{HTTPD_COMBINEDLOG}
+
+# The error logs of Apache's httpd (its documentation, "ErrorLogFormat"): of 2.0 and 2.2, of 2.4, and of all of them.
+HTTPDERROR_DATE=%{TIMESTAMP_CTIME}
+HTTPDMODULE=[0-9A-Za-z_]+
+HTTPDERRORCODE=AH[0-9]{5}
+HTTPDPROCESS=\[pid %{NONNEGINT:pid:int}(?::tid %{NONNEGINT:tid:int})?\](?: %{HTTPDSOURCE:file}\(%{NONNEGINT:line:int}\):)?
+HTTPDSOURCE=[^\s()]+
+HTTPDPROXYERROR=\(%{NONNEGINT:proxy_errorcode:int}\)%{DATA:proxy_message}:
+HTTPDCLIENT=\[client %{IPORHOST:clientip}(?::%{PORT:clientport:int})?\]
+HTTPDERRORTEXT=(?: %{HTTPDPROXYERROR})?(?: %{HTTPDCLIENT})?(?: %{HTTPDERRORCODE:errorcode}:)? %{GREEDYDATA:message}
+HTTPD20_ERRORLOG=\[%{HTTPDERROR_DATE:timestamp}\] \[%{LOGLEVEL:loglevel}\](?: %{HTTPDCLIENT})? %{GREEDYDATA:message}
+HTTPD24_ERRORLOG=\[%{HTTPDERROR_DATE:timestamp}\] \[%{HTTPDMODULE:module}?:%{LOGLEVEL:loglevel}\] %{HTTPDPROCESS}%{HTTPDERRORTEXT}
+HTTPD_ERRORLOG=\[%{HTTPDERROR_DATE:timestamp}\] \[(?:%{HTTPDMODULE:module}?:)?%{LOGLEVEL:loglevel}\](?: %{HTTPDPROCESS})?%{HTTPDERRORTEXT}
+
+# The access log of nginx in its format `combined`, and in the format `main` of its packages, which has the header
+# X-Forwarded-For at its end (ngx_http_log_module). The client of a Unix socket is `unix:`.
+NGINXADDRESS=(?:unix:|%{IPORHOST})
+NGINXACCESS=%{NGINXADDRESS:clientip} %{HTTPD_FIELDS} %{QS:referrer} %{QS:agent}(?: %{QS:forwarded_for})?
+
+# The error log of nginx (ngx_core_module, error_log). `message` ends before the client, and the parts after the client have
+# keys of their own.
+NGINXHOST=[^ ,]+
+NGINXPROCESS=%{NONNEGINT:pid:int}#%{NONNEGINT:tid:int}:(?: \*%{NONNEGINT:connection:int})?
+NGINXREQUEST=(?:, server: %{NGINXHOST:server}?)?(?:, request: "%{INQUOTES:request}")?(?:, subrequest: "%{INQUOTES:subrequest}")?
+NGINXUPSTREAM=(?:, upstream: "%{INQUOTES:upstream}")?(?:, host: "%{INQUOTES:host}")?(?:, referrer: "%{INQUOTES:referrer}")?
+NGINXERROR=%{TIMESTAMP_SLASHES:timestamp} \[%{LOGLEVEL:level}\] %{NGINXPROCESS} %{DATA:message}(?:, client: %{NGINXADDRESS:client}%{NGINXREQUEST}%{NGINXUPSTREAM})?$
+
+# HAProxy's logs (its Configuration Manual, "Log formats"): of HTTP and of TCP. HAPROXYHTTPBASE and HAPROXYTCPBASE are the
+# messages alone, and HAPROXYHTTP and HAPROXYTCP lines of syslog with them.
+HAPROXYTIME=%{HOUR2}:%{MINUTE}:%{SECOND}
+HAPROXYDATE=%{MONTHDAY2}/%{MONTH}/%{YEAR4}:%{HAPROXYTIME}
+HAPROXYADDRESS=(?:unix|%{IP})
+HAPROXYBACKEND=[^\s/]+
+HAPROXYSUM=[+-]?[0-9]+
+HAPROXYHEAD=%{HAPROXYADDRESS:client_ip}:%{PORT:client_port:int} \[%{HAPROXYDATE:accept_date}\] %{NOTSPACE:frontend_name} %{HAPROXYBACKEND:backend_name}/%{NOTSPACE:server_name}
+HAPROXYCONNECTIONS=%{NONNEGINT:actconn:int}/%{NONNEGINT:feconn:int}/%{NONNEGINT:beconn:int}/%{NONNEGINT:srvconn:int}/%{HAPROXYSUM:retries:int} %{NONNEGINT:srv_queue:int}/%{NONNEGINT:backend_queue:int}
+HAPROXYHTTPTIMES=%{INT:time_request:int}/%{INT:time_queue:int}/%{INT:time_backend_connect:int}/%{INT:time_backend_response:int}/%{HAPROXYSUM:time_duration:int}
+HAPROXYCOOKIES=%{NOTSPACE:captured_request_cookie} %{NOTSPACE:captured_response_cookie}
+HAPROXYCAPTURED=[^{}]*
+HAPROXYCAPTUREDREQUESTHEADERS=%{HAPROXYCAPTURED:captured_request_headers}
+HAPROXYCAPTUREDRESPONSEHEADERS=%{HAPROXYCAPTURED:captured_response_headers}
+HAPROXYHEADERS=(?:\{%{HAPROXYCAPTUREDREQUESTHEADERS}\} )?(?:\{%{HAPROXYCAPTUREDRESPONSEHEADERS}\} )?
+HAPROXYHTTPREQUESTLINE=(?:<BADREQ>|%{HTTPMETHOD:http_verb} %{NOTSPACE:http_request}(?: HTTP/%{HTTPVERSION:http_version})?)
+HAPROXYHTTPBASE=%{HAPROXYHEAD} %{HAPROXYHTTPTIMES} %{INT:http_status_code:int} %{HAPROXYSUM:bytes_read:int} %{HAPROXYCOOKIES} %{NOTSPACE:termination_state} %{HAPROXYCONNECTIONS} %{HAPROXYHEADERS}"%{HAPROXYHTTPREQUESTLINE}"?
+HAPROXYTCPBASE=%{HAPROXYHEAD} %{INT:time_queue:int}/%{INT:time_backend_connect:int}/%{HAPROXYSUM:time_duration:int} %{HAPROXYSUM:bytes_read:int} %{NOTSPACE:termination_state} %{HAPROXYCONNECTIONS}
+HAPROXYHTTP=%{SYSLOGBASE} %{HAPROXYHTTPBASE}
+HAPROXYTCP=%{SYSLOGBASE} %{HAPROXYTCPBASE}
+
+# The access log of Squid in its native format (Squid's wiki, "Feature: Customizable Log Formats").
+SQUID3STATUS=[0-9]{3}
+SQUID3RESULT=[A-Z_]+
+SQUID3=%{NUMBER:timestamp:float} +%{INT:duration:int} %{IPORHOST:client_address} %{SQUID3RESULT:cache_result}/%{SQUID3STATUS:status_code:int} %{NONNEGINT:bytes:int} %{HTTPMETHOD:request_method} %{NOTSPACE:url} (?:-|%{NOTSPACE:user}) %{SQUID3RESULT:hierarchy_code}/(?:-|%{NOTSPACE:server}) (?:-|%{NOTSPACE:content_type})
+"##;

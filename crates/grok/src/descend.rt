@@ -1,0 +1,252 @@
+//! Finds one place in the tree of a pattern: goes through its events in order, passes over each
+//! definition of which enough is known, and enters the others.
+ghost use Rattle.std.specs.Prelude.{◌≡◌, ◌<◌, ◌^◌, ℕ, List, [], ◌∷◌, Some, IfOk, MatchOption, IsTrue, IsFalse, map, if◌then◌else◌};
+ghost use Rattle.std.specs.FinMap as finite;
+ghost use Rattle.grok.specs.Tree.{PlaceholderItem, events, inside, items_of, meaning_text};
+ghost use Rattle.grok.specs.Items.{item_view, label_view, meaning_view};
+ghost use Rattle.grok.specs.Events.{event_view};
+ghost use Rattle.grok.specs.PlacedItems.{IsOfLibrary, HasRead, left_in};
+ghost use Rattle.grok.specs.FaultLocations.{path_view};
+ghost use Rattle.grok.specs.Searches.{PassesMore, StopsAt};
+ghost use Rattle.grok.specs.Descents.{IsEventStep, IsStep, names_of, FindsPlace};
+
+use crate::defs::Grok;
+use crate::defs::definition::Definition;
+use crate::defs::items::{Item, Label, Meaning};
+use crate::defs::placed_items::{PlacedItem, PlacedItems};
+use crate::errors::fault::{Fault, LEVELS};
+use crate::expand::events::Event;
+use std::alloc::AllocError;
+use std::mem;
+use std::ops::Range;
+
+/// A search for an event in the tree of a pattern.
+pub(crate) trait Search<'a> {
+    ghost use Rattle.std.specs.Prelude.{◌≡◌, ◌<◌, ◌^◌, List, [], ◌∷◌, Some, IfOk, IsTrue, IsFalse, if◌then◌else◌};
+    ghost use Rattle.grok.specs.Tree.{Definitions, Event as EventView, items_of, events, inside};
+    ghost use Rattle.grok.specs.Events.{event_view};
+    ghost use Rattle.grok.specs.Searches.{PassesMore, StopsAt};
+
+    // the definitions that resolve the tree
+    ghost definitions: { Self → Definitions };
+
+    // whether the search can go on
+    ghost IsReady: { Self → Type 0 };
+
+    // `HasPassed start es now`: on its way from `start` to `now` the search passed over the events
+    // `es`, and the sought event isn't among them.
+    ghost HasPassed: { Self → List EventView → Self → Type 0 };
+
+    // `IsSought start es event`: after the events `es`, this event is the sought one.
+    ghost IsSought: { Self → List EventView → EventView → Type 0 };
+
+    /// Passes over an event, unless it is the sought one. Returns whether it passed over it.
+    fn pass_event(&mut self, event: Event<'a>) -> bool
+        ensures passed { IsTrue result → PassesMore HasPassed self.old (event_view event.entry ∷ []) self.new }
+        ensures stopped { IsFalse result → StopsAt HasPassed IsSought self.old (event_view event.entry) }
+        ensures same { IsFalse result → self.new ≡ self.old }
+        ensures ready { IsReady self.old → IsReady self.new }
+        ensures definitions { definitions self.new ≡ definitions self.old };
+
+    /// Passes over a stored definition, whose placeholders may be nested `levels` levels deep, if
+    /// it can be skipped. Returns whether it passed over it.
+    fn pass_definition(
+        &mut self,
+        name: &'a str,
+        definition: &'a Definition,
+        levels: usize,
+    ) -> Result<bool, AllocError>
+        requires few { levels < 2 ^ 30 }
+        requires ready { IsReady self.old }
+        requires is { definitions self.old name.now ≡ Some definition.now }
+        ensures passed { IfOk result (λ is_passed. PassesMore HasPassed self.old (if is_passed
+            then events (inside (items_of (definitions self.old)) levels) (items_of (definitions self.old) definition.now)
+            else []) self.new) }
+        ensures ready { IfOk result (λ is_passed. IsReady self.new) }
+        ensures definitions { IfOk result (λ is_passed. definitions self.new ≡ definitions self.old) };
+}
+
+/// A piece of a text, and the definitions that lead to the text.
+#[derive(Drop)]
+pub(crate) struct Place<'a> {
+    /// The names of the placeholders that lead from the pattern to the text, outermost first.
+    pub path: Vec<&'a str>,
+    pub text: &'a str,
+    pub range: Range<usize>,
+    pub item: Item<'a>,
+}
+
+/// A text of which a definition is entered.
+#[derive(Drop)]
+struct Opened<'a> {
+    /// The placeholder whose definition is entered, and its name.
+    placed: PlacedItem<'a>,
+    name: &'a str,
+    /// The items after that placeholder.
+    items: PlacedItems<'a>,
+}
+
+/// What a search does at an item.
+#[derive(Clone, Copy)]
+enum Step<'a> {
+    /// It passes over the item and what it stands for.
+    Passed,
+    /// The sought event is one of the item itself.
+    Stopped,
+    /// It passes over the open of a placeholder of this name, and enters what it stands for.
+    Entered(&'a str, Meaning<'a>),
+}
+
+/// Passes over an event of an item, or stops at it.
+fn step_at_event<'a, S: Search<'a>>(search: &mut S, event: Event<'a>) -> Step<'a>
+    ensures step { IsEventStep (PassesMore S.HasPassed) (StopsAt S.HasPassed S.IsSought) (event_view event.entry) result search.old search.new }
+    ensures ready { S.IsReady search.old → S.IsReady search.new }
+    ensures definitions { S.definitions search.new ≡ S.definitions search.old }
+{
+    if search.pass_event(event) {
+        Step::Passed
+    } else {
+        Step::Stopped
+    }
+}
+
+/// Passes over what a placeholder stands for, if it can be skipped. Returns whether it passed
+/// over it.
+fn pass_meaning<'a, S: Search<'a>>(
+    search: &mut S,
+    label: Label<'a>,
+    meaning: Meaning<'a>,
+    levels: usize,
+) -> Result<bool, AllocError>
+    requires few { levels < 2 ^ 30 }
+    requires ready { S.IsReady search.old }
+    requires is { IsOfLibrary (S.definitions search.old) (PlaceholderItem (label_view label) (meaning_view meaning)) }
+    ensures passed { IfOk result (λ is_passed. PassesMore S.HasPassed search.old (if is_passed
+        then events (inside (items_of (S.definitions search.old)) levels) (items_of (S.definitions search.old) (meaning_text (meaning_view meaning.entry)))
+        else []) search.new) }
+    ensures ready { IfOk result (λ is_passed. S.IsReady search.new) }
+    ensures definitions { IfOk result (λ is_passed. S.definitions search.new ≡ S.definitions search.old) }
+{
+    match meaning {
+        Meaning::Inline(_) => Ok(false),
+        Meaning::Stored(definition) => search.pass_definition(label.name, definition, levels),
+    }
+}
+
+/// Passes over an item, or returns where the search goes on. Placeholders in the text of the item
+/// may be nested `levels` levels deep.
+fn step_at_item<'a, S: Search<'a>>(
+    search: &mut S,
+    item: Item<'a>,
+    levels: usize,
+) -> Result<Step<'a>, AllocError>
+    requires few { levels < 2 ^ 30 }
+    requires ready { S.IsReady search.old }
+    requires is { IsOfLibrary (S.definitions search.old) (item_view item) }
+    ensures step { IfOk result (λ step. IsStep (PassesMore S.HasPassed) (StopsAt S.HasPassed S.IsSought) (S.definitions search.old) levels
+        (item_view item.entry) step search.old search.new) }
+    ensures ready { IfOk result (λ step. S.IsReady search.new) }
+    ensures definitions { IfOk result (λ step. S.definitions search.new ≡ S.definitions search.old) }
+{
+    match item {
+        Item::Text(text) => Ok(step_at_event(search, Event::Text(text))),
+        Item::Fault(fault) => Ok(step_at_event(search, Event::Fault(fault))),
+        Item::Placeholder(label, meaning) => {
+            if !search.pass_event(Event::Open(label, meaning)) {
+                return Ok(Step::Stopped);
+            }
+            if levels == 0 {
+                return Ok(step_at_event(search, Event::Fault(Fault::TooDeep)));
+            }
+            if pass_meaning(search, label, meaning, levels - 1)? {
+                Ok(step_at_event(search, Event::Close))
+            } else {
+                Ok(Step::Entered(label.name, meaning))
+            }
+        }
+    }
+}
+
+/// Returns the items of what a placeholder stands for.
+fn items_inside<'a>(grok: &'a Grok, meaning: Meaning<'a>) -> PlacedItems<'a>
+    ensures read { HasRead (finite.get grok.now) [] result }
+    ensures text { result.text.now ≡ meaning_text (meaning_view meaning.entry) }
+    ensures left { left_in result ≡ items_of (finite.get grok.now) (meaning_text (meaning_view meaning.entry)) }
+{
+    match meaning {
+        Meaning::Inline(text) => PlacedItems::of_text(grok, text),
+        Meaning::Stored(stored) => PlacedItems::of_stored(grok, stored),
+    }
+}
+
+/// Returns a piece of a text as a place. A definition of each of the texts in `around` is entered,
+/// and the last one leads to the text.
+fn place_of<'a>(
+    grok: &'a Grok,
+    around: &[Opened<'a>],
+    text: &'a str,
+    placed: PlacedItem<'a>,
+) -> Result<Place<'a>, AllocError>
+    ensures path { IfOk result (λ place. path_view place.path.items ≡ names_of around.now) }
+    ensures text { IfOk result (λ place. place.text ≡ text.entry) }
+    ensures placed { IfOk result (λ place. (place.range ≡ placed.entry.range) × (place.item ≡ placed.entry.item)) }
+{
+    let mut path = Vec::new(grok.alloc());
+    'texts: for opened in around {
+        path.push(opened.name)?;
+    }
+    Ok(Place {
+        path,
+        text,
+        range: placed.range,
+        item: placed.item,
+    })
+}
+
+/// Goes through the events of a pattern's tree until the search stops at one. Returns the place that
+/// this event comes from, or `None` if the search passed over the whole tree.
+///
+/// # Errors
+///
+/// If an allocation fails.
+pub(crate) fn descend<'a, S: Search<'a>>(
+    grok: &'a Grok,
+    search: &mut S,
+    pattern: &'a str,
+) -> Result<Option<Place<'a>>, AllocError>
+    requires ready { S.IsReady search.old }
+    requires library { S.definitions search.old ≡ finite.get grok.now }
+    requires begins { S.HasPassed search.old [] search.old }
+    ensures found { IfOk result (λ found. FindsPlace S.HasPassed S.IsSought (finite.get grok.now) pattern.now
+        found search.old search.new) }
+    ensures ready { IfOk result (λ found. S.IsReady search.new) }
+    ensures definitions { IfOk result (λ found. S.definitions search.new ≡ S.definitions search.old) }
+{
+    let mut around = Vec::new(grok.alloc());
+    let mut inner = PlacedItems::of_text(grok, pattern);
+    'items: loop {
+        match inner.next()? {
+            Some(placed) => match step_at_item(search, placed.item, LEVELS - around.len())? {
+                Step::Passed => {}
+                Step::Stopped => return Ok(Some(place_of(grok, &around, inner.text, placed)?)),
+                Step::Entered(name, meaning) => {
+                    let items = mem::replace(&mut inner, items_inside(grok, meaning));
+                    around.push(Opened {
+                        placed,
+                        name,
+                        items,
+                    })?;
+                }
+            },
+            None => {
+                let Some(outer) = around.pop() else {
+                    return Ok(None);
+                };
+                inner = outer.items;
+                if !search.pass_event(Event::Close) {
+                    return Ok(Some(place_of(grok, &around, inner.text, outer.placed)?));
+                }
+            }
+        }
+    }
+}

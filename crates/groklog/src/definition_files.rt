@@ -1,0 +1,87 @@
+//! Reads the files and folders of definitions that are named after `-d`.
+
+use crate::library::DefinitionFile;
+use groklog_input::{Fault, Report, file_fault};
+use std::alloc::{AllocError, Global};
+use std::{fs, io};
+
+/// Returns what an operation on this file or folder gave, or the fault that reports its error.
+fn or_file_fault<T>(alloc: Global, name: &str, outcome: io::Result<T>) -> Result<T, Fault> {
+    match outcome {
+        Ok(value) => Ok(value),
+        Err(error) => Err(file_fault(alloc, name, error.kind())?),
+    }
+}
+
+/// Returns the paths of the files in a folder, in the byte order of their names. Hidden files,
+/// whose names begin with a dot, and folders are left out.
+fn files_in(rt: &HostRuntime, folder: &str) -> Result<Vec<String>, Fault> {
+    let alloc = rt.alloc();
+    let mut paths = Vec::new(alloc);
+    for entry in or_file_fault(alloc, folder, fs::read_dir(rt, folder))? {
+        let entry = or_file_fault(alloc, folder, entry)?;
+        if entry.file_name().starts_with('.') {
+            continue;
+        }
+        let path = entry.path().to_string_lossy();
+        if or_file_fault(alloc, path, fs::metadata(rt, path))?.is_file() {
+            paths.push(String::from_str(alloc, path)?)?;
+        }
+    }
+    paths.sort()?;
+    Ok(paths)
+}
+
+/// Returns the fault that reports that a file of definitions isn't UTF-8 after its first `valid`
+/// bytes.
+fn not_utf8(alloc: Global, name: &str, bytes: &[u8], valid: usize) -> Result<Fault, AllocError> {
+    let before = bytes.get(..valid).unwrap_or(bytes);
+    let number = before
+        .iter()
+        .filter(|b| **b == b'\n')
+        .count()
+        .saturating_add(1);
+    let what = format!(in alloc; "{name}:{number} isn't UTF-8")?;
+    let advice = "save the file as UTF-8, for instance by iconv -f LATIN1 -t UTF-8";
+    // own error: the file was read, and what it holds isn't UTF-8.
+    Ok(Fault::Read(Report::new(alloc, what.as_str(), advice)?))
+}
+
+/// Appends a file of definitions to `files`.
+fn add_file(rt: &HostRuntime, files: &mut Vec<DefinitionFile>, name: &str) -> Result<(), Fault> {
+    let alloc = rt.alloc();
+    let bytes = or_file_fault(alloc, name, fs::read(rt, name))?;
+    match str::from_utf8(&bytes) {
+        Ok(text) => {
+            let text = String::from_str(alloc, text)?;
+            let name = String::from_str(alloc, name)?;
+            files.push(DefinitionFile { name, text })?;
+            Ok(())
+        }
+        Err(error) => Err(not_utf8(alloc, name, &bytes, error.valid_up_to())?),
+    }
+}
+
+/// Reads the files of definitions with these names. If a name is that of a folder, reads each file
+/// in it, in the byte order of their names, but no hidden files and no folders.
+///
+/// # Errors
+///
+/// Returns an error if a file or a folder can't be read, if a file isn't UTF-8, or if an allocation
+/// fails.
+pub fn read_definition_files(
+    rt: &HostRuntime,
+    names: &[&str],
+) -> Result<Vec<DefinitionFile>, Fault> {
+    let mut files = Vec::new(rt.alloc());
+    for name in names {
+        if or_file_fault(rt.alloc(), name, fs::metadata(rt, name))?.is_dir() {
+            for path in &files_in(rt, name)? {
+                add_file(rt, &mut files, path.as_str())?;
+            }
+        } else {
+            add_file(rt, &mut files, name)?;
+        }
+    }
+    Ok(files)
+}

@@ -1,0 +1,195 @@
+//! Tests of answering the lines of an input on devices (readers and writers) that fail: no contract says what a device
+//! gives.
+ghost use Rattle.std.specs.Prelude.{◌≡◌};
+
+use crate::answered::{Answered, answer_input};
+use crate::fault::Fault;
+use crate::watched::Watched;
+use grok_lines::{LineAnswers, LinesError};
+use std::alloc::AllocError;
+use std::io::{self, ErrorKind, Read, Write};
+use std::process::Abort;
+use std::test::Fail;
+
+/// Answers each line with the line itself, without its line feed.
+#[derive(Drop)]
+struct Echo;
+
+impl LineAnswers for Echo {
+    ghost answer = { λ _ n line. line };
+
+    fn answer_str(&mut self, text: &mut Vec<u8>, line: &str) -> Result<(), AllocError> {
+        text.extend_from_slice(line.as_bytes())
+    }
+
+    fn answer_broken(&mut self, text: &mut Vec<u8>, line: &[u8]) -> Result<(), AllocError> {
+        text.extend_from_slice(line)
+    }
+}
+
+/// A reader that returns one byte in each call. Before each byte, and before it fails, a call is interrupted. When no
+/// byte is left, it fails with this kind of error, or is at its end.
+#[derive(Drop)]
+struct Input<'a> {
+    left: &'a [u8],
+    is_interrupted: bool,
+    failure: Option<ErrorKind>,
+}
+
+impl Read for Input<'_> {
+    fn read(&mut self, buf: &mut [u8]) -> io::Result<usize> {
+        self.is_interrupted = !self.is_interrupted;
+        if self.is_interrupted {
+            return Err(io::Error::from(ErrorKind::Interrupted));
+        }
+        if self.left.is_empty()
+            && let Some(kind) = self.failure
+        {
+            return Err(io::Error::from(kind));
+        }
+        let count = buf.len().min(self.left.len()).min(1);
+        buf[..count].copy_from_slice(&self.left[..count]);
+        self.left = &self.left[count..];
+        Ok(count)
+    }
+}
+
+/// A writer that takes at most `most` bytes in each call and `room` bytes in all. After these it fails with this kind of
+/// error, or takes no byte.
+#[derive(Drop)]
+struct Output {
+    taken: Vec<u8>,
+    most: usize,
+    room: usize,
+    failure: Option<ErrorKind>,
+}
+
+impl Write for Output {
+    fn write(&mut self, buf: &[u8]) -> io::Result<usize> {
+        let count = buf.len().min(self.most).min(self.room);
+        if count == 0
+            && let Some(kind) = self.failure
+        {
+            return Err(io::Error::from(kind));
+        }
+        self.taken.extend_from_slice(&buf[..count])?;
+        self.room -= count;
+        Ok(count)
+    }
+
+    fn flush(&mut self) -> io::Result<()> {
+        Ok(())
+    }
+}
+
+/// How answering ended: it was all answered, its reader has enough, or there was a fault with this text.
+fn ending(rt: &impl AllocGlobal, answered: Result<Answered, Fault>) -> Result<String, AllocError> {
+    match answered {
+        Ok(Answered::All) => String::from_str(rt.alloc(), "all"),
+        Ok(Answered::Enough) => String::from_str(rt.alloc(), "enough"),
+        Err(fault) => fault.to_string(rt.alloc()),
+    }
+}
+
+/// Answers the lines of `lines`, with a reader and a writer that fail as these arguments say. Checks how that ends, and what the
+/// writer took.
+fn check(
+    rt: &(impl Abort + AllocGlobal),
+    (lines, reading): (&[u8], Option<ErrorKind>),
+    (room, writing): (usize, Option<ErrorKind>),
+    expected: &str,
+    taken: &[u8],
+) -> Result<(), Fail> {
+    let mut input = Watched::new(Input {
+        left: lines,
+        is_interrupted: false,
+        failure: reading,
+    });
+    let mut output = Output {
+        taken: Vec::new(rt.alloc()),
+        most: 50_000,
+        room,
+        failure: writing,
+    };
+    let answered = answer_input(rt.alloc(), &mut Echo, &mut input, &mut output, "a.log");
+    let ending = ending(rt, answered)?;
+    assert_eq!(rt; ending.as_str(), expected);
+    assert_eq!(rt; output.taken.as_slice(), taken);
+    Ok(())
+}
+
+/// A body that reads nothing, or that writes nothing, would be seen here.
+#[test]
+fn each_line_is_answered(rt: HostRuntime) -> Result<(), Fail> {
+    check(&rt, (b"p\n\xff\nq", None), (9, None), "all", b"p\xffq")?;
+    check(&rt, (b"", None), (0, None), "all", b"")
+}
+
+/// The reason is that of the read that failed, and not that of the one before, which was interrupted. The line that
+/// hadn't ended isn't answered.
+#[test]
+fn a_read_is_interrupted_and_then_fails(rt: HostRuntime) -> Result<(), Fail> {
+    check(
+        &rt,
+        (b"p\nq", Some(ErrorKind::PermissionDenied)),
+        (9, None),
+        "groklog: can't read a.log: permission denied\n  try: check with ls -l who may read it\n",
+        b"p",
+    )?;
+    check(
+        &rt,
+        (b"p\nq", Some(ErrorKind::OutOfMemory)),
+        (9, None),
+        "groklog: out of memory\n",
+        b"p",
+    )
+}
+
+#[test]
+fn the_reader_of_the_answers_closes_the_pipe(rt: HostRuntime) -> Result<(), Fail> {
+    let closed = Some(ErrorKind::BrokenPipe);
+    check(&rt, (b"p\nq\nr\n", None), (2, closed), "enough", b"pq")?;
+    check(&rt, (b"p\n", None), (0, closed), "enough", b"")
+}
+
+#[test]
+fn a_write_takes_no_byte_or_fails(rt: HostRuntime) -> Result<(), Fail> {
+    check(
+        &rt,
+        (b"p\nq\n", None),
+        (1, None),
+        "groklog: can't write the answers: failed to write whole buffer\n  try: check where standard output goes\n",
+        b"p",
+    )?;
+    check(
+        &rt,
+        (b"p\nq\n", None),
+        (1, Some(ErrorKind::StorageFull)),
+        "groklog: can't write the answers: no storage space\n  try: free some space, or write to another disk\n",
+        b"p",
+    )
+}
+
+/// The answer is longer than what is held back, and is written in several calls.
+#[test]
+fn a_long_answer(rt: HostRuntime) -> Result<(), Fail> {
+    let line = vec![in rt.alloc(); b'a'; 150_000]?;
+    let sent = vec![in rt.alloc(); b'a'; 120_000]?;
+    check(&rt, (&line, None), (150_000, None), "all", &line)?;
+    check(
+        &rt,
+        (&line, None),
+        (120_000, Some(ErrorKind::BrokenPipe)),
+        "enough",
+        &sent,
+    )
+}
+
+/// The text of an error of the output has the system's reason.
+#[test]
+fn text_of_a_failed_write(rt: HostRuntime) -> Result<(), Fail> {
+    let error = LinesError::Write(io::Error::from(ErrorKind::BrokenPipe));
+    let text = error.to_string(rt.alloc())?;
+    assert_eq!(rt; text.as_str(), "write failed: broken pipe");
+    Ok(())
+}

@@ -1,0 +1,61 @@
+//! Shows foreign text, such as a name of a file or a part of a definition, so that a terminal can't take any of it as a
+//! command.
+ghost use Rattle.std.specs.Prelude.{◌≡◌, ◌++◌, IfOk, OnOk, false, string_bytes};
+ghost use Rattle.std.specs.Str.{encode_utf8_all};
+ghost use Rattle.groklog_input.specs.Visible.{is_bidi_control, is_raw, has_raw, shown_char, visible};
+
+use std::alloc::{AllocError, Global};
+
+/// Returns whether a character changes the direction of text: Unicode's property `Bidi_Control`.
+fn is_bidi_control(c: char) -> bool
+    ensures { result ≡ is_bidi_control c }
+{
+    match c {
+        '\u{61c}' => true,
+        '\u{200e}'..='\u{200f}' => true,
+        '\u{202a}'..='\u{202e}' => true,
+        '\u{2066}'..='\u{2069}' => true,
+        _ => false,
+    }
+}
+
+/// Returns whether a terminal could take a character as a command.
+fn is_raw(c: char) -> bool
+    ensures { result ≡ is_raw c }
+{
+    c.is_control() || is_bidi_control(c)
+}
+
+/// Appends a character as it is shown: escaped, such as `\n` or `\u{1b}`, if a terminal could take
+/// it as a command, and otherwise as it is.
+fn push_visible(shown: &mut String, c: char) -> Result<(), AllocError>
+    ensures { OnOk result (string_bytes shown.new
+        ≡ string_bytes shown.old ++ encode_utf8_all (shown_char c)) }
+{
+    if !is_raw(c) {
+        return shown.push(c);
+    }
+    for escaped in c.escape_default() {
+        shown.push(escaped)?;
+    }
+    Ok(())
+}
+
+/// Returns a text as messages show it: control characters and those that change the direction of
+/// text are escaped as in Rust's `char::escape_default`, such as `\n` or `\u{1b}`. A text without
+/// them stays as it is.
+///
+/// # Errors
+///
+/// If an allocation fails.
+pub fn visible(alloc: Global, text: &str) -> Result<String, AllocError>
+    ensures shown { IfOk result (λ shown. string_bytes shown ≡ visible text.now) }
+    ensures safe { IfOk result (λ shown. has_raw (string_bytes shown) ≡ false) }
+    ensures same { IfOk result (λ shown. has_raw text.now ≡ false → string_bytes shown ≡ text.now) }
+{
+    let mut shown = String::new(alloc);
+    for c in text.chars() {
+        push_visible(&mut shown, c)?;
+    }
+    Ok(shown)
+}
