@@ -1,3 +1,4 @@
 pub mod NamesAndBlanksEndAtBoundaries
 pub mod FirstCharacterDecides
 pub mod ShownTextHasNoRawCharacter
+mod LinesAreFormed

@@ -14,7 +14,9 @@
 mod answered;
 mod definition;
 mod fault;
+mod formed_answers;
 mod group_names;
+mod line_form;
 mod logstash;
 #[cfg(test)]
 mod tests;
@@ -24,7 +26,9 @@ mod watched;
 pub use answered::{Answered, answer_input, file_fault, write_fault};
 pub use definition::{name_of_spaced, read_definition, skip_blanks};
 pub use fault::{Fault, FaultyPart, Report};
+pub use formed_answers::FormedAnswers;
 pub use group_names::meant_key;
+pub use line_form::{Encoding, LineForm, Signs};
 pub use logstash::{Change, ChangeKind, Rewritten, rewrite};
 pub use visible_text::visible;
 pub use watched::Watched;

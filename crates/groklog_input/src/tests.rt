@@ -4,8 +4,10 @@ ghost use Rattle.std.specs.Prelude.{◌≡◌};
 
 use crate::answered::{Answered, answer_input};
 use crate::fault::Fault;
+use crate::formed_answers::FormedAnswers;
+use crate::line_form::{Encoding, LineForm, Signs};
 use crate::watched::Watched;
-use grok_lines::{LineAnswers, LinesError};
+use grok_lines::{LineAnswers, LinesError, answer_lines};
 use std::alloc::AllocError;
 use std::io::{self, ErrorKind, Read, Write};
 use std::process::Abort;
@@ -192,4 +194,91 @@ fn text_of_a_failed_write(rt: HostRuntime) -> Result<(), Fail> {
     let text = error.to_string(rt.alloc())?;
     assert_eq!(rt; text.as_str(), "write failed: broken pipe");
     Ok(())
+}
+
+/// Answers the lines of an input with the lines as they are read in this form. Checks the answers, and what the lines show
+/// about their input: its encoding, whether its first line ends in a carriage return, and its first line that isn't UTF-8.
+fn check_form(
+    rt: &(impl Abort + AllocGlobal),
+    form: LineForm,
+    lines: &[u8],
+    answers: &[u8],
+    (encoding, has_return, first_broken): (Encoding, bool, Option<u64>),
+) -> Result<(), Fail> {
+    let mut formed = FormedAnswers::new(rt.alloc(), Echo, form);
+    let mut output = Vec::new(rt.alloc());
+    // What an earlier input shows is forgotten.
+    let mut earlier: &[u8] = b"\x1f\x8b\r\n";
+    answer_lines(rt.alloc(), &mut formed, &mut earlier, &mut output)?;
+    formed.begin_input();
+    output.clear();
+    let mut input = lines;
+    answer_lines(rt.alloc(), &mut formed, &mut input, &mut output)?;
+    assert_eq!(rt; output.as_slice(), answers);
+    let signs = formed.signs;
+    assert!(rt; signs.encoding == encoding);
+    assert_eq!(rt; signs.has_return, has_return);
+    assert_eq!(rt; signs.first_broken, first_broken);
+    Ok(())
+}
+
+const AS_IT_IS: LineForm = LineForm {
+    drops_return: false,
+    is_lossy: false,
+};
+
+/// The mark is taken off the first line alone, and once.
+#[test]
+fn lines_after_a_byte_order_mark(rt: HostRuntime) -> Result<(), Fail> {
+    check_form(
+        &rt,
+        AS_IT_IS,
+        b"\xef\xbb\xbf\xef\xbb\xbfp\r\n\xef\xbb\xbfq",
+        b"\xef\xbb\xbfp\r\xef\xbb\xbfq",
+        (Encoding::Other, true, None),
+    )?;
+    check_form(
+        &rt,
+        AS_IT_IS,
+        b"\xef\xbb\xbfp\xff\nq\r",
+        b"p\xffq\r",
+        (Encoding::Other, false, Some(1)),
+    )
+}
+
+/// One carriage return is taken off, at the end of a line, also of one that isn't UTF-8.
+#[test]
+fn lines_without_carriage_returns(rt: HostRuntime) -> Result<(), Fail> {
+    let form = LineForm {
+        drops_return: true,
+        ..AS_IT_IS
+    };
+    check_form(
+        &rt,
+        form,
+        b"p\r\r\n\r\n\n\rq\n\xff\r",
+        b"p\r\rq\xff",
+        (Encoding::Other, true, Some(5)),
+    )
+}
+
+/// Each part that isn't UTF-8 becomes U+FFFD.
+#[test]
+fn lines_that_are_not_utf8(rt: HostRuntime) -> Result<(), Fail> {
+    let form = LineForm {
+        is_lossy: true,
+        ..AS_IT_IS
+    };
+    let answers = "p\u{fffd}\u{fffd}!\r".as_bytes();
+    let signs = (Encoding::Other, false, Some(2));
+    check_form(&rt, form, b"p\n\xff\xe2\x82!\r\n", answers, signs)?;
+    let utf16 = (Encoding::Utf16, false, Some(1));
+    check_form(
+        &rt,
+        form,
+        b"\xff\xfep",
+        "\u{fffd}\u{fffd}p".as_bytes(),
+        utf16,
+    )?;
+    check_form(&rt, form, b"\xfe\xff", "\u{fffd}\u{fffd}".as_bytes(), utf16)
 }

@@ -1,0 +1,145 @@
+//! Reads a line as the options say: without a byte order mark and a carriage return at its ends,
+//! and with U+FFFD for what isn't UTF-8.
+ghost use Rattle.std.specs.Prelude.{◌≡◌, ◌==◌, None};
+ghost use Rattle.std.specs.List.{ends_with};
+ghost use Rattle.groklog_input.specs.LineForms.{without_prefix, without_suffix, carriage_return, trimmed, encoding_of};
+
+/// The byte order mark, with which some programs begin a file in UTF-8.
+const MARK: &str = "\u{feff}";
+
+/// What stands before the line feed in files that were written on Windows.
+const RETURN: &str = "\r";
+
+/// How lines are read before patterns are searched for in them.
+#[derive(Clone, Copy)]
+pub struct LineForm {
+    /// Whether one carriage return is taken off the end of each line.
+    pub drops_return: bool,
+    /// Whether each part of a line that isn't UTF-8 is read as U+FFFD. Otherwise such a line has no
+    /// fields.
+    pub is_lossy: bool,
+}
+
+/// What an input seems to hold, judged by the bytes that it begins with.
+#[derive(Clone, Copy, PartialEq, Eq)]
+pub enum Encoding {
+    /// A file that gzip compressed.
+    Gzip,
+    /// A text in UTF-16, with its byte order mark.
+    Utf16,
+    /// Anything else.
+    Other,
+}
+
+/// What the lines of an input show about it.
+#[derive(Clone, Copy)]
+pub struct Signs {
+    /// What the input seems to hold.
+    pub encoding: Encoding,
+    /// Whether its first line ends in a carriage return.
+    pub has_return: bool,
+    /// The number of the first line that isn't UTF-8, counted from 1, or `None` if there is none.
+    pub first_broken: Option<u64>,
+}
+
+/// Returns the text without `part` at its front, if it begins with that, and otherwise the whole text.
+#[tactic(auto, using(crate::proofs::LinesAreFormed::prefix_is_taken_off))]
+fn without_prefix<'t>(text: &'t str, part: &str) -> &'t str
+    ensures { result.now ≡ without_prefix part.now text.now }
+{
+    text.strip_prefix(part).unwrap_or(text)
+}
+
+/// Returns the text without `part` at its end, if it ends with that, and otherwise the whole text.
+#[tactic(auto, using(crate::proofs::LinesAreFormed::suffix_is_taken_off))]
+fn without_suffix<'t>(text: &'t str, part: &str) -> &'t str
+    ensures { result.now ≡ without_suffix part.now text.now }
+{
+    text.strip_suffix(part).unwrap_or(text)
+}
+
+/// Does the same as `without_prefix`, for bytes.
+fn bytes_without_prefix<'t>(bytes: &'t [u8], part: &[u8]) -> &'t [u8]
+    ensures { result.now ≡ without_prefix part.now bytes.now }
+{
+    if bytes.starts_with(part) {
+        &bytes[part.len()..]
+    } else {
+        bytes
+    }
+}
+
+/// Does the same as `without_suffix`, for bytes.
+fn bytes_without_suffix<'t>(bytes: &'t [u8], part: &[u8]) -> &'t [u8]
+    ensures { result.now ≡ without_suffix part.now bytes.now }
+{
+    if bytes.ends_with(part) {
+        &bytes[..bytes.len() - part.len()]
+    } else {
+        bytes
+    }
+}
+
+impl LineForm {
+    /// Returns a line without what this form takes off its ends. If it is the first line of its
+    /// input, that is also the byte order mark.
+    #[inline(always)]
+    pub fn trim(self, is_first: bool, line: &str) -> &str
+        ensures { result.now ≡ trimmed self is_first line.now }
+    {
+        let line = if is_first {
+            without_prefix(line, MARK)
+        } else {
+            line
+        };
+        if self.drops_return {
+            without_suffix(line, RETURN)
+        } else {
+            line
+        }
+    }
+
+    /// Does the same as `trim`, for a line that isn't UTF-8.
+    pub fn trim_bytes(self, is_first: bool, line: &[u8]) -> &[u8]
+        ensures { result.now ≡ trimmed self is_first line.now }
+    {
+        let line = if is_first {
+            bytes_without_prefix(line, MARK.as_bytes())
+        } else {
+            line
+        };
+        if self.drops_return {
+            bytes_without_suffix(line, RETURN.as_bytes())
+        } else {
+            line
+        }
+    }
+}
+
+impl Signs {
+    /// Returns what is known of an input after its first line.
+    pub fn of_first_line(line: &[u8]) -> Signs
+        ensures encoding { result.encoding ≡ encoding_of line.now }
+        ensures has_return { result.has_return ≡ ends_with ◌==◌ line.now carriage_return }
+        ensures broken { result.first_broken ≡ None }
+    {
+        Signs {
+            encoding: encoding_of(line),
+            has_return: line.ends_with(RETURN.as_bytes()),
+            first_broken: None,
+        }
+    }
+}
+
+/// Returns what an input seems to hold that begins with these bytes.
+fn encoding_of(bytes: &[u8]) -> Encoding
+    ensures { result ≡ encoding_of bytes.now }
+{
+    if bytes.starts_with(&[0x1f, 0x8b]) {
+        Encoding::Gzip
+    } else if bytes.starts_with(&[0xff, 0xfe]) || bytes.starts_with(&[0xfe, 0xff]) {
+        Encoding::Utf16
+    } else {
+        Encoding::Other
+    }
+}
