@@ -22,7 +22,11 @@ const JSON: Layout<'static> = Layout {
     keep: None,
     tag: None,
     number: None,
+    file: None,
+    file_name: "a.log",
+    failed: None,
     typed: false,
+    drops_empty: false,
 };
 
 const PAIRS: Layout<'static> = Layout {
@@ -184,6 +188,56 @@ const ROWS: &[Row] = &[
         answers: "no=1\n\nno=2\nby=%{W:word=\\w+}|%{D:dash=-+}\nword=cats\n\n",
     },
     Row {
+        name: "the number, the file, and why a line has no fields",
+        patterns: NUMBER_OR_WORD,
+        layout: Layout {
+            number: Some("no"),
+            file: Some("from"),
+            failed: Some("why"),
+            tag: Some("by"),
+            keep: Some("line"),
+            ..JSON
+        },
+        log: b"!\n--\n\xff\n",
+        answers: "{\"no\":1,\"from\":\"a.log\",\"why\":\"no match\",\"line\":\"!\"}\n\
+            {\"no\":2,\"from\":\"a.log\",\"by\":\"%{W:word=\\\\w+}|%{D:dash=-+}\",\"dash\":\"--\",\"line\":\"--\"}\n\
+            {\"no\":3,\"from\":\"a.log\",\"why\":\"not UTF-8\",\"line\":\"\u{fffd}\"}\n",
+    },
+    Row {
+        name: "the same in pairs, without the line",
+        patterns: NUMBER_OR_WORD,
+        layout: Layout {
+            number: Some("no"),
+            file: Some("from"),
+            failed: Some("why"),
+            ..PAIRS
+        },
+        log: b"!\n--\n\xff\n",
+        answers: "no=1\nfrom=a.log\nwhy=no match\n\nno=2\nfrom=a.log\ndash=--\n\nno=3\nfrom=a.log\nwhy=not UTF-8\n\n",
+    },
+    Row {
+        name: "without fields whose value is empty, but with an empty line",
+        patterns: THREE_VALUES,
+        layout: Layout {
+            drops_empty: true,
+            typed: true,
+            ..JSON
+        },
+        log: b"42 \n 0 0\n 7 \n  \n  s\n",
+        answers: "{}\n{\"f\":0,\"s\":\"0\"}\n{\"f\":7}\n{}\n{\"s\":\"s\"}\n",
+    },
+    Row {
+        name: "pairs without fields whose value is empty, but with an empty line",
+        patterns: &[r"^%{V:a=[a-z]*}%{V:b=[0-9]*}$"],
+        layout: Layout {
+            drops_empty: true,
+            keep: Some("line"),
+            ..PAIRS
+        },
+        log: b"x\n7\n\n",
+        answers: "a=x\nline=x\n\nb=7\nline=7\n\nline=\n\n",
+    },
+    Row {
         name: "no patterns",
         patterns: &[],
         layout: Layout {
@@ -229,6 +283,32 @@ fn check_row(rt: &(impl Abort + AllocGlobal), row: &Row) -> Result<(), Fail> {
     let answered = answer_lines(alloc, &mut answers, &mut log, &mut written);
     assert!(rt; answered.is_ok(), "{}", row.name);
     assert_eq!(rt; written.as_slice(), row.answers.as_bytes(), "{}", row.name);
+    Ok(())
+}
+
+/// The numbers go on in the next file, and its lines have its name.
+#[test]
+fn lines_of_two_files(rt: HostRuntime) -> Result<(), Fail> {
+    let alloc = rt.alloc();
+    let patterns = compile(alloc, NUMBER_OR_WORD)?;
+    let named = name(alloc, NUMBER_OR_WORD, &patterns)?;
+    let layout = Layout {
+        number: Some("no"),
+        file: Some("from"),
+        ..JSON
+    };
+    let mut answers = LogAnswers::new(alloc, &named, layout)?;
+    let mut written = Vec::new(alloc);
+    let mut log: &[u8] = b"!\n\xff";
+    assert!(&rt; answer_lines(alloc, &mut answers, &mut log, &mut written).is_ok());
+    assert!(&rt; !answers.has_matched());
+    answers.begin_file("b.log");
+    let mut log: &[u8] = b"--\n!\n";
+    assert!(&rt; answer_lines(alloc, &mut answers, &mut log, &mut written).is_ok());
+    assert!(&rt; answers.has_matched());
+    let expected = "{\"no\":1,\"from\":\"a.log\"}\n{\"no\":2,\"from\":\"a.log\"}\n\
+        {\"no\":3,\"from\":\"b.log\",\"dash\":\"--\"}\n{\"no\":4,\"from\":\"b.log\"}\n";
+    assert_eq!(&rt; written.as_slice(), expected.as_bytes());
     Ok(())
 }
 

@@ -1,18 +1,17 @@
 -- Proves the laws on which pattern answers a line, and on which lines are answered.
-use Rattle.std.proofs.Common.{◌≡◌, ◌≢◌, ◌⊎◌, inl, inr, ℕ, List, [], ◌∷◌, ◌++◌, Bool, true, false, Option, Some, None, if◌then◌else◌, codes, refl, flat_map}
-use Rattle.std.specs.Option.{option_or}
+use Rattle.std.proofs.Common.{◌≡◌, ◌≢◌, inl, inr, ℕ, List, [], ◌∷◌, ◌++◌, Bool, true, false, Option, Some, None, if◌then◌else◌, codes, refl, flat_map}
 use Rattle.std.specs.Str.{is_utf8}
 use Rattle.std.specs.Str.Lossy.{utf8_lossy}
-use Rattle.grok.specs.Numeral.{numeral}
-use Rattle.groklog_answers.specs.Layouts.{LayoutValue}
-use Rattle.groklog_answers.specs.Patterns.{PatternText, MatchText, match_of, first_match}
+use Rattle.groklog_answers.specs.Layouts.{LayoutValue, failure_words}
+use Rattle.groklog_answers.specs.Patterns.{MatchText, first_match}
 use Rattle.groklog_answers.specs.Objects.{match_members, unmatched_members, object_text}
-use Rattle.grok_lines.specs.Pairs.{pair_line}
-use Rattle.groklog_answers.specs.PairTexts.{optional_line}
-use Rattle.groklog_answers.specs.LogAnswers.{match_text, unmatched_text, match_answer, unmatched_answer, answer_by, log_answer}
+use Rattle.groklog_answers.specs.PairTexts.{optional_line, field_line, place_lines}
+use Rattle.groklog_answers.specs.LogAnswers.{match_text, unmatched_text, unmatched_answer, answer_by}
 use Rattle.groklog_answers.specs.AnswerLaws.{FirstThatMatchesAnswers, NoneThatMatchesIsNoMatch, with_lines, Share, EachLineIsAnswered, EachAnswerIsOfOneKind}
 use Rattle.groklog_answers.specs.declared.layout.Lines.{Lines}
 use Rattle.groklog_answers.specs.declared.layout.Lines.TheVariants.{All, Matched, Unmatched}
+use Rattle.groklog_answers.specs.declared.layout.Failure.{Failure}
+use Rattle.groklog_answers.specs.declared.layout.Failure.TheVariants.{NoMatch, NotUtf8}
 use Rattle.groklog_answers.specs.declared.layout.OutputFormat.{OutputFormat}
 use Rattle.groklog_answers.specs.declared.layout.OutputFormat.TheVariants.{Json, Pairs}
 
@@ -33,22 +32,22 @@ match_is_same : (format : OutputFormat) (a b : Lines) (layout : LayoutValue) (fo
 match_is_same Json a b layout found n line = refl
 match_is_same Pairs a b layout found n line = refl
 
-unmatched_is_same : (format : OutputFormat) (a b : Lines) (layout : LayoutValue) (n : ℕ) (line : List ℕ)
-    → unmatched_text format (with_lines a layout) n line ≡ unmatched_text format (with_lines b layout) n line
-unmatched_is_same Json a b layout n line = refl
-unmatched_is_same Pairs a b layout n line = refl
+unmatched_is_same : (format : OutputFormat) (a b : Lines) (layout : LayoutValue) (n : ℕ) (why : Failure) (line : List ℕ)
+    → unmatched_text format (with_lines a layout) n why line ≡ unmatched_text format (with_lines b layout) n why line
+unmatched_is_same Json a b layout n why line = refl
+unmatched_is_same Pairs a b layout n why line = refl
 
 shared_by : (layout : LayoutValue) (found : Option MatchText) (n : ℕ) (line : List ℕ)
     → Share (answer_by (with_lines Matched layout) found n line) (answer_by (with_lines Unmatched layout) found n line) (answer_by (with_lines All layout) found n line)
-shared_by layout None n line = inr (refl, unmatched_is_same layout.format Unmatched All layout n line)
+shared_by layout None n line = inr (refl, unmatched_is_same layout.format Unmatched All layout n NoMatch line)
 shared_by layout (Some found) n line = inl (match_is_same layout.format Matched All layout found n line, refl)
 
 shared : (b : Bool) (layout : LayoutValue) (found : Option MatchText) (n : ℕ) (line lossy : List ℕ)
-    → Share (if b then answer_by (with_lines Matched layout) found n line else unmatched_answer Matched (with_lines Matched layout) n lossy)
-    (if b then answer_by (with_lines Unmatched layout) found n line else unmatched_answer Unmatched (with_lines Unmatched layout) n lossy)
-    (if b then answer_by (with_lines All layout) found n line else unmatched_answer All (with_lines All layout) n lossy)
+    → Share (if b then answer_by (with_lines Matched layout) found n line else unmatched_answer Matched (with_lines Matched layout) n NotUtf8 lossy)
+    (if b then answer_by (with_lines Unmatched layout) found n line else unmatched_answer Unmatched (with_lines Unmatched layout) n NotUtf8 lossy)
+    (if b then answer_by (with_lines All layout) found n line else unmatched_answer All (with_lines All layout) n NotUtf8 lossy)
 shared true layout found n line lossy = shared_by layout found n line
-shared false layout found n line lossy = inr (refl, unmatched_is_same layout.format Unmatched All layout n lossy)
+shared false layout found n line lossy = inr (refl, unmatched_is_same layout.format Unmatched All layout n NotUtf8 lossy)
 
 pub each_answer_is_of_one_kind : EachAnswerIsOfOneKind
 each_answer_is_of_one_kind layout patterns n line = shared (is_utf8 line) layout (first_match patterns line) n line (utf8_lossy line)
@@ -66,23 +65,24 @@ feed e = cc
 match_is_written : (format : OutputFormat) (layout : LayoutValue) (found : MatchText) (n : ℕ) (line : List ℕ) → match_text format layout found n line ≢ []
 match_is_written Json layout found n line = filled (object_text (match_members layout found n line)) (codes "\n") feed
 match_is_written Pairs layout found n line =
-    filled (optional_line layout.number (numeral n)) _
+    filled (place_lines layout n) _
     (filled (optional_line layout.tag found.tag) _
-    (filled (flat_map pair_line found.pairs) _ (filled (optional_line layout.keep line) (codes "\n") feed)))
+    (filled (flat_map (field_line layout) found.pairs) _ (filled (optional_line layout.keep line) (codes "\n") feed)))
 
-unmatched_is_written : (format : OutputFormat) (layout : LayoutValue) (n : ℕ) (line : List ℕ) → unmatched_text format layout n line ≢ []
-unmatched_is_written Json layout n line = filled (object_text (unmatched_members layout n line)) (codes "\n") feed
-unmatched_is_written Pairs layout n line =
-    filled (optional_line layout.number (numeral n)) _ (filled (optional_line layout.keep line) (codes "\n") feed)
+unmatched_is_written : (format : OutputFormat) (layout : LayoutValue) (n : ℕ) (why : Failure) (line : List ℕ) → unmatched_text format layout n why line ≢ []
+unmatched_is_written Json layout n why line = filled (object_text (unmatched_members layout n why line)) (codes "\n") feed
+unmatched_is_written Pairs layout n why line =
+    filled (place_lines layout n) _
+    (filled (optional_line layout.failed (failure_words why)) _ (filled (optional_line layout.keep line) (codes "\n") feed))
 
 written_by : (layout : LayoutValue) (found : Option MatchText) (n : ℕ) (line : List ℕ) → answer_by (with_lines All layout) found n line ≢ []
-written_by layout None n line = unmatched_is_written layout.format (with_lines All layout) n line
+written_by layout None n line = unmatched_is_written layout.format (with_lines All layout) n NoMatch line
 written_by layout (Some found) n line = match_is_written layout.format (with_lines All layout) found n line
 
 written : (b : Bool) (layout : LayoutValue) (found : Option MatchText) (n : ℕ) (line lossy : List ℕ)
-    → (if b then answer_by (with_lines All layout) found n line else unmatched_answer All (with_lines All layout) n lossy) ≢ []
+    → (if b then answer_by (with_lines All layout) found n line else unmatched_answer All (with_lines All layout) n NotUtf8 lossy) ≢ []
 written true layout found n line lossy = written_by layout found n line
-written false layout found n line lossy = unmatched_is_written layout.format (with_lines All layout) n lossy
+written false layout found n line lossy = unmatched_is_written layout.format (with_lines All layout) n NotUtf8 lossy
 
 pub each_line_is_answered : EachLineIsAnswered
 each_line_is_answered layout patterns n line = written (is_utf8 line) layout (first_match patterns line) n line (utf8_lossy line)

@@ -1,5 +1,5 @@
 -- The JSON object of a line of a log is itself one line.
-use Rattle.std.proofs.Common.{◌≡◌, ◌⊎◌, inl, inr, ℕ, zero, suc, ◌<◌, ◌≤◌, not, ◌&&◌, subst, Bool, true, false, ◌==◌, cond, List, [], ◌∷◌, ◌++◌, Option, Some, None, if◌then◌else◌, codes, flat_map, refl, sym, ap, ◌∙◌, arith}
+use Rattle.std.proofs.Common.{◌≡◌, ◌⊎◌, inl, inr, ℕ, zero, suc, ◌<◌, ◌≤◌, not, ◌&&◌, subst, Bool, true, false, ◌==◌, cond, List, [], ◌∷◌, ◌++◌, Option, Some, None, if◌then◌else◌, codes, refl, sym, arith}
 use Rattle.std.proofs.lemmas.Bool.{cases_eq, cases_lt}
 use Rattle.std.proofs.lemmas.Bool.Decides.{nat_tests}
 use Rattle.std.specs.List.{AllByRecursion}
@@ -7,19 +7,20 @@ use Rattle.std.specs.Str.{is_utf8}
 use Rattle.std.specs.Str.Lossy.{utf8_lossy}
 use Rattle.json.specs.Token.{Token, begin_object, end_object, begin_array, end_array, key, string, number, boolean, null, bad}
 use Rattle.json.specs.Json.{object}
-use Rattle.json.specs.Tree.{json_tokens}
-use Rattle.json.specs.Print.{escape_byte, escape, quoted, token_text, separator, begins, ends, print_from, print, IsPrintable, ArePrintable}
+use Rattle.json.specs.Print.{escape_byte, escape, quoted, token_text, separator, begins, ends, print_from, IsPrintable, ArePrintable}
 use Rattle.json.proofs.Printed.Strings.{escape_byte_plain}
 use Rattle.json.proofs.Printed.Trees.{ArePrintable-json_tokens}
 use Rattle.grok_lines.specs.Lines.{IsLine}
 use Rattle.grok_lines.proofs.LinesOfTwoParts.{line-append}
 use Rattle.groklog_answers.specs.Layouts.{LayoutValue}
-use Rattle.groklog_answers.specs.Patterns.{MatchText, PatternText, first_match}
+use Rattle.groklog_answers.specs.Patterns.{MatchText, first_match}
 use Rattle.groklog_answers.specs.Objects.{KeyValues, members_of, match_members, unmatched_members, object_text}
-use Rattle.groklog_answers.specs.LogAnswers.{match_text, unmatched_text, match_answer, unmatched_answer, answer_by, log_answer}
+use Rattle.groklog_answers.specs.LogAnswers.{match_text, unmatched_text, match_answer, unmatched_answer, answer_by}
 use Rattle.groklog_answers.specs.AnswerLaws.{ObjectsAreLines}
 use Rattle.groklog_answers.specs.declared.layout.Lines.{Lines}
 use Rattle.groklog_answers.specs.declared.layout.Lines.TheVariants.{All, Matched, Unmatched}
+use Rattle.groklog_answers.specs.declared.layout.Failure.{Failure}
+use Rattle.groklog_answers.specs.declared.layout.Failure.TheVariants.{NoMatch, NotUtf8}
 use Rattle.groklog_answers.specs.declared.layout.OutputFormat.{OutputFormat}
 use Rattle.groklog_answers.specs.declared.layout.OutputFormat.TheVariants.{Json, Pairs}
 use Rattle.groklog_answers.proofs.NumbersHoldNoLineFeed.{number_is_line}
@@ -122,28 +123,28 @@ match_lines_up : (format : OutputFormat) (layout : LayoutValue) (found : MatchTe
 match_lines_up Json layout found n line is = inr (object_text (match_members layout found n line), object_line _ (match_is_flat layout found n line), refl)
 match_lines_up Pairs layout found n line is = cc
 
-unmatched_lines_up : (format : OutputFormat) (layout : LayoutValue) (n : ℕ) (line : List ℕ) → format ≡ Json → IsLineOrNone (unmatched_text format layout n line)
-unmatched_lines_up Json layout n line is = inr (object_text (unmatched_members layout n line), object_line _ (unmatched_is_flat layout n line), refl)
-unmatched_lines_up Pairs layout n line is = cc
+unmatched_lines_up : (format : OutputFormat) (layout : LayoutValue) (n : ℕ) (why : Failure) (line : List ℕ) → format ≡ Json → IsLineOrNone (unmatched_text format layout n why line)
+unmatched_lines_up Json layout n why line is = inr (object_text (unmatched_members layout n why line), object_line _ (unmatched_is_flat layout n why line), refl)
+unmatched_lines_up Pairs layout n why line is = cc
 
 by_match : (lines : Lines) (layout : LayoutValue) (found : MatchText) (n : ℕ) (line : List ℕ) → layout.format ≡ Json → IsLineOrNone (match_answer lines layout found n line)
 by_match All layout found n line is = match_lines_up layout.format layout found n line is
 by_match Matched layout found n line is = match_lines_up layout.format layout found n line is
 by_match Unmatched layout found n line is = inl refl
 
-without_match : (lines : Lines) (layout : LayoutValue) (n : ℕ) (line : List ℕ) → layout.format ≡ Json → IsLineOrNone (unmatched_answer lines layout n line)
-without_match All layout n line is = unmatched_lines_up layout.format layout n line is
-without_match Matched layout n line is = inl refl
-without_match Unmatched layout n line is = unmatched_lines_up layout.format layout n line is
+without_match : (lines : Lines) (layout : LayoutValue) (n : ℕ) (why : Failure) (line : List ℕ) → layout.format ≡ Json → IsLineOrNone (unmatched_answer lines layout n why line)
+without_match All layout n why line is = unmatched_lines_up layout.format layout n why line is
+without_match Matched layout n why line is = inl refl
+without_match Unmatched layout n why line is = unmatched_lines_up layout.format layout n why line is
 
 by_any : (layout : LayoutValue) (found : Option MatchText) (n : ℕ) (line : List ℕ) → layout.format ≡ Json → IsLineOrNone (answer_by layout found n line)
-by_any layout None n line is = without_match layout.lines layout n line is
+by_any layout None n line is = without_match layout.lines layout n NoMatch line is
 by_any layout (Some found) n line is = by_match layout.lines layout found n line is
 
 either_way : (b : Bool) (layout : LayoutValue) (found : Option MatchText) (n : ℕ) (line lossy : List ℕ) → layout.format ≡ Json
-    → IsLineOrNone (if b then answer_by layout found n line else unmatched_answer layout.lines layout n lossy)
+    → IsLineOrNone (if b then answer_by layout found n line else unmatched_answer layout.lines layout n NotUtf8 lossy)
 either_way true layout found n line lossy is = by_any layout found n line is
-either_way false layout found n line lossy is = without_match layout.lines layout n lossy is
+either_way false layout found n line lossy is = without_match layout.lines layout n NotUtf8 lossy is
 
 pub objects_are_lines : ObjectsAreLines
 objects_are_lines layout patterns n line is = either_way (is_utf8 line) layout (first_match patterns line) n line (utf8_lossy line) is

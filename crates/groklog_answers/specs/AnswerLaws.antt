@@ -1,16 +1,17 @@
 -- THE LAWS of the answers.
-use Rattle.std.specs.Prelude.{◌≡◌, ◌≢◌, ◌⊎◌, ℕ, ◌+◌, List, [], ◌∷◌, ◌++◌, Option, Some, None, length, codes}
+use Rattle.std.specs.Prelude.{◌≡◌, ◌≢◌, ◌⊎◌, ℕ, ◌+◌, List, [], ◌∷◌, ◌++◌, Some, None, length, codes}
 use Rattle.std.specs.List.{AllByRecursion}
 use Rattle.json.specs.Json.{document, object}
 use Rattle.grok_lines.specs.Lines.{IsLine}
 use Rattle.grok_lines.specs.Streams.{answers_of}
 use Rattle.groklog_answers.specs.Layouts.{LayoutValue}
 use Rattle.groklog_answers.specs.Patterns.{PatternText, MatchText, match_of, first_match}
-use Rattle.groklog_answers.specs.Objects.{KeyValues, members_of, match_members, unmatched_members, object_text}
+use Rattle.groklog_answers.specs.Objects.{members_of, match_members, unmatched_members, object_text}
 use Rattle.groklog_answers.specs.LogAnswers.{log_answer, log_answers_from}
 use Rattle.groklog_answers.specs.declared.layout.Lines.{Lines}
 use Rattle.groklog_answers.specs.declared.layout.Lines.TheVariants.{All, Matched, Unmatched}
 use Rattle.groklog_answers.specs.declared.layout.OutputFormat.TheVariants.{Json}
+use Rattle.groklog_answers.specs.declared.layout.Failure.{Failure}
 
 -- ---- which pattern answers
 
@@ -40,7 +41,11 @@ with_lines lines layout = record {
   keep = layout.keep;
   tag = layout.tag;
   number = layout.number;
+  file = layout.file;
+  file_name = layout.file_name;
+  failed = layout.failed;
   typed = layout.typed;
+  drops_empty = layout.drops_empty;
 }
 
 -- With `All` each line has an answer, which isn't empty.
@@ -87,8 +92,9 @@ MatchesReadBack = (layout : LayoutValue) (found : MatchText) (n : ℕ) (line : L
 -- If the object that is written for a line that no pattern matches is read as JSON, it has the
 -- members that were written, in the same order.
 abbrev pub UnmatchedLinesReadBack : Type 0
-UnmatchedLinesReadBack = (layout : LayoutValue) (n : ℕ) (line : List ℕ)
-    → document (object_text (unmatched_members layout n line)) ≡ Some (object (members_of (unmatched_members layout n line)))
+UnmatchedLinesReadBack = (layout : LayoutValue) (n : ℕ) (why : Failure) (line : List ℕ)
+    → document (object_text (unmatched_members layout n why line))
+    ≡ Some (object (members_of (unmatched_members layout n why line)))
 
 -- A JSON answer is empty or one line, whatever the values hold.
 abbrev pub ObjectsAreLines : Type 0

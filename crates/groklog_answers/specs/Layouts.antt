@@ -1,8 +1,11 @@
 -- Which lines are answered, and how an answer is written.
-use Rattle.std.specs.Prelude.{ℕ, List, Bool, Option, option_map}
+use Rattle.std.specs.Prelude.{ℕ, List, Bool, true, false, ◌&&◌, Option, option_map, is_some, codes}
 use Rattle.groklog_answers.specs.declared.layout.Lines.{Lines}
+use Rattle.groklog_answers.specs.declared.layout.Lines.TheVariants.{All, Matched, Unmatched}
 use Rattle.groklog_answers.specs.declared.layout.OutputFormat.{OutputFormat}
 use Rattle.groklog_answers.specs.declared.layout.Layout.{Layout}
+use Rattle.groklog_answers.specs.declared.layout.Failure.{Failure}
+use Rattle.groklog_answers.specs.declared.layout.Failure.TheVariants.{NoMatch, NotUtf8}
 
 -- What contracts see of a `Layout`.
 pub record LayoutValue : Type 0 where
@@ -14,7 +17,14 @@ pub record LayoutValue : Type 0 where
   pub tag : Option (List ℕ)
   -- the key under which the number of the line is written, or `None` if it isn't written
   pub number : Option (List ℕ)
+  -- the key under which the name of the line's file is written, or `None` if it isn't written
+  pub file : Option (List ℕ)
+  pub file_name : List ℕ
+  -- the key under which is written why a line has no fields, or `None` if it isn't written
+  pub failed : Option (List ℕ)
   pub typed : Bool
+  -- whether fields with an empty value are left out
+  pub drops_empty : Bool
 
 -- What contracts see of a layout.
 abbrev pub layout_value : Layout → LayoutValue
@@ -24,5 +34,39 @@ layout_value layout = record {
   keep = option_map (λ name. name.now) layout.keep;
   tag = option_map (λ name. name.now) layout.tag;
   number = option_map (λ name. name.now) layout.number;
+  file = option_map (λ name. name.now) layout.file;
+  file_name = layout.file_name.now;
+  failed = option_map (λ name. name.now) layout.failed;
   typed = layout.typed;
+  drops_empty = layout.drops_empty;
 }
+
+-- Whether lines that have no fields are answered.
+abbrev pub answers_unmatched : Lines → Bool
+answers_unmatched All = true
+answers_unmatched Matched = false
+answers_unmatched Unmatched = true
+
+-- The layout for the lines of the file with this name.
+abbrev pub in_file : List ℕ → LayoutValue → LayoutValue
+in_file name layout = record {
+  lines = layout.lines;
+  format = layout.format;
+  keep = layout.keep;
+  tag = layout.tag;
+  number = layout.number;
+  file = layout.file;
+  file_name = name;
+  failed = layout.failed;
+  typed = layout.typed;
+  drops_empty = layout.drops_empty;
+}
+
+-- Whether the answer to a line that has no fields has the line itself in it.
+abbrev pub keeps_unmatched : LayoutValue → Bool
+keeps_unmatched layout = answers_unmatched layout.lines && is_some layout.keep
+
+-- The words that are written for the reason why a line has no fields.
+abbrev pub failure_words : Failure → List ℕ
+failure_words NoMatch = codes "no match"
+failure_words NotUtf8 = codes "not UTF-8"

@@ -1,5 +1,5 @@
 -- The JSON object of a line.
-use Rattle.std.specs.Prelude.{ℕ, List, [], ◌∷◌, ◌++◌, Bool, Option, Some, None, if◌then◌else◌, map}
+use Rattle.std.specs.Prelude.{ℕ, ◌==◌, List, [], ◌∷◌, ◌++◌, Bool, ◌&&◌, Option, Some, None, if◌then◌else◌, flat_map, length}
 use Rattle.std.specs.FinMap as finite
 use Rattle.grok.specs.Maps.{Texts}
 use Rattle.grok.specs.Numeral.{numeral}
@@ -8,8 +8,9 @@ use Rattle.json.specs.Json.{Json, string, number, object, Members, no_members, m
 use Rattle.json.specs.Tree.{json_tokens}
 use Rattle.json.specs.Print.{print}
 use Rattle.groklog_answers.specs.Values.{json_value}
-use Rattle.groklog_answers.specs.Layouts.{LayoutValue}
+use Rattle.groklog_answers.specs.Layouts.{LayoutValue, failure_words}
 use Rattle.groklog_answers.specs.Patterns.{MatchText}
+use Rattle.groklog_answers.specs.declared.layout.Failure.{Failure}
 
 -- The members of an object: keys with their values.
 abbrev pub KeyValues : Type 0
@@ -37,17 +38,28 @@ abbrev pub number_member : Option (List ℕ) → ℕ → KeyValues
 number_member None n = []
 number_member (Some name) n = (name, number (numeral n)) ∷ []
 
--- The members of a match in the n-th line: the number of the line, the tag, the pairs in their
--- order, and the line itself.
+-- The member for a pair of a match. There is none if its value is empty and `drops_empty` is true.
+abbrev pub field_members : LayoutValue → Texts → List ℕ × List ℕ → KeyValues
+field_members layout extracts pair =
+    if layout.drops_empty && (length pair.1 == 0) then [] else typed_pair layout.typed extracts pair ∷ []
+
+-- The members that say which line the n-th one is: its number, and the name of its file.
+abbrev pub place_members : LayoutValue → ℕ → KeyValues
+place_members layout n = number_member layout.number n ++ optional_member layout.file layout.file_name
+
+-- The members of a match in the n-th line: which line it is, the tag, the pairs in their order, and
+-- the line itself.
 abbrev pub match_members : LayoutValue → MatchText → ℕ → List ℕ → KeyValues
 match_members layout found n line =
-    number_member layout.number n
+    place_members layout n
     ++ (optional_member layout.tag found.tag
-    ++ (map (typed_pair layout.typed found.extracts) found.pairs ++ optional_member layout.keep line))
+    ++ (flat_map (field_members layout found.extracts) found.pairs ++ optional_member layout.keep line))
 
--- The members for the n-th line if no pattern matches it: its number, and the line itself.
-abbrev pub unmatched_members : LayoutValue → ℕ → List ℕ → KeyValues
-unmatched_members layout n line = number_member layout.number n ++ optional_member layout.keep line
+-- The members for the n-th line if it has no fields: which line it is, why it has none, and the line
+-- itself.
+abbrev pub unmatched_members : LayoutValue → ℕ → Failure → List ℕ → KeyValues
+unmatched_members layout n why line =
+    place_members layout n ++ (optional_member layout.failed (failure_words why) ++ optional_member layout.keep line)
 
 -- The same members, as the kit's `json` has them.
 abbrev pub members_of : KeyValues → Members

@@ -1,9 +1,10 @@
 -- The `KEY=VALUE` lines for a line of a log.
-use Rattle.std.specs.Prelude.{ℕ, List, [], ◌++◌, Option, Some, None, codes, flat_map}
+use Rattle.std.specs.Prelude.{ℕ, ◌==◌, List, [], ◌++◌, ◌&&◌, Option, Some, None, if◌then◌else◌, codes, flat_map, length}
 use Rattle.grok.specs.Numeral.{numeral}
 use Rattle.grok_lines.specs.Pairs.{pair_line}
-use Rattle.groklog_answers.specs.Layouts.{LayoutValue}
+use Rattle.groklog_answers.specs.Layouts.{LayoutValue, failure_words}
 use Rattle.groklog_answers.specs.Patterns.{MatchText}
+use Rattle.groklog_answers.specs.declared.layout.Failure.{Failure}
 
 -- The `KEY=VALUE` line with this key and the value `text`, such as the tag or the line of the log
 -- itself. If the key is `None`, it is the empty text.
@@ -11,16 +12,26 @@ abbrev pub optional_line : Option (List ℕ) → List ℕ → List ℕ
 optional_line None text = []
 optional_line (Some name) text = pair_line (name, text)
 
--- What is written for a match in the n-th line: the number of the line, the tag, the pairs, the line
+-- The `KEY=VALUE` line for a pair of a match. It is the empty text if the value is empty and
+-- `drops_empty` is true.
+abbrev pub field_line : LayoutValue → List ℕ × List ℕ → List ℕ
+field_line layout pair = if layout.drops_empty && (length pair.1 == 0) then [] else pair_line pair
+
+-- The lines that say which line the n-th one is: its number, and the name of its file.
+abbrev pub place_lines : LayoutValue → ℕ → List ℕ
+place_lines layout n = optional_line layout.number (numeral n) ++ optional_line layout.file layout.file_name
+
+-- What is written for a match in the n-th line: which line it is, the tag, the pairs, the line
 -- itself, and an empty line.
 abbrev pub match_lines : LayoutValue → MatchText → ℕ → List ℕ → List ℕ
 match_lines layout found n line =
-    optional_line layout.number (numeral n)
+    place_lines layout n
     ++ (optional_line layout.tag found.tag
-    ++ (flat_map pair_line found.pairs ++ (optional_line layout.keep line ++ codes "\n")))
+    ++ (flat_map (field_line layout) found.pairs ++ (optional_line layout.keep line ++ codes "\n")))
 
--- What is written for the n-th line if no pattern matches it: its number, the line itself, and an
--- empty line.
-abbrev pub unmatched_lines : LayoutValue → ℕ → List ℕ → List ℕ
-unmatched_lines layout n line =
-    optional_line layout.number (numeral n) ++ (optional_line layout.keep line ++ codes "\n")
+-- What is written for the n-th line if it has no fields: which line it is, why it has none, the line
+-- itself, and an empty line.
+abbrev pub unmatched_lines : LayoutValue → ℕ → Failure → List ℕ → List ℕ
+unmatched_lines layout n why line =
+    place_lines layout n
+    ++ (optional_line layout.failed (failure_words why) ++ (optional_line layout.keep line ++ codes "\n"))

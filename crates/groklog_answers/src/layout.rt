@@ -1,4 +1,6 @@
 //! Which lines are answered, and how an answer is written.
+ghost use Rattle.std.specs.Prelude.{◌≡◌};
+ghost use Rattle.groklog_answers.specs.Layouts.{failure_words};
 
 /// Which lines are answered.
 #[derive(Clone, Copy)]
@@ -33,7 +35,37 @@ pub struct Layout<'a> {
     /// The key under which the number of the line is written, or `None` if it isn't written.
     /// `LogAnswers` counts the lines from 1.
     pub number: Option<&'a str>,
+    /// The key under which the name of the file is written that the line comes from, or `None` if it
+    /// isn't written.
+    pub file: Option<&'a str>,
+    /// The name of that file.
+    pub file_name: &'a str,
+    /// The key under which is written why a line has no fields, or `None` if it isn't written.
+    pub failed: Option<&'a str>,
     /// Whether a value is written as a JSON number if the extract of its key is `int` and the value
     /// is an integer, or if the extract is `float` and the value is any number.
     pub typed: bool,
+    /// Whether fields with an empty value are left out.
+    pub drops_empty: bool,
+}
+
+/// Why a line has no fields.
+#[derive(Clone, Copy)]
+pub enum Failure {
+    /// No pattern matches it.
+    NoMatch,
+    /// It isn't UTF-8.
+    NotUtf8,
+}
+
+impl Failure {
+    /// Returns the words that are written for this reason.
+    pub fn words(self) -> &'static str
+        ensures { result.now ≡ failure_words self }
+    {
+        match self {
+            Failure::NoMatch => "no match",
+            Failure::NotUtf8 => "not UTF-8",
+        }
+    }
 }

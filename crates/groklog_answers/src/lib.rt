@@ -18,5 +18,5 @@ mod object;
 mod pairs;
 mod values;
 
-pub use layout::{Layout, Lines, OutputFormat};
+pub use layout::{Failure, Layout, Lines, OutputFormat};
 pub use log_answers::{LogAnswers, NamedPattern};

@@ -1,12 +1,13 @@
 //! Answers each line with the match of the first pattern that matches it.
-ghost use Rattle.std.specs.Prelude.{◌≡◌, ◌+◌, ◌<◌, ◌++◌, IsErr, OnOk, IfOk, map, true, false};
+ghost use Rattle.std.specs.Prelude.{◌≡◌, ◌+◌, ◌<◌, [], ◌++◌, if◌then◌else◌, IsErr, OnOk, IfOk, map, true, false, string_bytes};
+ghost use Rattle.std.specs.Str.Lossy.{utf8_lossy};
 ghost use Rattle.std.specs.Option.{is_some};
-ghost use Rattle.groklog_answers.specs.Layouts.{layout_value};
+ghost use Rattle.groklog_answers.specs.Layouts.{layout_value, in_file, keeps_unmatched};
 ghost use Rattle.groklog_answers.specs.Patterns.{match_of, first_match};
 ghost use Rattle.groklog_answers.specs.LogAnswers.{match_answer, unmatched_answer, answer_by};
 ghost use Rattle.groklog_answers.specs.Views.{pattern_text, match_text_of, searched, patterns_of, layout_of, next_number_of};
 
-use crate::layout::{Layout, Lines, OutputFormat};
+use crate::layout::{Failure, Layout, Lines, OutputFormat};
 use crate::object::{write_match, write_unmatched};
 use crate::pairs::{append_match, append_unmatched};
 use grok::{Matcher, MatchesRef, Pattern};
@@ -58,6 +59,8 @@ pub struct LogAnswers<'p> {
     answer: Vec<u8>,
     /// The number of the next line. The first line has the number 1.
     next_number: u64,
+    /// Whether a pattern has matched a line.
+    has_matched: bool,
 }
 
 /// Returns `number + 1`.
@@ -78,24 +81,49 @@ fn number_after(number: u64) -> Result<u64, AllocError>
 }
 
 impl Layout<'_> {
-    /// Appends the answer to a line that no pattern matches. If only matched lines are answered,
-    /// appends nothing.
+    /// Returns whether the answer to a line that has no fields has the line itself in it.
+    fn keeps_unmatched(self) -> bool
+        ensures { result ≡ keeps_unmatched (layout_value self.entry) }
+    {
+        match self.lines {
+            Lines::Matched => false,
+            Lines::All | Lines::Unmatched => self.keep.is_some(),
+        }
+    }
+
+    /// Returns the text of a line that isn't UTF-8, with U+FFFD for each wrong part. If the answer
+    /// hasn't the line in it, returns the empty text: a large file that isn't text takes little time
+    /// then.
+    fn kept_text(self, alloc: Global, line: &[u8]) -> Result<String, AllocError>
+        ensures { IfOk result (λ kept. string_bytes kept ≡ (if keeps_unmatched (layout_value self.entry)
+            then utf8_lossy line.now else [])) }
+    {
+        if self.keeps_unmatched() {
+            String::from_utf8_lossy(alloc, line)
+        } else {
+            Ok(String::new(alloc))
+        }
+    }
+
+    /// Appends the answer to a line that has no fields, for the reason `why`. If only matched lines
+    /// are answered, appends nothing.
     fn append_unmatched(
         self,
         alloc: Global,
         answer: &mut Vec<u8>,
+        why: Failure,
         line: NumberedLine<'_>,
     ) -> Result<(), AllocError>
         ensures { OnOk result (answer.new.items ≡ answer.old.items
             ++ unmatched_answer self.entry.lines (layout_value self.entry)
-            line.entry.number line.entry.text.now) }
+            line.entry.number why line.entry.text.now) }
     {
         match (self.lines, self.format) {
             (Lines::Matched, _) => Ok(()),
-            (_, OutputFormat::Pairs) => append_unmatched(answer, self, line),
+            (_, OutputFormat::Pairs) => append_unmatched(answer, self, why, line),
             (_, OutputFormat::Json) => {
                 let text = mem::replace(answer, Vec::new(alloc));
-                *answer = write_unmatched(text, self, line)?;
+                *answer = write_unmatched(text, self, why, line)?;
                 Ok(answer.push(b'\n')?)
             }
         }
@@ -213,7 +241,24 @@ impl<'p> LogAnswers<'p> {
             searches,
             answer: Vec::new(alloc),
             next_number: 1,
+            has_matched: false,
         })
+    }
+
+    /// Says that the next lines are those of the file with this name.
+    pub fn begin_file(&mut self, name: &'p str)
+        ensures patterns { patterns_of self.new ≡ patterns_of self.old }
+        ensures layout { layout_of self.new ≡ in_file name.now (layout_of self.old) }
+        ensures number { next_number_of self.new ≡ next_number_of self.old }
+    {
+        self.layout.file_name = name;
+    }
+
+    /// Returns whether a pattern has matched a line.
+    pub fn has_matched(&self) -> bool
+        ensures { result ≡ self.now.has_matched }
+    {
+        self.has_matched
     }
 }
 
@@ -242,10 +287,11 @@ impl LineAnswers for LogAnswers<'_> {
             line,
         )?;
         if !is_match {
-            layout.append_unmatched(alloc, &mut self.answer, line)?;
+            layout.append_unmatched(alloc, &mut self.answer, Failure::NoMatch, line)?;
         }
         text.extend_from_slice(&self.answer)?;
         self.next_number = next_number;
+        self.has_matched = self.has_matched || is_match;
         Ok(())
     }
 
@@ -254,14 +300,16 @@ impl LineAnswers for LogAnswers<'_> {
     #[tactic(auto, using(crate::proofs::LinesAreNumbered::counts_on))]
     fn answer_broken(&mut self, text: &mut Vec<u8>, line: &[u8]) -> Result<(), AllocError> {
         let next_number = number_after(self.next_number)?;
-        let lossy = String::from_utf8_lossy(self.alloc, line)?;
+        let kept = self.layout.kept_text(self.alloc, line)?;
         let line = NumberedLine {
             number: self.next_number,
-            text: &lossy,
+            text: kept.as_str(),
         };
-        let mut answer = Vec::new(self.alloc);
-        self.layout.append_unmatched(self.alloc, &mut answer, line)?;
-        text.extend_from_slice(&answer)?;
+        let (alloc, layout) = (self.alloc, self.layout);
+        let answer = &mut self.answer;
+        answer.clear();
+        layout.append_unmatched(alloc, answer, Failure::NotUtf8, line)?;
+        text.extend_from_slice(answer)?;
         self.next_number = next_number;
         Ok(())
     }

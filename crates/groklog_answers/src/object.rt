@@ -1,15 +1,15 @@
 //! Writes the JSON object of a line.
-ghost use Rattle.std.specs.Prelude.{◌≡◌, ◌++◌, OnOk, IfOk, option_map, flat_map, map};
+ghost use Rattle.std.specs.Prelude.{◌≡◌, ◌++◌, OnOk, IfOk, option_map, flat_map};
 ghost use Rattle.grok.specs.Answers.{walk};
 ghost use Rattle.json.specs.Json.{Json};
 ghost use Rattle.json.specs.Tree.{json_tokens};
 ghost use Rattle.grok.specs.Numeral.{numeral};
 ghost use Rattle.grok.specs.BorrowedMatches.{borrowed_keys, borrowed_captures};
 ghost use Rattle.groklog_answers.specs.Layouts.{layout_value};
-ghost use Rattle.groklog_answers.specs.Objects.{member_tokens, typed_pair, optional_member, number_member, match_members, unmatched_members, object_text};
+ghost use Rattle.groklog_answers.specs.Objects.{member_tokens, field_members, optional_member, number_member, place_members, match_members, unmatched_members, object_text};
 ghost use Rattle.groklog_answers.specs.Views.{match_text_of};
 
-use crate::layout::Layout;
+use crate::layout::{Failure, Layout};
 use crate::log_answers::{NamedPattern, NumberedLine};
 use crate::values::write_value;
 use grok::{MatchesRef, Pattern};
@@ -54,21 +54,24 @@ fn write_number(writer: &mut Writer, name: Option<&str>, number: u64) -> Result<
     write_decimal(writer, number)
 }
 
-/// Writes a pair of a match. If `typed` is set, the extract of the key decides whether the value is
-/// written as a number.
+/// Writes a pair of a match. If the layout is typed, the extract of the key decides whether the value
+/// is written as a number. If the layout drops fields with an empty value, writes nothing for one.
 fn write_pair(
     writer: &mut Writer,
-    typed: bool,
+    layout: Layout<'_>,
     pattern: &Pattern,
     key: &str,
     value: &str,
 ) -> Result<(), AllocError>
-    ensures member { OnOk result (writer.new.tokens ≡ writer.old.tokens
-        ++ member_tokens (typed_pair typed pattern.now.extracts (key.now, value.now))) }
+    ensures member { OnOk result (writer.new.tokens ≡ writer.old.tokens ++ flat_map member_tokens
+        (field_members (layout_value layout.entry) pattern.now.extracts (key.now, value.now))) }
     ensures before { writer.new.before ≡ writer.old.before }
 {
+    if layout.drops_empty && value.is_empty() {
+        return Ok(());
+    }
     writer.key(key)?;
-    let extract = if typed {
+    let extract = if layout.typed {
         pattern.get_extract(key)
     } else {
         None
@@ -77,21 +80,33 @@ fn write_pair(
 }
 
 /// Writes the pairs of a match.
+#[tactic(auto, using(crate::proofs::TokensOfMembers::tokens_append))]
 fn write_pairs(
     writer: &mut Writer,
-    typed: bool,
+    layout: Layout<'_>,
     pattern: &Pattern,
     matches: MatchesRef<'_>,
 ) -> Result<(), AllocError>
     ensures members { OnOk result (writer.new.tokens ≡ writer.old.tokens
-        ++ flat_map member_tokens (map (typed_pair typed pattern.now.extracts)
+        ++ flat_map member_tokens (flat_map (field_members (layout_value layout.entry) pattern.now.extracts)
         (walk (borrowed_keys matches.entry) (borrowed_captures matches.entry)))) }
     ensures before { writer.new.before ≡ writer.old.before }
 {
     'pairs: for (key, value) in matches.iter() {
-        write_pair(writer, typed, pattern, key, value)?;
+        write_pair(writer, layout, pattern, key, value)?;
     }
     Ok(())
+}
+
+/// Writes which line it is: its number and the name of its file, as far as the layout asks for them.
+#[tactic(auto, using(crate::proofs::TokensOfMembers::tokens_append))]
+fn write_place(writer: &mut Writer, layout: Layout<'_>, number: u64) -> Result<(), AllocError>
+    ensures members { OnOk result (writer.new.tokens ≡ writer.old.tokens
+        ++ flat_map member_tokens (place_members (layout_value layout.entry) number)) }
+    ensures before { writer.new.before ≡ writer.old.before }
+{
+    write_number(writer, layout.number, number)?;
+    write_optional(writer, layout.file, layout.file_name)
 }
 
 /// Appends the compact JSON object of a match in this line, and returns the whole text.
@@ -109,27 +124,29 @@ pub fn write_match(
 {
     let mut writer = Writer::new(text);
     writer.begin_object()?;
-    write_number(&mut writer, layout.number, line.number)?;
+    write_place(&mut writer, layout, line.number)?;
     write_optional(&mut writer, layout.tag, named.tag)?;
-    write_pairs(&mut writer, layout.typed, named.pattern, matches)?;
+    write_pairs(&mut writer, layout, named.pattern, matches)?;
     write_optional(&mut writer, layout.keep, line.text)?;
     writer.end_object()?;
     Ok(writer.into_inner())
 }
 
-/// Appends the JSON object of a line that no pattern matches, and returns the whole text.
-#[tactic(auto, using(crate::proofs::TokensOfMembers::object_in_two_parts))]
+/// Appends the JSON object of a line that has no fields, and returns the whole text.
+#[tactic(auto, using(crate::proofs::TokensOfMembers::object_in_three_parts))]
 pub fn write_unmatched(
     text: Vec<u8>,
     layout: Layout<'_>,
+    why: Failure,
     line: NumberedLine<'_>,
 ) -> Result<Vec<u8>, AllocError>
     ensures { IfOk result (λ written. written.items ≡ text.items ++ object_text (unmatched_members
-        (layout_value layout.entry) line.entry.number line.entry.text.now)) }
+        (layout_value layout.entry) line.entry.number why line.entry.text.now)) }
 {
     let mut writer = Writer::new(text);
     writer.begin_object()?;
-    write_number(&mut writer, layout.number, line.number)?;
+    write_place(&mut writer, layout, line.number)?;
+    write_optional(&mut writer, layout.failed, why.words())?;
     write_optional(&mut writer, layout.keep, line.text)?;
     writer.end_object()?;
     Ok(writer.into_inner())
