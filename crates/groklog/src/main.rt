@@ -9,6 +9,7 @@ mod diagnosis;
 mod excerpt;
 mod expansion;
 mod explain;
+mod hints;
 mod library;
 mod notes;
 mod options;

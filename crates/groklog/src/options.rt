@@ -3,7 +3,7 @@
 use clap::error::ErrorKind;
 use clap::{Arg, ArgAction, ArgMatches, Command, Error};
 use groklog_answers::Lines;
-use groklog_input::{Fault, Report};
+use groklog_input::{Fault, LineForm, Report};
 use std::alloc::{AllocError, Global};
 
 /// The description of the program in its help.
@@ -43,10 +43,16 @@ pub struct Options<'a> {
     /// The words after `-D`.
     pub definitions: Vec<&'a str>,
     pub lines: Lines,
+    /// How the lines of the logs are read.
+    pub form: LineForm,
     pub keep: Option<&'a str>,
     pub tag: Option<&'a str>,
     pub number: Option<&'a str>,
+    pub file: Option<&'a str>,
+    pub failed: Option<&'a str>,
     pub are_pairs: bool,
+    /// Whether fields with an empty value are left out.
+    pub drops_empty: bool,
     pub is_typed: bool,
     /// Whether placeholders without an alias capture too.
     pub is_all: bool,
@@ -63,12 +69,21 @@ pub struct KeyOption<'a> {
 
 impl<'a> Options<'a> {
     /// Returns the options that name keys, in the order in which an answer has these keys.
-    pub fn key_options(&self) -> [KeyOption<'a>; 3] {
-        let (number, tag, keep) = (self.number, self.tag, self.keep);
+    pub fn key_options(&self) -> [KeyOption<'a>; 5] {
+        let (number, file, failed) = (self.number, self.file, self.failed);
+        let (tag, keep) = (self.tag, self.keep);
         [
             KeyOption {
                 option: "--number",
                 key: number,
+            },
+            KeyOption {
+                option: "--file",
+                key: file,
+            },
+            KeyOption {
+                option: "--failed",
+                key: failed,
             },
             KeyOption {
                 option: "--tag",
@@ -166,14 +181,24 @@ fn with_sources<'a>(alloc: Global, command: Command<'a>) -> Result<Command<'a>, 
         ))
 }
 
-/// Adds the options that choose what is written.
-fn with_output<'a>(alloc: Global, command: Command<'a>) -> Result<Command<'a>, AllocError> {
+/// Adds the options that say how lines are read.
+fn with_form<'a>(alloc: Global, command: Command<'a>) -> Result<Command<'a>, AllocError> {
     command
         .arg(flag(
             alloc,
-            "all",
-            "Also write placeholders without an alias, under their name",
+            "crlf",
+            "Take one carriage return off the end of each line",
         ))?
+        .arg(flag(
+            alloc,
+            "lossy",
+            "Read bytes that aren't UTF-8 as U+FFFD, so that their line can match",
+        ))
+}
+
+/// Adds the options that name keys.
+fn with_keys<'a>(alloc: Global, command: Command<'a>) -> Result<Command<'a>, AllocError> {
+    command
         .arg(with_value(
             alloc,
             "keep",
@@ -192,6 +217,28 @@ fn with_output<'a>(alloc: Global, command: Command<'a>) -> Result<Command<'a>, A
             "KEY",
             "Also write the number of the line, under this key",
         ))?
+        .arg(with_value(
+            alloc,
+            "file",
+            "KEY",
+            "Also write the name of the line's file, under this key",
+        ))?
+        .arg(with_value(
+            alloc,
+            "failed",
+            "KEY",
+            "Also write why a line has no fields, under this key",
+        ))
+}
+
+/// Adds the options that choose what else is written.
+fn with_output<'a>(alloc: Global, command: Command<'a>) -> Result<Command<'a>, AllocError> {
+    command
+        .arg(flag(
+            alloc,
+            "all",
+            "Also write placeholders without an alias, under their name",
+        ))?
         .arg(flag(alloc, "matched", "Only lines that match").conflicts_with("unmatched")?)?
         .arg(flag(alloc, "unmatched", "Only lines that don't match"))?
         .arg(flag(
@@ -199,6 +246,7 @@ fn with_output<'a>(alloc: Global, command: Command<'a>) -> Result<Command<'a>, A
             "typed",
             "Write values with the extract int or float as numbers",
         ))?
+        .arg(flag(alloc, "no-empty", "Leave out fields whose value is empty"))?
         .arg(flag(alloc, "pairs", "Write lines KEY=VALUE in place of JSON"))?
         .arg(flag(
             alloc,
@@ -215,6 +263,8 @@ fn describe<'a>(alloc: Global) -> Result<Command<'a>, AllocError> {
         .override_usage(USAGE)
         .after_help(EXAMPLES);
     let command = with_sources(alloc, command)?;
+    let command = with_form(alloc, command)?;
+    let command = with_keys(alloc, command)?;
     with_output(alloc, command)
 }
 
@@ -294,32 +344,32 @@ pub fn read_options<'a>(alloc: Global, words: &'a [String]) -> Result<Options<'a
         list,
         has_common: !is_set(&matches, "no-common"),
         lines: chosen_lines(&matches),
+        form: LineForm {
+            drops_return: is_set(&matches, "crlf"),
+            is_lossy: is_set(&matches, "lossy"),
+        },
         keep: matches.get_str("keep"),
         tag: matches.get_str("tag"),
         number: matches.get_str("number"),
+        file: matches.get_str("file"),
+        failed: matches.get_str("failed"),
         are_pairs: is_set(&matches, "pairs"),
         is_typed: is_set(&matches, "typed"),
+        drops_empty: is_set(&matches, "no-empty"),
         is_all: is_set(&matches, "all"),
         is_explained: is_set(&matches, "explain"),
         is_from_logstash: is_set(&matches, "from-logstash"),
     })
 }
 
-/// Returns a fault if these two options name the same key, and otherwise `None`.
-fn same_key(
-    alloc: Global,
-    one: KeyOption<'_>,
-    other: KeyOption<'_>,
-) -> Result<Option<Fault>, AllocError> {
-    match (one.key, other.key) {
-        (Some(key), Some(other_key)) if key == other_key => {
-            let (one, other) = (one.option, other.option);
-            let what = format!(in alloc; "{one} and {other} have the same key {key}")?;
-            let advice = "name another key after one of them";
-            Ok(Some(Fault::Usage(Report::new(alloc, what.as_str(), advice)?)))
+/// Returns the option among these that names `key`, or `None` if none of them does.
+fn option_of_key(options: &[KeyOption<'_>], key: &str) -> Option<&'static str> {
+    for named in options {
+        if named.key.is_some_and(|other| other == key) {
+            return Some(named.option);
         }
-        _ => Ok(None),
     }
+    None
 }
 
 /// Returns a fault if two options name the same key, and otherwise `None`.
@@ -328,10 +378,15 @@ fn same_key(
 ///
 /// If an allocation fails.
 pub fn repeated_key(alloc: Global, options: &Options<'_>) -> Result<Option<Fault>, AllocError> {
-    let [number, tag, keep] = options.key_options();
-    for (one, other) in &[(number, tag), (number, keep), (tag, keep)] {
-        if let Some(fault) = same_key(alloc, *one, *other)? {
-            return Ok(Some(fault));
+    let all = options.key_options();
+    for (i, named) in all.iter().enumerate() {
+        let earlier = all.get(..i).unwrap_or(&[]);
+        if let Some(key) = named.key
+            && let Some(other) = option_of_key(earlier, key)
+        {
+            let what = format!(in alloc; "{other} and {} have the same key {key}", named.option)?;
+            let advice = "name another key after one of them";
+            return Ok(Some(Fault::Usage(Report::new(alloc, what.as_str(), advice)?)));
         }
     }
     Ok(None)

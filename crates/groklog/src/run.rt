@@ -4,6 +4,7 @@ use crate::common::list_common_definitions;
 use crate::compiled::{compile_all, taken_key};
 use crate::definition_files::read_definition_files;
 use crate::explain::explain;
+use crate::hints::Hints;
 use crate::library::Library;
 use crate::notes::{notes_of_pattern, notes_of_words};
 use crate::options::{Options, repeated_key};
@@ -12,7 +13,7 @@ use crate::terminal::shows_progress;
 use grok::Pattern;
 use groklog_answers::{Layout, LogAnswers, NamedPattern, OutputFormat};
 use groklog_input::{
-    Answered, Fault, Report, Watched, answer_input, file_fault, visible, write_fault,
+    Answered, Fault, FormedAnswers, Report, Watched, answer_input, file_fault, visible, write_fault,
 };
 use std::alloc::{AllocError, Global};
 use std::fs::File;
@@ -27,13 +28,21 @@ pub enum Outcome {
     SomeUnread,
 }
 
+/// The files that are read if none is named: standard input.
+const STANDARD_INPUT: &[&str] = &["-"];
+
+/// Writes a note to standard error.
+fn show_note(rt: &HostRuntime, note: &str) {
+    // The run goes on if a note can't be written, or if there is no memory to show it.
+    if let Ok(note) = visible(rt.alloc(), note) {
+        let _ = eprintln!(rt; "groklog: {note}");
+    }
+}
+
 /// Writes these notes to standard error.
 fn show_notes(rt: &HostRuntime, notes: &[String]) {
     for note in notes {
-        // The run goes on if a note can't be written, or if there is no memory to show it.
-        if let Ok(note) = visible(rt.alloc(), note.as_str()) {
-            let _ = eprintln!(rt; "groklog: {note}");
-        }
+        show_note(rt, note.as_str());
     }
 }
 
@@ -78,7 +87,11 @@ fn layout_of<'a>(options: &Options<'a>) -> Layout<'a> {
         keep: options.keep,
         tag: options.tag,
         number: options.number,
+        file: options.file,
+        file_name: "",
+        failed: options.failed,
         typed: options.is_typed,
+        drops_empty: options.drops_empty,
     }
 }
 
@@ -111,19 +124,26 @@ fn watch<'a>(rt: &'a HostRuntime, file: File, name: &'a str, shows: bool) -> Wat
     }
 }
 
+/// Returns what messages call the file `name`.
+fn shown_name(name: &str) -> &str {
+    if name == "-" { "standard input" } else { name }
+}
+
 /// Answers each line of a file, and shows the progress if `shows` is set. The name `-` means
 /// standard input, which has no progress.
-fn answer_file(
+fn answer_file<'p>(
     rt: &HostRuntime,
-    answers: &mut LogAnswers<'_>,
-    name: &str,
+    answers: &mut FormedAnswers<LogAnswers<'p>>,
+    name: &'p str,
     shows: bool,
 ) -> Result<Answered, Fault> {
     let alloc = rt.alloc();
     let mut output = io::writer(rt);
+    answers.begin_input();
+    answers.answers.begin_file(name);
     if name == "-" {
         let mut input = Watched::new(rt.stdin());
-        return answer_input(alloc, answers, &mut input, &mut output, "standard input");
+        return answer_input(alloc, answers, &mut input, &mut output, shown_name(name));
     }
     match File::open(rt, name) {
         Ok(file) => {
@@ -135,21 +155,22 @@ fn answer_file(
     }
 }
 
-/// Answers each line of each file, or of standard input if there is none. Reports each file that
-/// can't be read, and goes on with the next one.
-fn answer_files(
+/// Answers each line of each file, and shows the hints at its lines. Reports each file that can't be
+/// read, and goes on with the next one.
+fn answer_files<'p>(
     rt: &HostRuntime,
-    answers: &mut LogAnswers<'_>,
-    files: &[&str],
+    answers: &mut FormedAnswers<LogAnswers<'p>>,
+    files: &[&'p str],
 ) -> Result<Outcome, Fault> {
-    if files.is_empty() {
-        answer_file(rt, answers, "-", false)?;
-        return Ok(Outcome::AllRead);
-    }
     let shows = shows_progress(rt);
+    let mut hints = Hints::new(answers.form);
     let mut outcome = Outcome::AllRead;
     for file in files {
-        match answer_file(rt, answers, file, shows) {
+        let answered = answer_file(rt, answers, file, shows);
+        if let Some(hint) = hints.of_input(rt.alloc(), shown_name(file), answers.signs)? {
+            show_note(rt, hint.as_str());
+        }
+        match answered {
             Ok(Answered::All) => {}
             Ok(Answered::Enough) => break,
             Err(Fault::Read(report)) => {
@@ -159,6 +180,9 @@ fn answer_files(
             }
             Err(fault) => return Err(fault),
         }
+    }
+    if let Some(hint) = hints.at_end(answers.answers.has_matched()) {
+        show_note(rt, hint);
     }
     Ok(outcome)
 }
@@ -229,6 +253,12 @@ pub fn run(rt: &HostRuntime, options: &Options<'_>) -> Result<Outcome, Fault> {
         return Ok(Outcome::AllRead);
     }
     let named = with_texts(alloc, &options.patterns, &patterns)?;
-    let mut answers = LogAnswers::new(alloc, &named, layout_of(options))?;
-    answer_files(rt, &mut answers, &options.files)
+    let answers = LogAnswers::new(alloc, &named, layout_of(options))?;
+    let mut answers = FormedAnswers::new(alloc, answers, options.form);
+    let files = if options.files.is_empty() {
+        STANDARD_INPUT
+    } else {
+        options.files.as_slice()
+    };
+    answer_files(rt, &mut answers, files)
 }

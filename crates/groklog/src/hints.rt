@@ -1,0 +1,67 @@
+//! Hints at what an input is, for a user whose lines have no fields. They are shown after its lines
+//! were answered.
+
+use groklog_input::{Encoding, LineForm, Signs};
+use std::alloc::{AllocError, Global};
+
+/// Finds the hints of a run. Each hint comes once, but that at a compressed file or at UTF-16 comes
+/// once for each such input.
+#[derive(Drop)]
+pub struct Hints {
+    form: LineForm,
+    /// Whether there was the hint at lines that aren't UTF-8.
+    was_broken: bool,
+    /// Whether the first line of an input ended in a carriage return.
+    has_return: bool,
+}
+
+impl Hints {
+    /// Makes the `Hints` of a run that reads lines in this form.
+    pub fn new(form: LineForm) -> Hints {
+        Hints {
+            form,
+            was_broken: false,
+            has_return: false,
+        }
+    }
+
+    /// Returns the hint at the input `name`, whose lines showed these signs, or `None` if there is
+    /// none.
+    ///
+    /// # Errors
+    ///
+    /// If an allocation fails.
+    pub fn of_input(
+        &mut self,
+        alloc: Global,
+        name: &str,
+        signs: Signs,
+    ) -> Result<Option<String>, AllocError> {
+        self.has_return = self.has_return || signs.has_return;
+        match (signs.encoding, signs.first_broken) {
+            (Encoding::Gzip, _) => Ok(Some(format!(in alloc;
+                "{name} looks like a file of gzip: use zcat FILE | groklog .."
+            )?)),
+            (Encoding::Utf16, _) => Ok(Some(format!(in alloc;
+                "{name} looks like UTF-16: use iconv -f UTF-16 -t UTF-8 FILE | groklog .."
+            )?)),
+            (Encoding::Other, Some(number)) if !self.form.is_lossy && !self.was_broken => {
+                self.was_broken = true;
+                Ok(Some(format!(in alloc;
+                    "line {number} of {name} isn't UTF-8, so it has no fields: use --lossy, or for another encoding iconv -f LATIN1 -t UTF-8 FILE | groklog .."
+                )?))
+            }
+            (Encoding::Other, _) => Ok(None),
+        }
+    }
+
+    /// Returns the hint at the end of a run, or `None` if there is none. `has_matched` says whether a
+    /// pattern matched a line.
+    pub fn at_end(&self, has_matched: bool) -> Option<&'static str> {
+        if self.has_return && !self.form.drops_return && !has_matched {
+            Some("no line matches, and lines end in a carriage return: use --crlf")
+        } else {
+            None
+        }
+    }
+}
