@@ -365,7 +365,9 @@ pub fn read_options<'a>(alloc: Global, words: &'a [String]) -> Result<Options<'a
 /// Returns the option among these that names `key`, or `None` if none of them does.
 fn option_of_key(options: &[KeyOption<'_>], key: &str) -> Option<&'static str> {
     for named in options {
-        if named.key.is_some_and(|other| other == key) {
+        if let Some(other) = named.key
+            && other == key
+        {
             return Some(named.option);
         }
     }

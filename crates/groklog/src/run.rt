@@ -155,14 +155,14 @@ fn answer_file<'p>(
     }
 }
 
-/// Answers each line of each file, and shows the hints at its lines. Reports each file that can't be
-/// read, and goes on with the next one.
+/// Answers each line of each file, and shows the hints at its lines, and its progress if `shows` is
+/// set. Reports each file that can't be read, and goes on with the next one.
 fn answer_files<'p>(
     rt: &HostRuntime,
     answers: &mut FormedAnswers<LogAnswers<'p>>,
     files: &[&'p str],
+    shows: bool,
 ) -> Result<Outcome, Fault> {
-    let shows = shows_progress(rt);
     let mut hints = Hints::new(answers.form);
     let mut outcome = Outcome::AllRead;
     for file in files {
@@ -255,10 +255,8 @@ pub fn run(rt: &HostRuntime, options: &Options<'_>) -> Result<Outcome, Fault> {
     let named = with_texts(alloc, &options.patterns, &patterns)?;
     let answers = LogAnswers::new(alloc, &named, layout_of(options))?;
     let mut answers = FormedAnswers::new(alloc, answers, options.form);
-    let files = if options.files.is_empty() {
-        STANDARD_INPUT
-    } else {
-        options.files.as_slice()
-    };
-    answer_files(rt, &mut answers, files)
+    if options.files.is_empty() {
+        return answer_files(rt, &mut answers, STANDARD_INPUT, false);
+    }
+    answer_files(rt, &mut answers, &options.files, shows_progress(rt))
 }
