@@ -27,14 +27,17 @@ pub enum Outcome {
     SomeUnread,
 }
 
-/// Writes these notes to standard error.
-fn show_notes(rt: &HostRuntime, notes: &[String]) {
+/// Writes these notes to standard error. The run goes on if that fails.
+///
+/// # Errors
+///
+/// If an allocation fails.
+fn show_notes(rt: &HostRuntime, notes: &[String]) -> Result<(), AllocError> {
     for note in notes {
-        // The run goes on if a note can't be written, or if there is no memory to show it.
-        if let Ok(note) = visible(rt.alloc(), note.as_str()) {
-            let _ = eprintln!(rt; "groklog: {note}");
-        }
+        let note = visible(rt.alloc(), note.as_str())?;
+        let _ = eprintln!(rt; "groklog: {note}");
     }
+    Ok(())
 }
 
 /// Returns a note for each key of a pattern that has an extract which `--typed` doesn't know.
@@ -203,7 +206,7 @@ pub fn run(rt: &HostRuntime, options: &Options<'_>) -> Result<Outcome, Fault> {
         write_output(rt, lines.as_str())?;
         return Ok(Outcome::AllRead);
     }
-    show_notes(rt, &notes_of_words(rt, options)?);
+    show_notes(rt, &notes_of_words(rt, options)?)?;
     let files = read_definition_files(rt, &options.definition_files)?;
     let mut library = Library::new(
         alloc,
@@ -213,16 +216,16 @@ pub fn run(rt: &HostRuntime, options: &Options<'_>) -> Result<Outcome, Fault> {
         options.is_from_logstash,
     )?;
     let texts = adapt_patterns(alloc, &mut library, &options.patterns)?;
-    show_notes(rt, &library.changes);
+    show_notes(rt, &library.changes)?;
     let patterns = compile_all(alloc, &library, &texts, !options.is_all)?;
     check_keys(alloc, options, &patterns)?;
     if options.is_typed {
         for pattern in &patterns {
-            show_notes(rt, &notes_of_extracts(alloc, pattern)?);
+            show_notes(rt, &notes_of_extracts(alloc, pattern)?)?;
         }
     }
     for (text, pattern) in texts.iter().zip(&patterns) {
-        show_notes(rt, &notes_of_pattern(alloc, &library, text, pattern)?);
+        show_notes(rt, &notes_of_pattern(alloc, &library, text, pattern)?)?;
     }
     if options.is_explained {
         explain_all(rt, &library, &texts, &patterns, !options.is_all)?;
