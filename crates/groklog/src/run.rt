@@ -31,19 +31,27 @@ pub enum Outcome {
 /// The files that are read if none is named: standard input.
 const STANDARD_INPUT: &[&str] = &["-"];
 
-/// Writes a note to standard error.
-fn show_note(rt: &HostRuntime, note: &str) {
-    // The run goes on if a note can't be written, or if there is no memory to show it.
-    if let Ok(note) = visible(rt.alloc(), note) {
-        let _ = eprintln!(rt; "groklog: {note}");
-    }
+/// Writes a note to standard error. The run goes on if that fails.
+///
+/// # Errors
+///
+/// If an allocation fails.
+fn show_note(rt: &HostRuntime, note: &str) -> Result<(), AllocError> {
+    let note = visible(rt.alloc(), note)?;
+    let _ = eprintln!(rt; "groklog: {note}");
+    Ok(())
 }
 
 /// Writes these notes to standard error.
-fn show_notes(rt: &HostRuntime, notes: &[String]) {
+///
+/// # Errors
+///
+/// If an allocation fails.
+fn show_notes(rt: &HostRuntime, notes: &[String]) -> Result<(), AllocError> {
     for note in notes {
-        show_note(rt, note.as_str());
+        show_note(rt, note.as_str())?;
     }
+    Ok(())
 }
 
 /// Returns a note for each key of a pattern that has an extract which `--typed` doesn't know.
@@ -168,7 +176,7 @@ fn answer_files<'p>(
     for file in files {
         let answered = answer_file(rt, answers, file, shows);
         if let Some(hint) = hints.of_input(rt.alloc(), shown_name(file), answers.signs)? {
-            show_note(rt, hint.as_str());
+            show_note(rt, hint.as_str())?;
         }
         match answered {
             Ok(Answered::All) => {}
@@ -182,7 +190,7 @@ fn answer_files<'p>(
         }
     }
     if let Some(hint) = hints.at_end(answers.answers.has_matched()) {
-        show_note(rt, hint);
+        show_note(rt, hint)?;
     }
     Ok(outcome)
 }
@@ -227,7 +235,7 @@ pub fn run(rt: &HostRuntime, options: &Options<'_>) -> Result<Outcome, Fault> {
         write_output(rt, lines.as_str())?;
         return Ok(Outcome::AllRead);
     }
-    show_notes(rt, &notes_of_words(rt, options)?);
+    show_notes(rt, &notes_of_words(rt, options)?)?;
     let files = read_definition_files(rt, &options.definition_files)?;
     let mut library = Library::new(
         alloc,
@@ -237,16 +245,16 @@ pub fn run(rt: &HostRuntime, options: &Options<'_>) -> Result<Outcome, Fault> {
         options.is_from_logstash,
     )?;
     let texts = adapt_patterns(alloc, &mut library, &options.patterns)?;
-    show_notes(rt, &library.changes);
+    show_notes(rt, &library.changes)?;
     let patterns = compile_all(alloc, &library, &texts, !options.is_all)?;
     check_keys(alloc, options, &patterns)?;
     if options.is_typed {
         for pattern in &patterns {
-            show_notes(rt, &notes_of_extracts(alloc, pattern)?);
+            show_notes(rt, &notes_of_extracts(alloc, pattern)?)?;
         }
     }
     for (text, pattern) in texts.iter().zip(&patterns) {
-        show_notes(rt, &notes_of_pattern(alloc, &library, text, pattern)?);
+        show_notes(rt, &notes_of_pattern(alloc, &library, text, pattern)?)?;
     }
     if options.is_explained {
         explain_all(rt, &library, &texts, &patterns, !options.is_all)?;
