@@ -14,7 +14,11 @@ mod notes;
 mod options;
 mod pattern_text;
 mod run;
+mod stop_report;
+mod stops;
+mod summary;
 mod terminal;
+mod why;
 
 use crate::run::Outcome;
 use groklog_input::{Fault, Report};

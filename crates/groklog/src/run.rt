@@ -8,9 +8,13 @@ use crate::library::Library;
 use crate::notes::{notes_of_pattern, notes_of_words};
 use crate::options::{Options, repeated_key};
 use crate::pattern_text::{PatternText, adapt_patterns};
+use crate::stop_report::Explainer;
+use crate::summary::summary_of;
 use crate::terminal::shows_progress;
+use crate::why::Why;
 use grok::Pattern;
-use groklog_answers::{Layout, LogAnswers, NamedPattern, OutputFormat};
+use grok_lines::LineAnswers;
+use groklog_answers::{Layout, Lines, LogAnswers, NamedPattern, OutputFormat};
 use groklog_input::{
     Answered, Fault, Report, Watched, answer_input, file_fault, visible, write_fault,
 };
@@ -69,7 +73,12 @@ fn with_texts<'p>(
 /// Returns the layout that the options ask for.
 fn layout_of<'a>(options: &Options<'a>) -> Layout<'a> {
     Layout {
-        lines: options.lines,
+        lines: if options.why.is_some() {
+            // No answer is written, so the shortest one will do.
+            Lines::Unmatched
+        } else {
+            options.lines
+        },
         format: if options.are_pairs {
             OutputFormat::Pairs
         } else {
@@ -113,9 +122,9 @@ fn watch<'a>(rt: &'a HostRuntime, file: File, name: &'a str, shows: bool) -> Wat
 
 /// Answers each line of a file, and shows the progress if `shows` is set. The name `-` means
 /// standard input, which has no progress.
-fn answer_file(
+fn answer_file<A: LineAnswers>(
     rt: &HostRuntime,
-    answers: &mut LogAnswers<'_>,
+    answers: &mut A,
     name: &str,
     shows: bool,
 ) -> Result<Answered, Fault> {
@@ -137,9 +146,9 @@ fn answer_file(
 
 /// Answers each line of each file, or of standard input if there is none. Reports each file that
 /// can't be read, and goes on with the next one.
-fn answer_files(
+fn answer_files<A: LineAnswers>(
     rt: &HostRuntime,
-    answers: &mut LogAnswers<'_>,
+    answers: &mut A,
     files: &[&str],
 ) -> Result<Outcome, Fault> {
     if files.is_empty() {
@@ -161,6 +170,27 @@ fn answer_files(
         }
     }
     Ok(outcome)
+}
+
+/// Explains the first `most` lines that don't match, and writes how many more there are.
+fn explain_lines(
+    rt: &HostRuntime,
+    answers: &mut LogAnswers<'_>,
+    explainer: Explainer<'_>,
+    most: u64,
+    files: &[&str],
+) -> Result<Outcome, Fault> {
+    let mut why = Why::new(rt, answers, explainer, most);
+    let answered = answer_files(rt, &mut why, files);
+    if let Some(error) = &why.failure {
+        return match write_fault(rt.alloc(), error)? {
+            Some(fault) => Err(fault),
+            None => Ok(Outcome::AllRead),
+        };
+    }
+    let rest = why.rest(rt.alloc())?;
+    write_output(rt, rest.as_str())?;
+    answered
 }
 
 /// Writes a text to standard output.
@@ -230,5 +260,17 @@ pub fn run(rt: &HostRuntime, options: &Options<'_>) -> Result<Outcome, Fault> {
     }
     let named = with_texts(alloc, &options.patterns, &patterns)?;
     let mut answers = LogAnswers::new(alloc, &named, layout_of(options))?;
-    answer_files(rt, &mut answers, &options.files)
+    let outcome = match options.why {
+        Some(most) => {
+            let explainer = Explainer::new(alloc, &library, &texts, &patterns, !options.is_all)?;
+            explain_lines(rt, &mut answers, explainer, most, &options.files)?
+        }
+        None => answer_files(rt, &mut answers, &options.files)?,
+    };
+    if options.has_summary {
+        let line = summary_of(alloc, &answers)?;
+        // The run goes on if the line can't be written.
+        let _ = eprintln!(rt; "groklog: {line}");
+    }
+    Ok(outcome)
 }
