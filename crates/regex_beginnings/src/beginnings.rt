@@ -1,7 +1,12 @@
-//! The beginnings of a regular expression, each compiled at most once.
+//! The beginnings of a regular expression.
+ghost use Rattle.std.specs.Prelude.{◌≡◌, IfOk, MatchOption, ⊤, true, false, string_bytes};
+ghost use Rattle.regex.specs.Strings.{regex_source};
+ghost use Rattle.regex_beginnings.specs.Pieces.{beginning_text, text_upto};
+ghost use Rattle.regex_beginnings.specs.Finds.{IsRefused, IsDecided, FindsNothingIn, IsFirstMatchIn};
+ghost use Rattle.regex_beginnings.specs.Beginnings.{pieces_of, IsLongestIn};
 
+use crate::compiled::{Compiled, Found, compile};
 use crate::pieces::{Group, Piece, Pieces, cut};
-use regex::{Error, Regex};
 use std::alloc::{AllocError, Global};
 use std::collections::BTreeMap;
 
@@ -13,51 +18,21 @@ pub struct Beginnings<'a> {
     alloc: Global,
     pieces: Vec<Piece<'a>>,
     groups: Vec<Group>,
-    /// The beginnings that were needed so far, by their number of pieces. `None` is one that `regex`
-    /// refuses.
-    compiled: BTreeMap<usize, Option<Regex>>,
+    /// The beginnings that were needed so far, by their number of pieces.
+    compiled: BTreeMap<usize, Compiled>,
 }
 
-/// What a beginning finds in a line: the first match.
-#[derive(Drop)]
-pub struct Found {
-    /// The byte position in the line where the match ends.
-    pub end: usize,
-    /// The byte range of each group that took part, from group 0 on, which is the whole match.
-    pub groups: Vec<Option<(usize, usize)>>,
-}
-
-/// Compiles a text. Returns `None` if `regex` refuses it.
-fn compile(alloc: Global, text: &str) -> Result<Option<Regex>, AllocError> {
-    match Regex::new(alloc, text) {
-        Ok(regex) => Ok(Some(regex)),
-        // own error: `regex` reported that an allocation failed.
-        Err(Error::OutOfMemory) => Err(AllocError),
-        Err(_) => Ok(None),
+impl Piece<'_> {
+    /// Returns the text up to the end of this piece, with a `)` for each group that is still open
+    /// there.
+    fn closed_text(&self, alloc: Global) -> Result<String, AllocError>
+        ensures { IfOk result (λ text. string_bytes text ≡ text_upto self.now) }
+    {
+        let mut text = String::from_str(alloc, self.upto)?;
+        let brackets = ")".repeat(alloc, self.depth)?;
+        text.push_str(brackets.as_str())?;
+        Ok(text)
     }
-}
-
-/// Returns what a regex finds in a line.
-fn find_in(alloc: Global, regex: &Regex, line: &str) -> Result<Option<Found>, AllocError> {
-    let mut matcher = regex.matcher(alloc)?;
-    let mut locations = regex.capture_locations(alloc)?;
-    let Some(whole) = matcher.captures_read(&mut locations, line) else {
-        return Ok(None);
-    };
-    let mut groups = Vec::new(alloc);
-    for number in 0..locations.len() {
-        groups.push(locations.get(number))?;
-    }
-    Ok(Some(Found {
-        end: whole.end(),
-        groups,
-    }))
-}
-
-/// Returns whether a regex finds something in a line.
-fn is_found(alloc: Global, regex: &Regex, line: &str) -> Result<bool, AllocError> {
-    let mut matcher = regex.matcher(alloc)?;
-    Ok(matcher.is_match(line))
 }
 
 impl<'a> Beginnings<'a> {
@@ -77,7 +52,9 @@ impl<'a> Beginnings<'a> {
     }
 
     /// Returns the pieces, in their order.
-    pub fn pieces(&self) -> &[Piece<'a>] {
+    pub fn pieces(&self) -> &[Piece<'a>]
+        ensures { result.now ≡ pieces_of self.now }
+    {
         self.pieces.as_slice()
     }
 
@@ -87,45 +64,45 @@ impl<'a> Beginnings<'a> {
     }
 
     /// Returns the text of the beginning of `count` pieces.
-    fn text_of(&self, count: usize) -> Result<String, AllocError> {
-        let mut text = String::new(self.alloc);
-        if let Some(last) = count.checked_sub(1)
-            && let Some(piece) = self.pieces.as_slice().get(last)
-        {
-            text.push_str(piece.upto)?;
-            for _ in 0..piece.depth {
-                text.push(')')?;
-            }
+    fn text_of(&self, count: usize) -> Result<String, AllocError>
+        ensures { IfOk result (λ text. string_bytes text ≡ beginning_text (pieces_of self.now) count) }
+    {
+        if count == 0 {
+            return Ok(String::new(self.alloc));
         }
-        Ok(text)
+        match self.pieces.as_slice().get(count - 1) {
+            Some(piece) => piece.closed_text(self.alloc),
+            None => Ok(String::new(self.alloc)),
+        }
     }
 
-    /// Compiles the beginning of `count` pieces, unless it was compiled before.
-    fn prepare(&mut self, count: usize) -> Result<(), AllocError> {
-        if self.compiled.get(&count).is_none() {
-            let text = self.text_of(count)?;
-            let regex = compile(self.alloc, text.as_str())?;
-            self.compiled.insert(count, regex)?;
-        }
-        Ok(())
-    }
-
-    /// Returns the compiled beginning of `count` pieces, or `None` if `regex` refuses it.
-    fn beginning(&mut self, count: usize) -> Result<Option<&Regex>, AllocError> {
-        self.prepare(count)?;
+    /// Returns the compiled beginning with this text, which has `count` pieces, if it was compiled
+    /// before.
+    fn known(&self, count: usize, text: &str) -> Option<&Compiled>
+        ensures { MatchOption result ⊤ (λ known. regex_source known.now.regex ≡ text.now) }
+    {
         match self.compiled.get(&count) {
-            Some(Some(regex)) => Ok(Some(regex)),
-            _ => Ok(None),
+            Some(known) if known.regex.as_str() == text => Some(known),
+            _ => None,
         }
     }
 
     /// Returns whether the beginning of `count` pieces finds something in the line.
-    fn finds(&mut self, count: usize, line: &str) -> Result<bool, AllocError> {
-        let alloc = self.alloc;
-        match self.beginning(count)? {
-            Some(regex) => is_found(alloc, regex, line),
-            None => Ok(false),
+    fn finds(&mut self, count: usize, line: &str) -> Result<bool, AllocError>
+        ensures found { IfOk result (λ finds. finds ≡ true → IsDecided (beginning_text (pieces_of self.old) count) line.now true) }
+        ensures nothing { IfOk result (λ finds. finds ≡ false → FindsNothingIn (beginning_text (pieces_of self.old) count) line.now) }
+        ensures same { pieces_of self.new ≡ pieces_of self.old }
+    {
+        let text = self.text_of(count)?;
+        if let Some(known) = self.known(count, text.as_str()) {
+            return known.is_found(self.alloc, line);
         }
+        let Some(compiled) = compile(self.alloc, text.as_str())? else {
+            return Ok(false);
+        };
+        let finds = compiled.is_found(self.alloc, line)?;
+        self.compiled.insert(count, compiled)?;
+        Ok(finds)
     }
 
     /// Returns the first match of the beginning of `count` pieces in the line, or `None` if it finds
@@ -134,10 +111,15 @@ impl<'a> Beginnings<'a> {
     /// # Errors
     ///
     /// If an allocation fails.
-    pub fn find(&mut self, count: usize, line: &str) -> Result<Option<Found>, AllocError> {
-        let alloc = self.alloc;
-        match self.beginning(count)? {
-            Some(regex) => find_in(alloc, regex, line),
+    pub fn find(&self, count: usize, line: &str) -> Result<Option<Found>, AllocError>
+        ensures { IfOk result (IsFirstMatchIn (beginning_text (pieces_of self.now) count) line.now) }
+    {
+        let text = self.text_of(count)?;
+        if let Some(known) = self.known(count, text.as_str()) {
+            return known.find(self.alloc, line);
+        }
+        match compile(self.alloc, text.as_str())? {
+            Some(compiled) => compiled.find(self.alloc, line),
             None => Ok(None),
         }
     }
@@ -148,21 +130,20 @@ impl<'a> Beginnings<'a> {
     /// # Errors
     ///
     /// If an allocation fails.
-    pub fn longest(&mut self, line: &str) -> Result<usize, AllocError> {
-        let mut found = 0usize;
-        let mut not_found = self.pieces.len().saturating_add(1);
-        // Each step halves what is between the two.
-        for _ in 0..usize::BITS {
-            let middle = found.midpoint(not_found);
-            if middle == found {
-                break;
-            }
+    pub fn longest(&mut self, line: &str) -> Result<usize, AllocError>
+        ensures longest { IfOk result (IsLongestIn line.now (pieces_of self.old)) }
+        ensures same { pieces_of self.new ≡ pieces_of self.old }
+    {
+        let mut count = 0;
+        let mut too_many = self.pieces.len() + 1;
+        'halves: while too_many - count > 1 {
+            let middle = count + (too_many - count) / 2;
             if self.finds(middle, line)? {
-                found = middle;
+                count = middle;
             } else {
-                not_found = middle;
+                too_many = middle;
             }
         }
-        Ok(found)
+        Ok(count)
     }
 }

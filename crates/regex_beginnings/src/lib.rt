@@ -13,8 +13,10 @@
 #![tactic(auto)]
 
 mod beginnings;
+mod compiled;
 mod pieces;
 mod scan;
 
-pub use beginnings::{Beginnings, Found};
+pub use beginnings::Beginnings;
+pub use compiled::Found;
 pub use pieces::{Group, Piece};
