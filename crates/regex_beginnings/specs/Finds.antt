@@ -31,6 +31,11 @@ FindsIn text line = IsDecided text line true
 abbrev pub FindsNothingIn : List ℕ → List ℕ → Type 0
 FindsNothingIn text line = IsRefused text ⊎ IsDecided text line false
 
+-- Whether the text finds something in the line: it does if the answer is true, and doesn't if it is false.
+abbrev pub IsAnswer : List ℕ → List ℕ → Bool → Type 0
+IsAnswer text line true = FindsIn text line
+IsAnswer text line false = FindsNothingIn text line
+
 -- The first match of the regex in the line is `found`: where it ends, and the span of each group. It is `None` if there is
 -- no match.
 abbrev pub IsMatchOf : Regex → List ℕ → Option Found → Type 0

@@ -1,6 +1,6 @@
 -- The texts of the beginnings of a regular expression.
 use Rattle.std.specs.Prelude.{ℕ, ◌-◌, ◌==◌, List, [], ◌++◌, Option, Some, None, if◌then◌else◌, codes, slice_get}
-use Rattle.core.specs.List.{repeat}
+use Rattle.std.specs.List.{repeat}
 use Rattle.regex_beginnings.specs.declared.pieces.Piece.{Piece}
 
 -- The text up to the end of a piece, with a `)` for each group that is still open there.

@@ -1,8 +1,8 @@
 //! The beginnings of a regular expression.
-ghost use Rattle.std.specs.Prelude.{◌≡◌, IfOk, MatchOption, ⊤, true, false, string_bytes};
+ghost use Rattle.std.specs.Prelude.{◌≡◌, IfOk, MatchOption, ⊤, string_bytes};
 ghost use Rattle.regex.specs.Strings.{regex_source};
 ghost use Rattle.regex_beginnings.specs.Pieces.{beginning_text, text_upto};
-ghost use Rattle.regex_beginnings.specs.Finds.{IsRefused, IsDecided, FindsNothingIn, IsFirstMatchIn};
+ghost use Rattle.regex_beginnings.specs.Finds.{IsAnswer, IsFirstMatchIn};
 ghost use Rattle.regex_beginnings.specs.Beginnings.{pieces_of, IsLongestIn};
 
 use crate::compiled::{Compiled, Found, compile};
@@ -89,13 +89,12 @@ impl<'a> Beginnings<'a> {
 
     /// Returns whether the beginning of `count` pieces finds something in the line.
     fn finds(&mut self, count: usize, line: &str) -> Result<bool, AllocError>
-        ensures found { IfOk result (λ finds. finds ≡ true → IsDecided (beginning_text (pieces_of self.old) count) line.now true) }
-        ensures nothing { IfOk result (λ finds. finds ≡ false → FindsNothingIn (beginning_text (pieces_of self.old) count) line.now) }
+        ensures answer { IfOk result (IsAnswer (beginning_text (pieces_of self.old) count) line.now) }
         ensures same { pieces_of self.new ≡ pieces_of self.old }
     {
         let text = self.text_of(count)?;
         if let Some(known) = self.known(count, text.as_str()) {
-            return known.is_found(self.alloc, line);
+            return Ok(known.is_found(self.alloc, line)?);
         }
         let Some(compiled) = compile(self.alloc, text.as_str())? else {
             return Ok(false);
@@ -116,10 +115,10 @@ impl<'a> Beginnings<'a> {
     {
         let text = self.text_of(count)?;
         if let Some(known) = self.known(count, text.as_str()) {
-            return known.find(self.alloc, line);
+            return Ok(known.find(self.alloc, line)?);
         }
         match compile(self.alloc, text.as_str())? {
-            Some(compiled) => compiled.find(self.alloc, line),
+            Some(compiled) => Ok(compiled.find(self.alloc, line)?),
             None => Ok(None),
         }
     }

@@ -6,12 +6,12 @@ use Rattle.regex_beginnings.proofs.beginnings.Beginnings.longest.Given as goal
 
 abbrev pub invariant-halves : goal.invariant-halves
 invariant-halves l = record {
-  same : pieces_of l.self.now ≡ pieces_of l.fn.self.now;
-  finds : (l.count ≡ 0) ⊎ FindsIn (beginning_text (pieces_of l.fn.self.now) l.count) l.fn.line.now;
-  next : (l.too_many ≡ length (pieces_of l.fn.self.now) + 1)
-    ⊎ FindsNothingIn (beginning_text (pieces_of l.fn.self.now) l.too_many) l.fn.line.now;
+  same : pieces_of l.self ≡ pieces_of l.fn.self;
+  finds : (l.count ≡ 0) ⊎ FindsIn (beginning_text (pieces_of l.fn.self) l.count) l.fn.line;
+  next : (l.too_many ≡ length (pieces_of l.fn.self) + 1)
+    ⊎ FindsNothingIn (beginning_text (pieces_of l.fn.self) l.too_many) l.fn.line;
   order : l.count < l.too_many;
-  most : l.too_many ≤ length (pieces_of l.fn.self.now) + 1;
+  most : l.too_many ≤ length (pieces_of l.fn.self) + 1;
 }
 
 abbrev pub decreases-halves : goal.decreases-halves
