@@ -85,12 +85,12 @@ fn push_fields(
     open: &[Group],
 ) -> Result<(), AllocError> {
     let mut lead = "  found so far: ";
-    for (number, range) in found.groups.iter().enumerate() {
-        if let (Some((start, end)), Some(key)) = (range, searched.key(number))
+    for number in 0..found.locations.len() {
+        if let (Some((start, end)), Some(key)) = (found.locations.get(number), searched.key(number))
             && !open.iter().any(|group| group.number == Some(number))
         {
             let key = visible(alloc, key)?;
-            let value = shown(alloc, line.get(*start..*end).unwrap_or(""))?;
+            let value = shown(alloc, line.get(start..end).unwrap_or(""))?;
             let field = format!(in alloc; "{lead}{key}={value}")?;
             report.push_str(field.as_str())?;
             lead = " ";
@@ -152,7 +152,7 @@ impl<'p> Explainer<'p> {
         let Some(stop) = furthest_stop(self.all.as_mut_slice(), line)? else {
             return Ok(report);
         };
-        let Some(searched) = self.all.as_mut_slice().get_mut(stop.pattern) else {
+        let Some(searched) = self.all.as_slice().get(stop.pattern) else {
             return Ok(report);
         };
         report.push_str(searched.text.words.as_str())?;
@@ -169,7 +169,7 @@ fn push_stop(
     alloc: Global,
     library: &Library<'_>,
     report: &mut String,
-    searched: &mut Searched<'_>,
+    searched: &Searched<'_>,
     (line, stop): (&str, &Stop),
 ) -> Result<(), AllocError> {
     let groups = searched.groups_around(alloc, stop.count)?;

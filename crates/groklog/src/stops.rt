@@ -137,7 +137,7 @@ impl<'p> Searched<'p> {
     /// # Errors
     ///
     /// If an allocation fails.
-    pub fn find(&mut self, count: usize, line: &str) -> Result<Option<Found>, AllocError> {
+    pub fn find(&self, count: usize, line: &str) -> Result<Option<Found>, AllocError> {
         if count == 0 {
             return Ok(None);
         }
