@@ -34,11 +34,13 @@ fn shown(alloc: Global, text: &str) -> Result<String, AllocError> {
     Ok(shown)
 }
 
-/// Returns words for a piece: its text, and whether it is a group.
+/// Returns words for a piece: its text without the blanks around it, and whether it is a group.
 fn piece_words(alloc: Global, text: &str, range: &Range<usize>) -> Result<String, AllocError> {
-    let piece = text.get(range.start..range.end).unwrap_or("");
+    let piece = text.get(range.start..range.end).unwrap_or("").trim();
     let text = shown(alloc, piece)?;
-    if piece.starts_with('(') {
+    if piece.is_empty() {
+        String::from_str(alloc, "a blank")
+    } else if piece.starts_with('(') {
         format!(in alloc; "the group {text}")
     } else {
         Ok(text)

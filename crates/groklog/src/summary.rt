@@ -25,5 +25,6 @@ pub fn summary_of(alloc: Global, answers: &LogAnswers<'_>) -> Result<String, All
         };
         parts.push_str(part.as_str())?;
     }
-    format!(in alloc; "{lines} lines, {parts}{unmatched} not matched, {broken} not UTF-8")
+    let word = if lines == 1 { "line" } else { "lines" };
+    format!(in alloc; "{lines} {word}, {parts}{unmatched} not matched, {broken} not UTF-8")
 }
