@@ -172,25 +172,47 @@ fn answer_files<A: LineAnswers>(
     Ok(outcome)
 }
 
-/// Explains the first `most` lines that don't match, and writes how many more there are.
-fn explain_lines(
+/// Reports the counts of the lines on standard error.
+fn show_summary(rt: &HostRuntime, answers: &LogAnswers<'_>) -> Result<(), AllocError> {
+    let line = summary_of(rt.alloc(), answers)?;
+    // The run goes on if the line can't be written.
+    let _ = eprintln!(rt; "groklog: {line}");
+    Ok(())
+}
+
+/// Answers the lines, and reports their counts if that is wanted.
+fn run_answers(
     rt: &HostRuntime,
-    answers: &mut LogAnswers<'_>,
-    explainer: Explainer<'_>,
-    most: u64,
-    files: &[&str],
+    options: &Options<'_>,
+    mut answers: LogAnswers<'_>,
 ) -> Result<Outcome, Fault> {
-    let mut why = Why::new(rt, answers, explainer, most);
-    let answered = answer_files(rt, &mut why, files);
+    let outcome = answer_files(rt, &mut answers, &options.files)?;
+    if options.has_summary {
+        show_summary(rt, &answers)?;
+    }
+    Ok(outcome)
+}
+
+/// Explains lines that don't match, and reports the counts of the lines if that is wanted.
+fn run_why(
+    rt: &HostRuntime,
+    options: &Options<'_>,
+    mut why: Why<'_, '_, '_>,
+) -> Result<Outcome, Fault> {
+    let answered = answer_files(rt, &mut why, &options.files);
     if let Some(error) = &why.failure {
         return match write_fault(rt.alloc(), error)? {
             Some(fault) => Err(fault),
             None => Ok(Outcome::AllRead),
         };
     }
+    let outcome = answered?;
     let rest = why.rest(rt.alloc())?;
     write_output(rt, rest.as_str())?;
-    answered
+    if options.has_summary {
+        show_summary(rt, &why.answers)?;
+    }
+    Ok(outcome)
 }
 
 /// Writes a text to standard output.
@@ -259,18 +281,10 @@ pub fn run(rt: &HostRuntime, options: &Options<'_>) -> Result<Outcome, Fault> {
         return Ok(Outcome::AllRead);
     }
     let named = with_texts(alloc, &options.patterns, &patterns)?;
-    let mut answers = LogAnswers::new(alloc, &named, layout_of(options))?;
-    let outcome = match options.why {
-        Some(most) => {
-            let explainer = Explainer::new(alloc, &library, &texts, &patterns, !options.is_all)?;
-            explain_lines(rt, &mut answers, explainer, most, &options.files)?
-        }
-        None => answer_files(rt, &mut answers, &options.files)?,
+    let answers = LogAnswers::new(alloc, &named, layout_of(options))?;
+    let Some(most) = options.why else {
+        return run_answers(rt, options, answers);
     };
-    if options.has_summary {
-        let line = summary_of(alloc, &answers)?;
-        // The run goes on if the line can't be written.
-        let _ = eprintln!(rt; "groklog: {line}");
-    }
-    Ok(outcome)
+    let explainer = Explainer::new(alloc, &library, &texts, &patterns, !options.is_all)?;
+    run_why(rt, options, Why::new(rt, answers, explainer, most))
 }

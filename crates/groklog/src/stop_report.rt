@@ -15,10 +15,10 @@ const MOST_SHOWN: usize = 40;
 
 /// Explains where the patterns of a run stop in lines that don't match.
 #[derive(Drop)]
-pub struct Explainer<'p> {
+pub struct Explainer<'p, 'd> {
     alloc: Global,
-    library: &'p Library<'p>,
-    all: Vec<Searched<'p>>,
+    library: &'p Library<'d>,
+    all: Vec<Searched<'p, 'd>>,
 }
 
 /// Returns a text as messages show it, in one line and not too long.
@@ -82,23 +82,24 @@ fn push_line(
 fn push_fields(
     alloc: Global,
     report: &mut String,
-    searched: &Searched<'_>,
+    searched: &Searched<'_, '_>,
     (line, found): (&str, &Found),
     open: &[Group],
 ) -> Result<(), AllocError> {
-    let mut lead = "  found so far: ";
+    let mut is_first = true;
     for number in 0..found.locations.len() {
         if let (Some((start, end)), Some(key)) = (found.locations.get(number), searched.key(number))
             && !open.iter().any(|group| group.number == Some(number))
         {
             let key = visible(alloc, key)?;
             let value = shown(alloc, line.get(start..end).unwrap_or(""))?;
-            let field = format!(in alloc; "{lead}{key}={value}")?;
+            report.push_str(if is_first { "  found so far: " } else { " " })?;
+            let field = format!(in alloc; "{key}={value}")?;
             report.push_str(field.as_str())?;
-            lead = " ";
+            is_first = false;
         }
     }
-    if lead == " " {
+    if !is_first {
         report.push('\n')?;
     }
     Ok(())
@@ -113,7 +114,7 @@ fn ends_alike(one: &Option<Found>, other: &Option<Found>) -> bool {
     }
 }
 
-impl<'p> Explainer<'p> {
+impl<'p, 'd> Explainer<'p, 'd> {
     /// Takes the patterns of a run, with their texts.
     ///
     /// # Errors
@@ -121,11 +122,11 @@ impl<'p> Explainer<'p> {
     /// If an allocation fails.
     pub fn new(
         alloc: Global,
-        library: &'p Library<'p>,
+        library: &'p Library<'d>,
         texts: &'p [PatternText],
         patterns: &'p [Pattern],
         with_alias_only: bool,
-    ) -> Result<Explainer<'p>, AllocError> {
+    ) -> Result<Explainer<'p, 'd>, AllocError> {
         let mut all = Vec::new(alloc);
         for (text, pattern) in texts.iter().zip(patterns) {
             all.push(Searched::new(
@@ -171,7 +172,7 @@ fn push_stop(
     alloc: Global,
     library: &Library<'_>,
     report: &mut String,
-    searched: &Searched<'_>,
+    searched: &Searched<'_, '_>,
     (line, stop): (&str, &Stop),
 ) -> Result<(), AllocError> {
     let groups = searched.groups_around(alloc, stop.count)?;

@@ -10,8 +10,8 @@ use std::ops::Range;
 
 /// A pattern, with the beginnings of the regular expression that it expands to.
 #[derive(Drop)]
-pub struct Searched<'p> {
-    library: &'p Library<'p>,
+pub struct Searched<'p, 'd> {
+    library: &'p Library<'d>,
     pub text: &'p PatternText,
     with_alias_only: bool,
     pub beginnings: Beginnings<'p>,
@@ -61,7 +61,7 @@ impl Stop {
 }
 
 /// Returns where the pattern with this index stops in the line.
-fn stop_of(searched: &mut Searched<'_>, pattern: usize, line: &str) -> Result<Stop, AllocError> {
+fn stop_of(searched: &mut Searched<'_, '_>, pattern: usize, line: &str) -> Result<Stop, AllocError> {
     let count = searched.beginnings.longest(line)?;
     let found = searched.find(count, line)?;
     Ok(Stop {
@@ -78,7 +78,7 @@ fn stop_of(searched: &mut Searched<'_>, pattern: usize, line: &str) -> Result<St
 ///
 /// If an allocation fails.
 pub fn furthest_stop(
-    all: &mut [Searched<'_>],
+    all: &mut [Searched<'_, '_>],
     line: &str,
 ) -> Result<Option<Stop>, AllocError> {
     let mut furthest: Option<Stop> = None;
@@ -104,7 +104,7 @@ fn offset_of(part: WrittenByte<'_>) -> usize {
     }
 }
 
-impl<'p> Searched<'p> {
+impl<'p, 'd> Searched<'p, 'd> {
     /// Takes a pattern and its text.
     ///
     /// # Errors
@@ -112,11 +112,11 @@ impl<'p> Searched<'p> {
     /// If an allocation fails.
     pub fn new(
         alloc: Global,
-        library: &'p Library<'p>,
+        library: &'p Library<'d>,
         text: &'p PatternText,
         pattern: &'p Pattern,
         with_alias_only: bool,
-    ) -> Result<Searched<'p>, AllocError> {
+    ) -> Result<Searched<'p, 'd>, AllocError> {
         let mut keys = BTreeMap::new(alloc);
         for key in pattern.capture_names() {
             if let Some(group) = pattern.group_of(key) {

@@ -1,4 +1,5 @@
 //! Explains the lines that don't match, for `--why`.
+ghost use Rattle.std.specs.Prelude.{[]};
 
 use crate::stop_report::Explainer;
 use grok_lines::LineAnswers;
@@ -9,10 +10,10 @@ use std::io::{self, Write};
 /// Counts the lines, and writes to standard output where the patterns stop in the first of them that
 /// don't match. It has no answers.
 #[derive(Drop)]
-pub struct Why<'w, 'p> {
-    rt: &'w HostRuntime,
-    answers: &'w mut LogAnswers<'p>,
-    explainer: Explainer<'w>,
+pub struct Why<'r, 'p, 'd> {
+    rt: &'r HostRuntime,
+    pub answers: LogAnswers<'p>,
+    explainer: Explainer<'p, 'd>,
     /// The buffer for an answer, which isn't written.
     answer: Vec<u8>,
     /// How many lines were read.
@@ -25,14 +26,14 @@ pub struct Why<'w, 'p> {
     pub failure: Option<io::Error>,
 }
 
-impl<'w, 'p> Why<'w, 'p> {
+impl<'r, 'p, 'd> Why<'r, 'p, 'd> {
     /// Explains the first `most` lines that don't match.
     pub fn new(
-        rt: &'w HostRuntime,
-        answers: &'w mut LogAnswers<'p>,
-        explainer: Explainer<'w>,
+        rt: &'r HostRuntime,
+        answers: LogAnswers<'p>,
+        explainer: Explainer<'p, 'd>,
         most: u64,
-    ) -> Why<'w, 'p> {
+    ) -> Why<'r, 'p, 'd> {
         Why {
             rt,
             answers,
@@ -79,7 +80,7 @@ impl<'w, 'p> Why<'w, 'p> {
     }
 }
 
-impl LineAnswers for Why<'_, '_> {
+impl LineAnswers for Why<'_, '_, '_> {
     ghost answer = { λ _ n line. [] };
 
     fn answer_str(&mut self, text: &mut Vec<u8>, line: &str) -> Result<(), AllocError> {
