@@ -184,11 +184,11 @@ fn show_summary(rt: &HostRuntime, answers: &LogAnswers<'_>) -> Result<(), AllocE
 fn run_answers(
     rt: &HostRuntime,
     options: &Options<'_>,
-    mut answers: LogAnswers<'_>,
+    answers: &mut LogAnswers<'_>,
 ) -> Result<Outcome, Fault> {
-    let outcome = answer_files(rt, &mut answers, &options.files)?;
+    let outcome = answer_files(rt, answers, &options.files)?;
     if options.has_summary {
-        show_summary(rt, &answers)?;
+        show_summary(rt, answers)?;
     }
     Ok(outcome)
 }
@@ -197,9 +197,9 @@ fn run_answers(
 fn run_why(
     rt: &HostRuntime,
     options: &Options<'_>,
-    mut why: Why<'_, '_, '_>,
+    why: &mut Why<'_, '_, '_, '_>,
 ) -> Result<Outcome, Fault> {
-    let answered = answer_files(rt, &mut why, &options.files);
+    let answered = answer_files(rt, why, &options.files);
     if let Some(error) = &why.failure {
         return match write_fault(rt.alloc(), error)? {
             Some(fault) => Err(fault),
@@ -281,10 +281,11 @@ pub fn run(rt: &HostRuntime, options: &Options<'_>) -> Result<Outcome, Fault> {
         return Ok(Outcome::AllRead);
     }
     let named = with_texts(alloc, &options.patterns, &patterns)?;
-    let answers = LogAnswers::new(alloc, &named, layout_of(options))?;
+    let mut answers = LogAnswers::new(alloc, &named, layout_of(options))?;
     let Some(most) = options.why else {
-        return run_answers(rt, options, answers);
+        return run_answers(rt, options, &mut answers);
     };
     let explainer = Explainer::new(alloc, &library, &texts, &patterns, !options.is_all)?;
-    run_why(rt, options, Why::new(rt, answers, explainer, most))
+    let mut why = Why::new(rt, answers, explainer, most);
+    run_why(rt, options, &mut why)
 }

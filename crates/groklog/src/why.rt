@@ -10,9 +10,9 @@ use std::io::{self, Write};
 /// Counts the lines, and writes to standard output where the patterns stop in the first of them that
 /// don't match. It has no answers.
 #[derive(Drop)]
-pub struct Why<'r, 'p, 'd> {
+pub struct Why<'r, 'a, 'p, 'd> {
     rt: &'r HostRuntime,
-    pub answers: LogAnswers<'p>,
+    pub answers: LogAnswers<'a>,
     explainer: Explainer<'p, 'd>,
     /// The buffer for an answer, which isn't written.
     answer: Vec<u8>,
@@ -26,14 +26,14 @@ pub struct Why<'r, 'p, 'd> {
     pub failure: Option<io::Error>,
 }
 
-impl<'r, 'p, 'd> Why<'r, 'p, 'd> {
+impl<'r, 'a, 'p, 'd> Why<'r, 'a, 'p, 'd> {
     /// Explains the first `most` lines that don't match.
     pub fn new(
         rt: &'r HostRuntime,
-        answers: LogAnswers<'p>,
+        answers: LogAnswers<'a>,
         explainer: Explainer<'p, 'd>,
         most: u64,
-    ) -> Why<'r, 'p, 'd> {
+    ) -> Why<'r, 'a, 'p, 'd> {
         Why {
             rt,
             answers,
@@ -80,7 +80,7 @@ impl<'r, 'p, 'd> Why<'r, 'p, 'd> {
     }
 }
 
-impl LineAnswers for Why<'_, '_, '_> {
+impl LineAnswers for Why<'_, '_, '_, '_> {
     ghost answer = { λ _ n line. [] };
 
     fn answer_str(&mut self, text: &mut Vec<u8>, line: &str) -> Result<(), AllocError> {
