@@ -3,7 +3,7 @@ ghost use Rattle.std.specs.Prelude.{◌≡◌, IfOk, MatchOption, ⊤, string_by
 ghost use Rattle.regex.specs.Strings.{regex_source};
 ghost use Rattle.regex_beginnings.specs.Pieces.{beginning_text, text_upto};
 ghost use Rattle.regex_beginnings.specs.Finds.{IsAnswer, IsFirstMatchIn};
-ghost use Rattle.regex_beginnings.specs.Beginnings.{pieces_of, IsLongestIn};
+ghost use Rattle.regex_beginnings.specs.Beginnings.{pieces_of, groups_of, IsLongestIn};
 
 use crate::compiled::{Compiled, Found, compile};
 use crate::pieces::{Group, Piece, Pieces, cut};
@@ -59,7 +59,9 @@ impl<'a> Beginnings<'a> {
     }
 
     /// Returns the groups around pieces. A group comes after those around it.
-    pub fn groups(&self) -> &[Group] {
+    pub fn groups(&self) -> &[Group]
+        ensures { result.now ≡ groups_of self.now }
+    {
         self.groups.as_slice()
     }
 
