@@ -211,16 +211,18 @@ fn with_output<'a>(alloc: Global, command: Command<'a>) -> Result<Command<'a>, A
             "explain",
             "Explain the pattern, or its first fault, and read no lines",
         ))?
-        .arg(with_value(
-            alloc,
-            "why",
-            "N",
-            "Show where the pattern stops in the first N lines that don't match, in place of answers",
-        )
-        .num_args(0..=1)
-        .require_equals(true)
-        .default_missing_value(REPORTS)
-        .value_parser(value_parser!(u64)))?
+        .arg(
+            with_value(
+                alloc,
+                "why",
+                "N",
+                "Show where the pattern stops in the first N lines that don't match, in place of answers",
+            )
+            .num_args(0..=1)
+            .require_equals(true)
+            .default_missing_value(REPORTS)
+            .value_parser(value_parser!(u64)),
+        )?
         .arg(flag(
             alloc,
             "summary",

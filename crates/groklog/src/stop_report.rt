@@ -129,13 +129,7 @@ impl<'p, 'd> Explainer<'p, 'd> {
     ) -> Result<Explainer<'p, 'd>, AllocError> {
         let mut all = Vec::new(alloc);
         for (text, pattern) in texts.iter().zip(patterns) {
-            all.push(Searched::new(
-                alloc,
-                library,
-                text,
-                pattern,
-                with_alias_only,
-            )?)?;
+            all.push(Searched::new(alloc, library, text, pattern, with_alias_only)?)?;
         }
         Ok(Explainer {
             alloc,
@@ -178,12 +172,24 @@ fn push_stop(
     let groups = searched.groups_around(alloc, stop.count)?;
     let inner = searched.written(alloc, searched.piece_at(stop.count))?;
     match searched.outermost(&groups)? {
-        None => push_part(alloc, report, inner.text, &inner.range, Some((line, &stop.found)))?,
+        None => push_part(
+            alloc,
+            report,
+            inner.text,
+            &inner.range,
+            Some((line, &stop.found)),
+        )?,
         Some(Outermost { range, count }) => {
             let before = searched.find(count, line)?;
             let text = searched.text.text.as_str();
             let is_shown = before.is_some() || stop.found.is_none();
-            push_part(alloc, report, text, &range, is_shown.then_some((line, &before)))?;
+            push_part(
+                alloc,
+                report,
+                text,
+                &range,
+                is_shown.then_some((line, &before)),
+            )?;
             push_inside(alloc, library, report, &inner)?;
             if !ends_alike(&before, &stop.found) {
                 push_line(alloc, report, line, &stop.found)?;
@@ -234,7 +240,11 @@ fn push_inside(
         report.push_str(if number == 0 { ", used by " } else { " > " })?;
         report.push_str(step)?;
     }
-    report.push_str(if through.is_empty() { " stops at " } else { ", stops at " })?;
+    report.push_str(if through.is_empty() {
+        " stops at "
+    } else {
+        ", stops at "
+    })?;
     let words = piece_words(alloc, inner.text, &inner.range)?;
     report.push_str(words.as_str())?;
     report.push_str(":\n")

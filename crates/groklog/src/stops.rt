@@ -61,7 +61,11 @@ impl Stop {
 }
 
 /// Returns where the pattern with this index stops in the line.
-fn stop_of(searched: &mut Searched<'_, '_>, pattern: usize, line: &str) -> Result<Stop, AllocError> {
+fn stop_of(
+    searched: &mut Searched<'_, '_>,
+    pattern: usize,
+    line: &str,
+) -> Result<Stop, AllocError> {
     let count = searched.beginnings.longest(line)?;
     let found = searched.find(count, line)?;
     Ok(Stop {
@@ -77,10 +81,7 @@ fn stop_of(searched: &mut Searched<'_, '_>, pattern: usize, line: &str) -> Resul
 /// # Errors
 ///
 /// If an allocation fails.
-pub fn furthest_stop(
-    all: &mut [Searched<'_, '_>],
-    line: &str,
-) -> Result<Option<Stop>, AllocError> {
+pub fn furthest_stop(all: &mut [Searched<'_, '_>], line: &str) -> Result<Option<Stop>, AllocError> {
     let mut furthest: Option<Stop> = None;
     for (number, searched) in all.iter_mut().enumerate() {
         let stop = stop_of(searched, number, line)?;
@@ -235,8 +236,7 @@ impl<'p, 'd> Searched<'p, 'd> {
     pub fn outermost(&self, groups: &[Group]) -> Result<Option<Outermost>, AllocError> {
         let (grok, pattern) = (&self.library.grok, self.text.text.as_str());
         for group in groups.iter().rev() {
-            if let Some(location) = grok
-                .locate_byte(pattern, self.with_alias_only, group.start)?
+            if let Some(location) = grok.locate_byte(pattern, self.with_alias_only, group.start)?
                 && let WrittenByte::OfGroup { .. } = location.part
             {
                 return Ok(Some(Outermost {

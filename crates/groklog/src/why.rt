@@ -105,7 +105,9 @@ impl LineAnswers for Why<'_, '_, '_, '_> {
             return Ok(());
         }
         let number = self.lines;
-        let report = format!(in *self.answer.allocator(); "line {number} doesn't match: it isn't UTF-8\n")?;
+        let report = format!(in *self.answer.allocator();
+            "line {number} doesn't match: it isn't UTF-8\n"
+        )?;
         self.write(report.as_str())
     }
 }

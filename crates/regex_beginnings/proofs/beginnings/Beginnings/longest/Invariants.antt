@@ -9,7 +9,7 @@ invariant-halves l = record {
   same : pieces_of l.self ≡ pieces_of l.fn.self;
   finds : (l.count ≡ 0) ⊎ FindsIn (beginning_text (pieces_of l.fn.self) l.count) l.fn.line;
   next : (l.too_many ≡ length (pieces_of l.fn.self) + 1)
-    ⊎ FindsNothingIn (beginning_text (pieces_of l.fn.self) l.too_many) l.fn.line;
+      ⊎ FindsNothingIn (beginning_text (pieces_of l.fn.self) l.too_many) l.fn.line;
   order : l.count < l.too_many;
   most : l.too_many ≤ length (pieces_of l.fn.self) + 1;
 }
