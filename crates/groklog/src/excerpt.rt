@@ -34,19 +34,20 @@ fn shown_part(alloc: Global, text: &str, first: usize, count: usize) -> Result<S
     visible(alloc, part.as_str())
 }
 
-/// Adds to a report the byte range of a text that is wrong: some of the text around it, and under
-/// the range a caret for each column that it takes on a terminal. `location` says where the text is.
+/// A part of a text with some of the text around it, and the carets that stand under the part.
+#[derive(Drop)]
+pub struct Excerpt {
+    pub line: String,
+    pub carets: String,
+}
+
+/// Returns the part of a text at a byte range, with some of the text around it, and under it a caret
+/// for each column that it takes on a terminal. An empty part has one caret.
 ///
 /// # Errors
 ///
 /// If an allocation fails.
-pub fn add_excerpt(
-    alloc: Global,
-    report: &mut Report,
-    location: &str,
-    text: &str,
-    part: Range<usize>,
-) -> Result<(), AllocError> {
+pub fn excerpt_of(alloc: Global, text: &str, part: Range<usize>) -> Result<Excerpt, AllocError> {
     let begin = chars_before(text, part.start);
     let size = chars_before(text, part.end)
         .saturating_sub(begin)
@@ -67,5 +68,22 @@ pub fn add_excerpt(
         cut.len().saturating_add(before.as_str().width()),
     )?;
     push_many(&mut carets, '^', wrong.as_str().width().max(1))?;
+    Ok(Excerpt { line, carets })
+}
+
+/// Adds to a report the byte range of a text that is wrong: some of the text around it, and under
+/// the range a caret for each column that it takes on a terminal. `location` says where the text is.
+///
+/// # Errors
+///
+/// If an allocation fails.
+pub fn add_excerpt(
+    alloc: Global,
+    report: &mut Report,
+    location: &str,
+    text: &str,
+    part: Range<usize>,
+) -> Result<(), AllocError> {
+    let Excerpt { line, carets } = excerpt_of(alloc, text, part)?;
     report.add_part(alloc, location, line.as_str(), carets.as_str())
 }

@@ -11,11 +11,16 @@ mod expansion;
 mod explain;
 mod hints;
 mod library;
+mod log_lines;
 mod notes;
 mod options;
 mod pattern_text;
 mod run;
+mod stop_report;
+mod stops;
+mod summary;
 mod terminal;
+mod why;
 
 use crate::run::Outcome;
 use groklog_input::{Fault, Report};

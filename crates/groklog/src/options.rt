@@ -1,7 +1,7 @@
 //! Reads the options of the program.
 
 use clap::error::ErrorKind;
-use clap::{Arg, ArgAction, ArgMatches, Command, Error};
+use clap::{Arg, ArgAction, ArgMatches, Command, Error, value_parser};
 use groklog_answers::Lines;
 use groklog_input::{Fault, LineForm, Report};
 use std::alloc::{AllocError, Global};
@@ -23,6 +23,9 @@ const EXAMPLES: &str =
     groklog --typed '%{COMMONAPACHELOG}' access.log | jq .response\n  \
     groklog --typed -D 'NUM=\\d+' '%{NUM:n:int}' counts.log\n\n\
     Exit status: 0, 1 for a fault of a pattern or a definition, 2 for wrong options, 3 if memory, reading or writing fails.";
+
+/// How many lines `--why` explains, unless it says how many.
+const REPORTS: &str = "3";
 
 /// The advice for an option that there isn't.
 const UNKNOWN_OPTION: &str =
@@ -57,6 +60,9 @@ pub struct Options<'a> {
     /// Whether placeholders without an alias capture too.
     pub is_all: bool,
     pub is_explained: bool,
+    /// For how many lines that don't match it is explained why, in place of answers.
+    pub why: Option<u64>,
+    pub has_summary: bool,
     pub is_from_logstash: bool,
 }
 
@@ -252,6 +258,23 @@ fn with_output<'a>(alloc: Global, command: Command<'a>) -> Result<Command<'a>, A
             alloc,
             "explain",
             "Explain the pattern, or its first fault, and read no lines",
+        ))?
+        .arg(
+            with_value(
+                alloc,
+                "why",
+                "N",
+                "Show where the pattern stops in the first N lines that don't match, in place of answers",
+            )
+            .num_args(0..=1)
+            .require_equals(true)
+            .default_missing_value(REPORTS)
+            .value_parser(value_parser!(u64)),
+        )?
+        .arg(flag(
+            alloc,
+            "summary",
+            "At the end, also report how many lines matched, on standard error",
         ))
 }
 
@@ -358,6 +381,8 @@ pub fn read_options<'a>(alloc: Global, words: &'a [String]) -> Result<Options<'a
         drops_empty: is_set(&matches, "no-empty"),
         is_all: is_set(&matches, "all"),
         is_explained: is_set(&matches, "explain"),
+        why: matches.get_one("why"),
+        has_summary: is_set(&matches, "summary"),
         is_from_logstash: is_set(&matches, "from-logstash"),
     })
 }

@@ -6,12 +6,16 @@ use crate::definition_files::read_definition_files;
 use crate::explain::explain;
 use crate::hints::Hints;
 use crate::library::Library;
+use crate::log_lines::LogLines;
 use crate::notes::{notes_of_pattern, notes_of_words};
 use crate::options::{Options, repeated_key};
 use crate::pattern_text::{PatternText, adapt_patterns};
+use crate::stop_report::Explainer;
+use crate::summary::summary_of;
 use crate::terminal::shows_progress;
+use crate::why::Why;
 use grok::Pattern;
-use groklog_answers::{Layout, LogAnswers, NamedPattern, OutputFormat};
+use groklog_answers::{Layout, Lines, LogAnswers, NamedPattern, OutputFormat};
 use groklog_input::{
     Answered, Fault, FormedAnswers, Report, Watched, answer_input, file_fault, visible, write_fault,
 };
@@ -86,7 +90,12 @@ fn with_texts<'p>(
 /// Returns the layout that the options ask for.
 fn layout_of<'a>(options: &Options<'a>) -> Layout<'a> {
     Layout {
-        lines: options.lines,
+        lines: if options.why.is_some() {
+            // No answer is written, so the shortest one will do.
+            Lines::Unmatched
+        } else {
+            options.lines
+        },
         format: if options.are_pairs {
             OutputFormat::Pairs
         } else {
@@ -139,16 +148,16 @@ fn shown_name(name: &str) -> &str {
 
 /// Answers each line of a file, and shows the progress if `shows` is set. The name `-` means
 /// standard input, which has no progress.
-fn answer_file<'p>(
+fn answer_file<'p, A: LogLines<'p>>(
     rt: &HostRuntime,
-    answers: &mut FormedAnswers<LogAnswers<'p>>,
+    answers: &mut FormedAnswers<A>,
     name: &'p str,
     shows: bool,
 ) -> Result<Answered, Fault> {
     let alloc = rt.alloc();
     let mut output = io::writer(rt);
     answers.begin_input();
-    answers.answers.begin_file(name);
+    answers.answers.log_answers().begin_file(name);
     if name == "-" {
         let mut input = Watched::new(rt.stdin());
         return answer_input(alloc, answers, &mut input, &mut output, shown_name(name));
@@ -165,9 +174,9 @@ fn answer_file<'p>(
 
 /// Answers each line of each file, and shows the hints at its lines, and its progress if `shows` is
 /// set. Reports each file that can't be read, and goes on with the next one.
-fn answer_files<'p>(
+fn answer_files<'p, A: LogLines<'p>>(
     rt: &HostRuntime,
-    answers: &mut FormedAnswers<LogAnswers<'p>>,
+    answers: &mut FormedAnswers<A>,
     files: &[&'p str],
     shows: bool,
 ) -> Result<Outcome, Fault> {
@@ -189,8 +198,67 @@ fn answer_files<'p>(
             Err(fault) => return Err(fault),
         }
     }
-    if let Some(hint) = hints.at_end(answers.answers.has_matched()) {
+    let matched = answers.answers.log_answers().matched()?;
+    if let Some(hint) = hints.at_end(matched.iter().any(|count| *count > 0)) {
         show_note(rt, hint)?;
+    }
+    Ok(outcome)
+}
+
+/// Reports the counts of the lines on standard error.
+fn show_summary(rt: &HostRuntime, answers: &LogAnswers<'_>) -> Result<(), AllocError> {
+    let line = summary_of(rt.alloc(), answers)?;
+    // The run goes on if the line can't be written.
+    let _ = eprintln!(rt; "groklog: {line}");
+    Ok(())
+}
+
+/// Answers each line of the files that the options name, or of standard input.
+fn answer_inputs<'p, A: LogLines<'p>>(
+    rt: &HostRuntime,
+    options: &Options<'p>,
+    answers: &mut FormedAnswers<A>,
+) -> Result<Outcome, Fault> {
+    if options.files.is_empty() {
+        return answer_files(rt, answers, STANDARD_INPUT, false);
+    }
+    answer_files(rt, answers, &options.files, shows_progress(rt))
+}
+
+/// Answers the lines, and reports their counts if that is wanted.
+fn run_answers<'p>(
+    rt: &HostRuntime,
+    options: &Options<'p>,
+    answers: LogAnswers<'p>,
+) -> Result<Outcome, Fault> {
+    let mut answers = FormedAnswers::new(rt.alloc(), answers, options.form);
+    let outcome = answer_inputs(rt, options, &mut answers)?;
+    if options.has_summary {
+        show_summary(rt, &answers.answers)?;
+    }
+    Ok(outcome)
+}
+
+/// Explains lines that don't match, and reports the counts of the lines if that is wanted.
+fn run_why<'a>(
+    rt: &HostRuntime,
+    options: &Options<'a>,
+    why: Why<'_, 'a, '_, '_>,
+) -> Result<Outcome, Fault> {
+    let mut formed = FormedAnswers::new(rt.alloc(), why, options.form);
+    let answered = answer_inputs(rt, options, &mut formed);
+    let why = &formed.answers;
+    if let Some(error) = &why.failure {
+        return match write_fault(rt.alloc(), error)? {
+            Some(fault) => Err(fault),
+            None => Ok(Outcome::AllRead),
+        };
+    }
+    let outcome = answered?;
+    let rest = why.rest(rt.alloc())?;
+    write_output(rt, rest.as_str())?;
+    if options.has_summary {
+        show_summary(rt, &why.answers)?;
     }
     Ok(outcome)
 }
@@ -262,9 +330,9 @@ pub fn run(rt: &HostRuntime, options: &Options<'_>) -> Result<Outcome, Fault> {
     }
     let named = with_texts(alloc, &options.patterns, &patterns)?;
     let answers = LogAnswers::new(alloc, &named, layout_of(options))?;
-    let mut answers = FormedAnswers::new(alloc, answers, options.form);
-    if options.files.is_empty() {
-        return answer_files(rt, &mut answers, STANDARD_INPUT, false);
-    }
-    answer_files(rt, &mut answers, &options.files, shows_progress(rt))
+    let Some(most) = options.why else {
+        return run_answers(rt, options, answers);
+    };
+    let explainer = Explainer::new(alloc, &library, &texts, &patterns, !options.is_all)?;
+    run_why(rt, options, Why::new(rt, answers, explainer, most))
 }

@@ -53,3 +53,15 @@ layout_of answers = layout_value answers.layout
 -- The number of the line that is answered next.
 abbrev pub next_number_of : LogAnswers → ℕ
 next_number_of answers = answers.next_number
+
+-- For each pattern, in their order, how many lines it was the first to match.
+abbrev pub matched_of : LogAnswers → List ℕ
+matched_of answers = map (λ search. search.matched) answers.searches.items
+
+-- How many lines no pattern matched, without those that aren't UTF-8.
+abbrev pub unmatched_of : LogAnswers → ℕ
+unmatched_of answers = answers.unmatched
+
+-- How many lines weren't UTF-8.
+abbrev pub broken_of : LogAnswers → ℕ
+broken_of answers = answers.broken

@@ -5,7 +5,7 @@ ghost use Rattle.std.specs.Option.{is_some};
 ghost use Rattle.groklog_answers.specs.Layouts.{layout_value, in_file, keeps_unmatched};
 ghost use Rattle.groklog_answers.specs.Patterns.{match_of, first_match};
 ghost use Rattle.groklog_answers.specs.LogAnswers.{match_answer, unmatched_answer, answer_by};
-ghost use Rattle.groklog_answers.specs.Views.{pattern_text, match_text_of, searched, patterns_of, layout_of, next_number_of};
+ghost use Rattle.groklog_answers.specs.Views.{pattern_text, match_text_of, searched, patterns_of, layout_of, next_number_of, matched_of, unmatched_of, broken_of};
 
 use crate::layout::{Failure, Layout, Lines, OutputFormat};
 use crate::object::{write_match, write_unmatched};
@@ -34,6 +34,8 @@ pub struct NumberedLine<'l> {
 struct Search<'p> {
     named: NamedPattern<'p>,
     matcher: Matcher<'p>,
+    /// How many lines had an answer from this pattern, because it was the first that matched.
+    matched: u64,
 }
 
 // This is written by hand because the kit can't prove the drop of a list of these if `Drop` is
@@ -43,6 +45,7 @@ impl Drop for Search<'_> {
         let Search {
             named: _,
             matcher: _matcher,
+            matched: _,
         } = self;
     }
 }
@@ -59,8 +62,10 @@ pub struct LogAnswers<'p> {
     answer: Vec<u8>,
     /// The number of the next line. The first line has the number 1.
     next_number: u64,
-    /// Whether a pattern has matched a line.
-    has_matched: bool,
+    /// How many lines no pattern matched, without those that aren't UTF-8.
+    unmatched: u64,
+    /// How many lines weren't UTF-8.
+    broken: u64,
 }
 
 /// Returns `number + 1`.
@@ -173,12 +178,15 @@ impl<'p> Search<'p> {
             (match_of (searched self.old) line.entry.text.now) line.entry.number line.entry.text.now) }
         ensures unmatched { IfOk result (λ is_match. is_match ≡ false → answer.new.items ≡ answer.old.items) }
         ensures same { searched self.new ≡ searched self.old }
+        ensures count { IfOk result (λ is_match. self.new.matched
+            ≡ (if is_match then self.old.matched + 1 else self.old.matched)) }
     {
         let named = self.named;
         match self.matcher.find(line.text)? {
             None => Ok(false),
             Some(matches) => {
                 layout.append_match(alloc, answer, named, line, matches)?;
+                self.matched = number_after(self.matched)?;
                 Ok(true)
             }
         }
@@ -233,6 +241,7 @@ impl<'p> LogAnswers<'p> {
             searches.push(Search {
                 named: *named,
                 matcher,
+                matched: 0,
             })?;
         }
         Ok(LogAnswers {
@@ -241,7 +250,8 @@ impl<'p> LogAnswers<'p> {
             searches,
             answer: Vec::new(alloc),
             next_number: 1,
-            has_matched: false,
+            unmatched: 0,
+            broken: 0,
         })
     }
 
@@ -254,11 +264,33 @@ impl<'p> LogAnswers<'p> {
         self.layout.file_name = name;
     }
 
-    /// Returns whether a pattern has matched a line.
-    pub fn has_matched(&self) -> bool
-        ensures { result ≡ self.now.has_matched }
+    /// Returns how many lines each pattern was the first to match, in the order of the patterns.
+    ///
+    /// # Errors
+    ///
+    /// If an allocation fails.
+    pub fn matched(&self) -> Result<Vec<u64>, AllocError>
+        ensures { IfOk result (λ counts. counts.items ≡ matched_of self.now) }
     {
-        self.has_matched
+        let mut counts = Vec::new(self.alloc);
+        'searches: for search in &self.searches {
+            counts.push(search.matched)?;
+        }
+        Ok(counts)
+    }
+
+    /// Returns how many lines no pattern matched, without those that aren't UTF-8.
+    pub fn unmatched(&self) -> u64
+        ensures { result ≡ unmatched_of self.now }
+    {
+        self.unmatched
+    }
+
+    /// Returns how many lines weren't UTF-8.
+    pub fn broken(&self) -> u64
+        ensures { result ≡ broken_of self.now }
+    {
+        self.broken
     }
 }
 
@@ -288,10 +320,10 @@ impl LineAnswers for LogAnswers<'_> {
         )?;
         if !is_match {
             layout.append_unmatched(alloc, &mut self.answer, Failure::NoMatch, line)?;
+            self.unmatched = number_after(self.unmatched)?;
         }
         text.extend_from_slice(&self.answer)?;
         self.next_number = next_number;
-        self.has_matched = self.has_matched || is_match;
         Ok(())
     }
 
@@ -309,8 +341,10 @@ impl LineAnswers for LogAnswers<'_> {
         let answer = &mut self.answer;
         answer.clear();
         layout.append_unmatched(alloc, answer, Failure::NotUtf8, line)?;
+        let broken = number_after(self.broken)?;
         text.extend_from_slice(answer)?;
         self.next_number = next_number;
+        self.broken = broken;
         Ok(())
     }
 }

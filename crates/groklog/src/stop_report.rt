@@ -1,0 +1,251 @@
+//! Reports where a pattern stops in a line that doesn't match.
+
+use crate::excerpt::{Excerpt, excerpt_of};
+use crate::library::Library;
+use crate::pattern_text::PatternText;
+use crate::stops::{Outermost, Searched, Stop, Written, furthest_stop};
+use grok::Pattern;
+use groklog_input::visible;
+use regex_beginnings::{Found, Group};
+use std::alloc::{AllocError, Global};
+use std::ops::Range;
+
+/// How many characters are shown at most of a piece in a sentence, and of a value.
+const MOST_SHOWN: usize = 40;
+
+/// Explains where the patterns of a run stop in lines that don't match.
+#[derive(Drop)]
+pub struct Explainer<'p, 'd> {
+    alloc: Global,
+    library: &'p Library<'d>,
+    all: Vec<Searched<'p, 'd>>,
+}
+
+/// Returns a text as messages show it, in one line and not too long.
+fn shown(alloc: Global, text: &str) -> Result<String, AllocError> {
+    let mut part = String::new(alloc);
+    for c in text.chars().take(MOST_SHOWN) {
+        part.push(c)?;
+    }
+    let mut shown = visible(alloc, part.as_str())?;
+    if part.len() < text.len() {
+        shown.push_str("...")?;
+    }
+    Ok(shown)
+}
+
+/// Returns words for a piece: its text without the blanks around it, and whether it is a group.
+fn piece_words(alloc: Global, text: &str, range: &Range<usize>) -> Result<String, AllocError> {
+    let piece = text.get(range.start..range.end).unwrap_or("").trim();
+    let text = shown(alloc, piece)?;
+    if piece.is_empty() {
+        String::from_str(alloc, "a blank")
+    } else if piece.starts_with('(') {
+        format!(in alloc; "the group {text}")
+    } else {
+        Ok(text)
+    }
+}
+
+/// Appends a part of a text with the carets under it.
+fn push_excerpt(
+    alloc: Global,
+    report: &mut String,
+    text: &str,
+    range: &Range<usize>,
+) -> Result<(), AllocError> {
+    let Excerpt { line, carets } = excerpt_of(alloc, text, range.start..range.end)?;
+    let lines = format!(in alloc; "  {line}\n  {carets}\n")?;
+    report.push_str(lines.as_str())
+}
+
+/// Appends the line, with a caret where the match of a beginning ends. If the beginning is empty,
+/// there is no caret.
+fn push_line(
+    alloc: Global,
+    report: &mut String,
+    line: &str,
+    found: &Option<Found>,
+) -> Result<(), AllocError> {
+    match found {
+        Some(found) => push_excerpt(alloc, report, line, &(found.end..found.end)),
+        None => {
+            let Excerpt { line, .. } = excerpt_of(alloc, line, 0..0)?;
+            let line = format!(in alloc; "  {line}\n")?;
+            report.push_str(line.as_str())
+        }
+    }
+}
+
+/// Appends the fields that the beginning found, except those of the groups in `open`, which it
+/// didn't come to the end of.
+fn push_fields(
+    alloc: Global,
+    report: &mut String,
+    searched: &Searched<'_, '_>,
+    (line, found): (&str, &Found),
+    open: &[Group],
+) -> Result<(), AllocError> {
+    let mut is_first = true;
+    for number in 0..found.locations.len() {
+        if let (Some((start, end)), Some(key)) = (found.locations.get(number), searched.key(number))
+            && !open.iter().any(|group| group.number == Some(number))
+        {
+            let key = visible(alloc, key)?;
+            let value = shown(alloc, line.get(start..end).unwrap_or(""))?;
+            report.push_str(if is_first { "  found so far: " } else { " " })?;
+            let field = format!(in alloc; "{key}={value}")?;
+            report.push_str(field.as_str())?;
+            is_first = false;
+        }
+    }
+    if !is_first {
+        report.push('\n')?;
+    }
+    Ok(())
+}
+
+/// Returns whether two matches end at the same position.
+fn ends_alike(one: &Option<Found>, other: &Option<Found>) -> bool {
+    match (one, other) {
+        (Some(one), Some(other)) => one.end == other.end,
+        (None, None) => true,
+        _ => false,
+    }
+}
+
+impl<'p, 'd> Explainer<'p, 'd> {
+    /// Takes the patterns of a run, with their texts.
+    ///
+    /// # Errors
+    ///
+    /// If an allocation fails.
+    pub fn new(
+        alloc: Global,
+        library: &'p Library<'d>,
+        texts: &'p [PatternText],
+        patterns: &'p [Pattern],
+        with_alias_only: bool,
+    ) -> Result<Explainer<'p, 'd>, AllocError> {
+        let mut all = Vec::new(alloc);
+        for (text, pattern) in texts.iter().zip(patterns) {
+            all.push(Searched::new(alloc, library, text, pattern, with_alias_only)?)?;
+        }
+        Ok(Explainer {
+            alloc,
+            library,
+            all,
+        })
+    }
+
+    /// Reports where the pattern stops that comes furthest in a line that doesn't match.
+    ///
+    /// # Errors
+    ///
+    /// If an allocation fails.
+    pub fn report(&mut self, number: u64, line: &str) -> Result<String, AllocError> {
+        let (alloc, several) = (self.alloc, self.all.len() > 1);
+        let mut report = format!(in alloc; "line {number} doesn't match: ")?;
+        let Some(stop) = furthest_stop(self.all.as_mut_slice(), line)? else {
+            return Ok(report);
+        };
+        let Some(searched) = self.all.as_slice().get(stop.pattern) else {
+            return Ok(report);
+        };
+        report.push_str(searched.text.words.as_str())?;
+        report.push_str(if several { " comes furthest, and" } else { "" })?;
+        report.push_str(" stops at ")?;
+        push_stop(alloc, self.library, &mut report, searched, (line, &stop))?;
+        Ok(report)
+    }
+}
+
+/// Appends where the pattern stops: the piece, the line and the pattern with carets, the same for
+/// the definition that it stops in, and the fields so far.
+fn push_stop(
+    alloc: Global,
+    library: &Library<'_>,
+    report: &mut String,
+    searched: &Searched<'_, '_>,
+    (line, stop): (&str, &Stop),
+) -> Result<(), AllocError> {
+    let groups = searched.groups_around(alloc, stop.count)?;
+    let inner = searched.written(alloc, searched.piece_at(stop.count))?;
+    match searched.outermost(&groups)? {
+        None => push_part(
+            alloc,
+            report,
+            inner.text,
+            &inner.range,
+            Some((line, &stop.found)),
+        )?,
+        Some(Outermost { range, count }) => {
+            let before = searched.find(count, line)?;
+            let text = searched.text.text.as_str();
+            let is_shown = before.is_some() || stop.found.is_none();
+            push_part(
+                alloc,
+                report,
+                text,
+                &range,
+                is_shown.then_some((line, &before)),
+            )?;
+            push_inside(alloc, library, report, &inner)?;
+            if !ends_alike(&before, &stop.found) {
+                push_line(alloc, report, line, &stop.found)?;
+            }
+            push_excerpt(alloc, report, inner.text, &inner.range)?;
+        }
+    }
+    match &stop.found {
+        Some(found) => push_fields(alloc, report, searched, (line, found), &groups),
+        None => Ok(()),
+    }
+}
+
+/// Appends a piece in words, the line, and the pattern with carets under the piece.
+fn push_part(
+    alloc: Global,
+    report: &mut String,
+    text: &str,
+    range: &Range<usize>,
+    line: Option<(&str, &Option<Found>)>,
+) -> Result<(), AllocError> {
+    let words = piece_words(alloc, text, range)?;
+    report.push_str(words.as_str())?;
+    report.push('\n')?;
+    if let Some((line, found)) = line {
+        push_line(alloc, report, line, found)?;
+    }
+    push_excerpt(alloc, report, text, range)
+}
+
+/// Appends words that say in which definition the pattern stops, and at which piece of it.
+fn push_inside(
+    alloc: Global,
+    library: &Library<'_>,
+    report: &mut String,
+    inner: &Written<'_>,
+) -> Result<(), AllocError> {
+    let Some((name, through)) = inner.path.as_slice().split_last() else {
+        return Ok(());
+    };
+    let start = format!(in alloc; "  inside it, the definition {name}")?;
+    report.push_str(start.as_str())?;
+    if let Some(source) = library.source(name) {
+        let origin = format!(in alloc; " ({})", source.origin)?;
+        report.push_str(visible(alloc, origin.as_str())?.as_str())?;
+    }
+    for (number, step) in through.iter().enumerate() {
+        report.push_str(if number == 0 { ", used by " } else { " > " })?;
+        report.push_str(step)?;
+    }
+    report.push_str(if through.is_empty() {
+        " stops at "
+    } else {
+        ", stops at "
+    })?;
+    let words = piece_words(alloc, inner.text, &inner.range)?;
+    report.push_str(words.as_str())?;
+    report.push_str(":\n")
+}

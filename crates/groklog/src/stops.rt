@@ -1,0 +1,258 @@
+//! Finds where patterns stop in a line that doesn't match.
+
+use crate::library::Library;
+use crate::pattern_text::PatternText;
+use grok::{Pattern, WrittenByte};
+use regex_beginnings::{Beginnings, Found, Group, Piece};
+use std::alloc::{AllocError, Global};
+use std::collections::BTreeMap;
+use std::ops::Range;
+
+/// A pattern, with the beginnings of the regular expression that it expands to.
+#[derive(Drop)]
+pub struct Searched<'p, 'd> {
+    library: &'p Library<'d>,
+    pub text: &'p PatternText,
+    with_alias_only: bool,
+    pub beginnings: Beginnings<'p>,
+    /// The keys by the numbers of their groups.
+    keys: BTreeMap<usize, &'p str>,
+}
+
+/// Where a pattern stops in a line: its longest beginning that finds something there.
+#[derive(Drop)]
+pub struct Stop {
+    /// The index of the pattern.
+    pub pattern: usize,
+    /// How many pieces the beginning has.
+    pub count: usize,
+    /// What the beginning finds. It is `None` if the beginning is empty.
+    pub found: Option<Found>,
+}
+
+/// A part of the pattern or of a definition.
+#[derive(Drop)]
+pub struct Written<'x> {
+    /// The names of the placeholders that lead from the pattern to the definition, outermost first.
+    pub path: Vec<&'x str>,
+    /// The definition, or the pattern.
+    pub text: &'x str,
+    pub range: Range<usize>,
+}
+
+/// The placeholder of the pattern in whose definition a piece is.
+#[derive(Drop)]
+pub struct Outermost {
+    /// The byte range of the placeholder in the pattern.
+    pub range: Range<usize>,
+    /// How many pieces come before it.
+    pub count: usize,
+}
+
+impl Stop {
+    /// Returns how far the beginning comes in the line: the byte position after its match, plus 1,
+    /// or 0 if the beginning is empty.
+    fn reach(&self) -> usize {
+        match &self.found {
+            Some(found) => found.end.saturating_add(1),
+            None => 0,
+        }
+    }
+}
+
+/// Returns where the pattern with this index stops in the line.
+fn stop_of(
+    searched: &mut Searched<'_, '_>,
+    pattern: usize,
+    line: &str,
+) -> Result<Stop, AllocError> {
+    let count = searched.beginnings.longest(line)?;
+    let found = searched.find(count, line)?;
+    Ok(Stop {
+        pattern,
+        count,
+        found,
+    })
+}
+
+/// Returns where the pattern stops that comes furthest in the line: the first such pattern if there
+/// are several. Returns `None` if there is no pattern.
+///
+/// # Errors
+///
+/// If an allocation fails.
+pub fn furthest_stop(all: &mut [Searched<'_, '_>], line: &str) -> Result<Option<Stop>, AllocError> {
+    let mut furthest: Option<Stop> = None;
+    for (number, searched) in all.iter_mut().enumerate() {
+        let stop = stop_of(searched, number, line)?;
+        let is_further = match &furthest {
+            Some(best) => best.reach() < stop.reach(),
+            None => true,
+        };
+        if is_further {
+            furthest = Some(stop);
+        }
+    }
+    Ok(furthest)
+}
+
+/// Returns how many bytes after the start of a piece of a pattern the byte is from which `part` was
+/// written. A byte of a placeholder's group comes from the whole placeholder, whose start counts.
+fn offset_of(part: WrittenByte<'_>) -> usize {
+    match part {
+        WrittenByte::Copied(offset) => offset,
+        WrittenByte::OfGroup { .. } => 0,
+    }
+}
+
+impl<'p, 'd> Searched<'p, 'd> {
+    /// Takes a pattern and its text.
+    ///
+    /// # Errors
+    ///
+    /// If an allocation fails.
+    pub fn new(
+        alloc: Global,
+        library: &'p Library<'d>,
+        text: &'p PatternText,
+        pattern: &'p Pattern,
+        with_alias_only: bool,
+    ) -> Result<Searched<'p, 'd>, AllocError> {
+        let mut keys = BTreeMap::new(alloc);
+        for key in pattern.capture_names() {
+            if let Some(group) = pattern.group_of(key) {
+                keys.insert(group, key)?;
+            }
+        }
+        Ok(Searched {
+            library,
+            text,
+            with_alias_only,
+            beginnings: Beginnings::new(alloc, pattern.text())?,
+            keys,
+        })
+    }
+
+    /// Returns what the beginning of `count` pieces finds, or `None` if it finds nothing or is empty.
+    ///
+    /// # Errors
+    ///
+    /// If an allocation fails.
+    pub fn find(&self, count: usize, line: &str) -> Result<Option<Found>, AllocError> {
+        if count == 0 {
+            return Ok(None);
+        }
+        self.beginnings.find(count, line)
+    }
+
+    /// Returns the key whose values come from the group with this number, if there is one.
+    pub fn key(&self, group: usize) -> Option<&'p str> {
+        self.keys.get(&group).copied()
+    }
+
+    /// Returns the piece at this index, with the characters after it that stand for themselves too.
+    /// It is a byte range of the expanded text.
+    pub fn piece_at(&self, index: usize) -> Range<usize> {
+        let pieces = self.beginnings.pieces();
+        let Some(first) = pieces.get(index) else {
+            return 0..0;
+        };
+        let mut end = first.upto.len();
+        for next in pieces.iter().skip(index.saturating_add(1)) {
+            if !first.is_literal || !next.is_literal || next.start != end {
+                break;
+            }
+            end = next.upto.len();
+        }
+        first.start..end
+    }
+
+    /// Returns the groups around the piece at this index, innermost first.
+    ///
+    /// # Errors
+    ///
+    /// If an allocation fails.
+    pub fn groups_around(&self, alloc: Global, index: usize) -> Result<Vec<Group>, AllocError> {
+        let mut around = Vec::new(alloc);
+        let Some(piece) = self.beginnings.pieces().get(index) else {
+            return Ok(around);
+        };
+        let groups = self.beginnings.groups();
+        let mut next = piece.around;
+        for _ in 0..piece.depth {
+            let Some(group) = next.and_then(|number| groups.get(number)) else {
+                break;
+            };
+            around.push(*group)?;
+            next = group.around;
+        }
+        Ok(around)
+    }
+
+    /// Returns where a part of the expanded text was written. `part` has the start and the end of the
+    /// part, which is a piece.
+    ///
+    /// # Errors
+    ///
+    /// If an allocation fails.
+    pub fn written(&self, alloc: Global, part: Range<usize>) -> Result<Written<'p>, AllocError> {
+        let (grok, pattern) = (&self.library.grok, self.text.text.as_str());
+        let last = part.end.saturating_sub(1);
+        let (Some(first), Some(last)) = (
+            grok.locate_byte(pattern, self.with_alias_only, part.start)?,
+            grok.locate_byte(pattern, self.with_alias_only, last)?,
+        ) else {
+            // This doesn't happen: each byte of the expanded text was written by something.
+            return Ok(Written {
+                path: Vec::new(alloc),
+                text: pattern,
+                range: 0..pattern.len(),
+            });
+        };
+        let start = first.range.start.saturating_add(offset_of(first.part));
+        let end = match last.part {
+            WrittenByte::Copied(offset) => {
+                last.range.start.saturating_add(offset).saturating_add(1)
+            }
+            WrittenByte::OfGroup { .. } => last.range.end,
+        };
+        Ok(Written {
+            range: start..if first.path == last.path {
+                end
+            } else {
+                first.range.end
+            },
+            path: first.path,
+            text: first.text,
+        })
+    }
+
+    /// Returns the placeholder of the pattern in whose definition these groups are. They are around
+    /// one piece, innermost first. Returns `None` if they are written in the pattern itself.
+    ///
+    /// # Errors
+    ///
+    /// If an allocation fails.
+    pub fn outermost(&self, groups: &[Group]) -> Result<Option<Outermost>, AllocError> {
+        let (grok, pattern) = (&self.library.grok, self.text.text.as_str());
+        for group in groups.iter().rev() {
+            if let Some(location) = grok.locate_byte(pattern, self.with_alias_only, group.start)?
+                && let WrittenByte::OfGroup { .. } = location.part
+            {
+                return Ok(Some(Outermost {
+                    range: location.range,
+                    count: self.pieces_before(group.start),
+                }));
+            }
+        }
+        Ok(None)
+    }
+
+    /// Returns how many pieces come before this byte position of the expanded text.
+    fn pieces_before(&self, position: usize) -> usize {
+        let pieces = self.beginnings.pieces().iter();
+        pieces
+            .take_while(|piece: &&Piece<'_>| piece.start < position)
+            .count()
+    }
+}

@@ -1,0 +1,22 @@
+-- The longest beginning that finds something in a line.
+use Rattle.std.specs.Prelude.{◌≡◌, ◌⊎◌, ℕ, ◌+◌, ◌≤◌, List, length}
+use Rattle.regex_beginnings.specs.Finds.{FindsIn, FindsNothingIn}
+use Rattle.regex_beginnings.specs.Pieces.{beginning_text}
+use Rattle.regex_beginnings.specs.declared.pieces.Group.{Group}
+use Rattle.regex_beginnings.specs.declared.pieces.Piece.{Piece}
+use Rattle.regex_beginnings.specs.declared.beginnings.Beginnings.{Beginnings}
+
+-- The pieces, in their order.
+abbrev pub pieces_of : Beginnings → List Piece
+pieces_of beginnings = beginnings.pieces.items
+
+-- The groups around pieces.
+abbrev pub groups_of : Beginnings → List Group
+groups_of beginnings = beginnings.groups.items
+
+-- WHERE THE LINE STOPS: the beginning of `count` pieces finds something in the line, and the one with the next piece finds
+-- nothing. If no piece finds anything, `count` is 0, and if there is no next piece, all of them find something.
+pub record IsLongestIn (line : List ℕ) (pieces : List Piece) (count : ℕ) : Type 0 where
+  pub finds : (count ≡ 0) ⊎ FindsIn (beginning_text pieces count) line
+  pub next : (count ≡ length pieces) ⊎ FindsNothingIn (beginning_text pieces (count + 1)) line
+  pub most : count ≤ length pieces

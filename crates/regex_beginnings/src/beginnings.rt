@@ -1,0 +1,150 @@
+//! The beginnings of a regular expression.
+ghost use Rattle.std.specs.Prelude.{◌≡◌, IfOk, MatchOption, ⊤, string_bytes};
+ghost use Rattle.regex.specs.Strings.{regex_source};
+ghost use Rattle.regex_beginnings.specs.Pieces.{beginning_text, text_upto};
+ghost use Rattle.regex_beginnings.specs.Finds.{IsAnswer, IsFirstMatchIn};
+ghost use Rattle.regex_beginnings.specs.Beginnings.{pieces_of, groups_of, IsLongestIn};
+
+use crate::compiled::{Compiled, Found, compile};
+use crate::pieces::{Group, Piece, Pieces, cut};
+use std::alloc::{AllocError, Global};
+use std::collections::BTreeMap;
+
+/// The beginnings of a regular expression. The beginning of `count` pieces is the text up to the end
+/// of the last of them, with a `)` for each group that is still open there. That of no piece is
+/// empty.
+#[derive(Drop)]
+pub struct Beginnings<'a> {
+    alloc: Global,
+    pieces: Vec<Piece<'a>>,
+    groups: Vec<Group>,
+    /// The beginnings that were needed so far, by their number of pieces.
+    compiled: BTreeMap<usize, Compiled>,
+}
+
+impl Piece<'_> {
+    /// Returns the text up to the end of this piece, with a `)` for each group that is still open
+    /// there.
+    fn closed_text(&self, alloc: Global) -> Result<String, AllocError>
+        ensures { IfOk result (λ text. string_bytes text ≡ text_upto self.now) }
+    {
+        let mut text = String::from_str(alloc, self.upto)?;
+        let brackets = ")".repeat(alloc, self.depth)?;
+        text.push_str(brackets.as_str())?;
+        Ok(text)
+    }
+}
+
+impl<'a> Beginnings<'a> {
+    /// Cuts the text of a regular expression that `regex` takes.
+    ///
+    /// # Errors
+    ///
+    /// If an allocation fails.
+    pub fn new(alloc: Global, text: &'a str) -> Result<Beginnings<'a>, AllocError> {
+        let Pieces { pieces, groups } = cut(alloc, text)?;
+        Ok(Beginnings {
+            alloc,
+            pieces,
+            groups,
+            compiled: BTreeMap::new(alloc),
+        })
+    }
+
+    /// Returns the pieces, in their order.
+    pub fn pieces(&self) -> &[Piece<'a>]
+        ensures { result.now ≡ pieces_of self.now }
+    {
+        self.pieces.as_slice()
+    }
+
+    /// Returns the groups around pieces. A group comes after those around it.
+    pub fn groups(&self) -> &[Group]
+        ensures { result.now ≡ groups_of self.now }
+    {
+        self.groups.as_slice()
+    }
+
+    /// Returns the text of the beginning of `count` pieces.
+    fn text_of(&self, count: usize) -> Result<String, AllocError>
+        ensures { IfOk result (λ text. string_bytes text ≡ beginning_text (pieces_of self.now) count) }
+    {
+        if count == 0 {
+            return Ok(String::new(self.alloc));
+        }
+        match self.pieces.as_slice().get(count - 1) {
+            Some(piece) => piece.closed_text(self.alloc),
+            None => Ok(String::new(self.alloc)),
+        }
+    }
+
+    /// Returns the compiled beginning with this text, which has `count` pieces, if it was compiled
+    /// before.
+    fn known(&self, count: usize, text: &str) -> Option<&Compiled>
+        ensures { MatchOption result ⊤ (λ known. regex_source known.now.regex ≡ text.now) }
+    {
+        match self.compiled.get(&count) {
+            Some(known) if known.regex.as_str() == text => Some(known),
+            _ => None,
+        }
+    }
+
+    /// Returns whether the beginning of `count` pieces finds something in the line.
+    fn finds(&mut self, count: usize, line: &str) -> Result<bool, AllocError>
+        ensures answer { IfOk result (IsAnswer (beginning_text (pieces_of self.old) count) line.now) }
+        ensures same { pieces_of self.new ≡ pieces_of self.old }
+    {
+        let text = self.text_of(count)?;
+        if let Some(known) = self.known(count, text.as_str()) {
+            return Ok(known.is_found(self.alloc, line)?);
+        }
+        let Some(compiled) = compile(self.alloc, text.as_str())? else {
+            return Ok(false);
+        };
+        let finds = compiled.is_found(self.alloc, line)?;
+        self.compiled.insert(count, compiled)?;
+        Ok(finds)
+    }
+
+    /// Returns the first match of the beginning of `count` pieces in the line, or `None` if it finds
+    /// nothing.
+    ///
+    /// # Errors
+    ///
+    /// If an allocation fails.
+    pub fn find(&self, count: usize, line: &str) -> Result<Option<Found>, AllocError>
+        ensures { IfOk result (IsFirstMatchIn (beginning_text (pieces_of self.now) count) line.now) }
+    {
+        let text = self.text_of(count)?;
+        if let Some(known) = self.known(count, text.as_str()) {
+            return Ok(known.find(self.alloc, line)?);
+        }
+        match compile(self.alloc, text.as_str())? {
+            Some(compiled) => Ok(compiled.find(self.alloc, line)?),
+            None => Ok(None),
+        }
+    }
+
+    /// Returns how many pieces the longest beginning has that finds something in the line: the
+    /// beginning of so many pieces finds something, and the one with the next piece finds nothing.
+    ///
+    /// # Errors
+    ///
+    /// If an allocation fails.
+    pub fn longest(&mut self, line: &str) -> Result<usize, AllocError>
+        ensures longest { IfOk result (IsLongestIn line.now (pieces_of self.old)) }
+        ensures same { pieces_of self.new ≡ pieces_of self.old }
+    {
+        let mut count = 0;
+        let mut too_many = self.pieces.len() + 1;
+        'halves: while too_many - count > 1 {
+            let middle = count + (too_many - count) / 2;
+            if self.finds(middle, line)? {
+                count = middle;
+            } else {
+                too_many = middle;
+            }
+        }
+        Ok(count)
+    }
+}
