@@ -16,9 +16,9 @@ use crate::defs::items::{Item, Label, Meaning};
 use crate::defs::placed_items::{PlacedItem, PlacedItems};
 use crate::errors::fault::{Fault, LEVELS};
 use crate::expand::events::Event;
+use crate::location::{Location, PathStep};
 use std::alloc::AllocError;
 use std::mem;
-use std::ops::Range;
 
 /// A search for an event in the tree of a pattern.
 pub(crate) trait Search<'a> {
@@ -66,13 +66,10 @@ pub(crate) trait Search<'a> {
         ensures definitions { IfOk result (λ is_passed. definitions self.new ≡ definitions self.old) };
 }
 
-/// A piece of a text, and the definitions that lead to the text.
+/// A piece of a text: where it stands, and its item.
 #[derive(Drop)]
 pub(crate) struct Place<'a> {
-    /// The names of the placeholders that lead from the pattern to the text, outermost first.
-    pub path: Vec<&'a str>,
-    pub text: &'a str,
-    pub range: Range<usize>,
+    pub location: Location<'a>,
     pub item: Item<'a>,
 }
 
@@ -193,12 +190,18 @@ fn place_of<'a>(
 {
     let mut path = Vec::new(grok.alloc());
     'texts: for opened in around {
-        path.push(opened.name)?;
+        path.push(PathStep {
+            name: opened.name,
+            range: opened.placed.range.start..opened.placed.range.end,
+        })?;
     }
-    Ok(Place {
+    let location = Location {
         path,
         text,
         range: placed.range,
+    };
+    Ok(Place {
+        location,
         item: placed.item,
     })
 }
