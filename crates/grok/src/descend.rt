@@ -8,7 +8,7 @@ ghost use Rattle.grok.specs.Events.{event_view};
 ghost use Rattle.grok.specs.PlacedItems.{IsOfLibrary, HasRead, left_in};
 ghost use Rattle.grok.specs.FaultLocations.{path_view};
 ghost use Rattle.grok.specs.Searches.{PassesMore, StopsAt};
-ghost use Rattle.grok.specs.Descents.{IsEventStep, IsStep, names_of, FindsPlace};
+ghost use Rattle.grok.specs.Descents.{IsEventStep, IsStep, path_of, FindsPlace};
 
 use crate::defs::Grok;
 use crate::defs::definition::Definition;
@@ -184,9 +184,9 @@ fn place_of<'a>(
     text: &'a str,
     placed: PlacedItem<'a>,
 ) -> Result<Place<'a>, AllocError>
-    ensures path { IfOk result (λ place. path_view place.path.items ≡ names_of around.now) }
-    ensures text { IfOk result (λ place. place.text ≡ text.entry) }
-    ensures placed { IfOk result (λ place. (place.range ≡ placed.entry.range) × (place.item ≡ placed.entry.item)) }
+    ensures path { IfOk result (λ place. path_view place.location.path.items ≡ path_of around.now) }
+    ensures text { IfOk result (λ place. place.location.text ≡ text.entry) }
+    ensures placed { IfOk result (λ place. (place.location.range ≡ placed.entry.range) × (place.item ≡ placed.entry.item)) }
 {
     let mut path = Vec::new(grok.alloc());
     'texts: for opened in around {

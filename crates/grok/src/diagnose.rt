@@ -1,4 +1,10 @@
 //! Finds out what is wrong with a pattern, and where.
+ghost use Rattle.std.specs.Prelude.{◌≡◌, ◌≢◌, ◌+◌, ◌-◌, None, IfOk, IfSome, length as len};
+ghost use Rattle.std.specs.FinMap as finite;
+ghost use Rattle.grok.specs.Tree.{tree as tree_of, first_structural};
+ghost use Rattle.grok.specs.Keys.{first_fault};
+ghost use Rattle.grok.specs.Expanded.{expanded};
+ghost use Rattle.grok.specs.Diagnoses.{Diagnoses, IsDiagnosis, IsRangeOf};
 
 use crate::defs::Grok;
 use crate::errors::fault::Fault;
@@ -153,7 +159,9 @@ impl Grok {
         &'a self,
         pattern: &'a str,
         with_alias_only: bool,
-    ) -> Result<Option<Diagnosis<'a>>, AllocError> {
+    ) -> Result<Option<Diagnosis<'a>>, AllocError>
+        ensures { IfOk result (Diagnoses self.now with_alias_only pattern.now) }
+    {
         if pattern.is_empty() {
             return Ok(Some(Diagnosis::Empty));
         }

@@ -1,11 +1,11 @@
 //! Finds where the first structural fault of a pattern stands, without expanding it.
 ghost use Rattle.std.specs.Prelude.{◌≡◌, IfOk, IfSome, option_map, None, true};
 ghost use Rattle.std.specs.FinMap as finite;
-ghost use Rattle.grok.specs.Tree.{tree, deepest, first_structural};
+ghost use Rattle.grok.specs.Tree.{tree, first_structural};
 ghost use Rattle.grok.specs.Items.{fault_view, item_view};
 ghost use Rattle.grok.specs.MeasureCache.{IsIdle, HasCorrectCache};
 ghost use Rattle.grok.specs.Events.{event_view};
-ghost use Rattle.grok.specs.FaultLocations.{IsFaultAt, path_view};
+ghost use Rattle.grok.specs.FaultLocations.{IsFaultOf};
 ghost use Rattle.grok.specs.FaultSearches.{is_fault, fault_of_item};
 
 use crate::defs::Grok;
@@ -93,11 +93,10 @@ impl Grok {
     ///
     /// If an allocation fails.
     pub(crate) fn locate<'a>(&'a self, pattern: &'a str) -> Result<Option<FaultLocation<'a>>, AllocError>
-        ensures fault { IfOk result (λ found. option_map (λ location. fault_view location.fault) found
+        ensures fault { IfOk result (λ found. option_map (λ at. fault_view at.fault) found
             ≡ first_structural (tree (finite.get self.now) pattern.now)) }
-        ensures location { IfOk result (λ found. IfSome found (λ location.
-            IsFaultAt (finite.get self.now) deepest pattern.now (path_view location.path.items)
-            location.text.now location.range.start location.range.end (fault_view location.fault))) }
+        ensures location { IfOk result (λ found. IfSome found (λ at.
+            IsFaultOf (finite.get self.now) pattern.now (fault_view at.fault) at.location)) }
     {
         let mut search = FaultSearch {
             measurer: Measurer::new(MeasureSettings {

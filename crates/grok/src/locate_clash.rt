@@ -5,7 +5,7 @@ ghost use Rattle.std.specs.Str.{bytes_eq};
 ghost use Rattle.std.specs.String.{string_bytes};
 ghost use Rattle.grok.specs.Tree as tree;
 ghost use Rattle.grok.specs.Tree.{tree as tree_of, reached};
-ghost use Rattle.grok.specs.Keys.{Clash, first_fault, base_key as base_key_of};
+ghost use Rattle.grok.specs.Keys.{Clash as KeyClash, first_fault, base_key as base_key_of};
 ghost use Rattle.grok.specs.NumberedBases.{opens_numbered_from, is_base_in};
 ghost use Rattle.grok.specs.Items.{label_view};
 ghost use Rattle.grok.specs.CountedDefinitions.{AreCounted, opened_events, is_counted};
@@ -216,7 +216,7 @@ fn locate_both<'a>(
     requires known { (base : List ℕ) → is_base_in settings.numbered.now base ≡ opens_numbered_from base
         (reached (tree_of (finite.get settings.grok.now) pattern.now)) }
     requires clash { first_fault settings.with_alias_only
-        (tree_of (finite.get settings.grok.now) pattern.now) ≡ Some (Clash (string_bytes key)) }
+        (tree_of (finite.get settings.grok.now) pattern.now) ≡ Some (KeyClash (string_bytes key)) }
     requires number { HasFittingNumber (string_bytes key) }
     ensures found { IfOk result (λ found. found ≡ None → ⊥) }
     ensures location { IfOk result (λ found. IfSome found (λ clash. IsClashAt
@@ -284,6 +284,8 @@ impl Grok {
         with_alias_only: bool,
         found: &FullMeasure<'a>,
     ) -> Result<Option<Clash<'a>>, AllocError>
+        requires { (base : List ℕ) → is_base_in found.now.numbered base ≡ opens_numbered_from base
+            (reached (tree_of (finite.get self.now) pattern.now)) }
         ensures first { IfOk result (λ found. IsFirstClash (first_fault with_alias_only
             (tree_of (finite.get self.now) pattern.now)) found) }
         ensures location { IfOk result (λ found. IfSome found (λ clash.
