@@ -1,5 +1,5 @@
 -- What is wrong with a pattern, and where.
-use Rattle.std.specs.Prelude.{◌≡◌, ◌≢◌, ℕ, ◌+◌, ◌-◌, Bool, List, [], Option, Some, None, MatchOption, string_bytes}
+use Rattle.std.specs.Prelude.{◌≡◌, ◌≢◌, ℕ, ◌+◌, ◌-◌, min, Bool, List, [], Option, Some, None, MatchOption, string_bytes}
 use Rattle.std.specs.FinMap as finite
 use Rattle.grok.specs.declared.parser.GrokPatternError.{GrokPatternError}
 use Rattle.grok.specs.Maps.{Texts}
@@ -31,7 +31,7 @@ use Rattle.grok.specs.declared.diagnose.Diagnosis.TheVariants as diagnosis
 -- to `to`. A part that begins in regular text was copied from there, up to the end of the piece at most. A part that begins
 -- in the group of a placeholder comes from the whole placeholder.
 abbrev pub IsRangeOf : (length from to : ℕ) → WrittenByte → (begin end : ℕ) → Type 0
-IsRangeOf length from to (Copied offset) begin end = (begin ≡ from + offset) × (end ≡ min (begin + length) to)
+IsRangeOf length from to (Copied offset) begin end = (begin ≡ min (from + offset) to) × (end ≡ min (begin + length) to)
 IsRangeOf length from to OfGroup begin end = (begin ≡ from) × (end ≡ to)
 
 -- the location from which the part from `start` to `stop` of the expanded text comes
@@ -106,6 +106,6 @@ pub record IsFine (texts : Texts) (alias_only : Bool) (pattern : List ℕ) : Typ
   pub regex : IsRegexText (expanded alias_only (tree.tree (finite.get texts) pattern))
 
 -- THE DIAGNOSIS OF A PATTERN: what is wrong with it, or `None` if nothing is.
-abbrev pub Diagnoses : Texts → Bool → List ℕ → Option Diagnosis → Type 0
-Diagnoses texts alias_only pattern found = MatchOption found (IsFine texts alias_only pattern)
+abbrev pub FindsDiagnosis : Texts → Bool → List ℕ → Option Diagnosis → Type 0
+FindsDiagnosis texts alias_only pattern found = MatchOption found (IsFine texts alias_only pattern)
     (IsDiagnosis texts alias_only pattern)

@@ -1,17 +1,20 @@
 //! Finds out what is wrong with a pattern, and where.
-ghost use Rattle.std.specs.Prelude.{◌≡◌, ◌≢◌, ◌+◌, ◌-◌, None, IfOk, IfSome, length as len};
+ghost use Rattle.std.specs.Prelude.{◌≡◌, ◌≢◌, ◌-◌, ℕ, List, [], Some, None, IfOk, MatchOption, length as len};
 ghost use Rattle.std.specs.FinMap as finite;
 ghost use Rattle.grok.specs.Tree.{tree as tree_of, first_structural};
-ghost use Rattle.grok.specs.Keys.{first_fault};
+ghost use Rattle.grok.specs.Keys.{Clash as KeyClash, first_fault};
 ghost use Rattle.grok.specs.Expanded.{expanded};
-ghost use Rattle.grok.specs.Diagnoses.{Diagnoses, IsDiagnosis, IsRangeOf};
+ghost use Rattle.grok.specs.ByteLocations.{HasByte};
+ghost use Rattle.grok.specs.Diagnoses.{IsRangeOf, IsOriginOf, LocatesReason, FindsDiagnosis};
 
 use crate::defs::Grok;
 use crate::errors::fault::Fault;
+use crate::expand::write::ExpandedPattern;
+use crate::locate::FaultLocation;
 use crate::locate_byte::WrittenByte;
 use crate::locate_clash::Clash;
 use crate::location::Location;
-use crate::malformed::{MalformedReason, malformation_of};
+use crate::malformed::{MalformedReason, malformation_at};
 use crate::measure::Measure;
 use crate::why_refused::{RefusalReason, reason_for};
 use std::alloc::AllocError;
@@ -59,53 +62,61 @@ pub struct Refused<'a> {
     pub location: Option<Location<'a>>,
 }
 
-/// Returns the diagnosis of a malformed placeholder.
-fn malformed<'a>(location: Location<'a>) -> Option<Diagnosis<'a>> {
-    let inside = &location.text[location.range.start + 2..];
-    let malformation = malformation_of(inside)?;
-    Some(Diagnosis::Malformed {
-        reason: malformation.reason,
-        byte: location.text.len() - malformation.rest.len(),
-        location,
-    })
-}
-
-/// Returns the diagnosis of a pattern that has a structural fault at this location.
-fn structural<'a>(fault: Fault<'a>, location: Location<'a>) -> Option<Diagnosis<'a>> {
-    match fault {
-        Fault::Malformed(_) => malformed(location),
-        Fault::Missing(name) => Some(Diagnosis::Missing { name, location }),
-        Fault::TooDeep => Some(Diagnosis::TooDeep(location)),
+/// Returns the byte range that a part of the expanded text comes from, which begins with this byte
+/// of `piece` and is `length` bytes long.
+fn origin_in(piece: &Range<usize>, begin: WrittenByte, length: usize) -> Range<usize>
+    ensures { IsRangeOf length piece.now.start piece.now.end begin result.start result.end }
+{
+    match begin {
+        WrittenByte::OfGroup => piece.start..piece.end,
+        WrittenByte::Copied(offset) => {
+            let start = piece.start.saturating_add(offset).min(piece.end);
+            start..start.saturating_add(length).min(piece.end)
+        }
     }
 }
 
-/// Returns the part of a piece that was copied from `offset` bytes after its start, `length` bytes
-/// long, but not beyond the end of the piece.
-fn copied_part(piece: &Range<usize>, offset: usize, length: usize) -> Range<usize> {
-    let start = piece.start + offset;
-    let left = piece.end - start;
-    start..start + length.min(left)
-}
-
 impl Grok {
-    /// Returns what wrote this part of the expanded text of a pattern.
-    fn locate_part<'a>(
+    /// Returns where this part of the expanded text of a pattern comes from. Returns `None` if it is
+    /// at the end of the expanded text.
+    fn origin_of_part<'a>(
         &'a self,
         pattern: &'a str,
         with_alias_only: bool,
-        part: Range<usize>,
-    ) -> Result<Option<Location<'a>>, AllocError> {
+        part: &Range<usize>,
+    ) -> Result<Option<Location<'a>>, AllocError>
+        ensures { IfOk result (λ found. MatchOption found
+            (HasByte with_alias_only (tree_of (finite.get self.now) pattern.now) part.now.start → ⊥)
+            (IsOriginOf (finite.get self.now) with_alias_only pattern.now part.now.start part.now.end)) }
+    {
         let Some(found) = self.locate_byte(pattern, with_alias_only, part.start)? else {
             return Ok(None);
         };
-        let Location { path, text, range } = found.location;
-        let range = match found.part {
-            WrittenByte::Copied(offset) => {
-                copied_part(&range, offset, part.end.saturating_sub(part.start))
+        let length = part.end.saturating_sub(part.start);
+        let piece = found.location;
+        Ok(Some(Location {
+            range: origin_in(&piece.range, found.part, length),
+            path: piece.path,
+            text: piece.text,
+        }))
+    }
+
+    /// Returns where the reason of a refusal stands.
+    fn locate_reason<'a>(
+        &'a self,
+        pattern: &'a str,
+        with_alias_only: bool,
+        reason: RefusalReason,
+    ) -> Result<Option<Location<'a>>, AllocError>
+        ensures { IfOk result (LocatesReason (finite.get self.now) with_alias_only pattern.now reason) }
+    {
+        match reason {
+            RefusalReason::TooBig => Ok(None),
+            RefusalReason::Syntax(error) => {
+                let part = error.span.start..error.span.end;
+                self.origin_of_part(pattern, with_alias_only, &part)
             }
-            WrittenByte::OfGroup => range,
-        };
-        Ok(Some(Location { path, text, range }))
+        }
     }
 
     /// Returns the diagnosis of a pattern without a fault, whose expanded text has `length` bytes.
@@ -114,19 +125,19 @@ impl Grok {
         pattern: &'a str,
         with_alias_only: bool,
         length: usize,
-    ) -> Result<Option<Diagnosis<'a>>, AllocError> {
-        let expanded = self.expand_clean(pattern, with_alias_only, length)?;
-        let text = expanded.text;
+    ) -> Result<Option<Diagnosis<'a>>, AllocError>
+        requires some { pattern.now ≢ [] }
+        requires clean { first_fault with_alias_only
+            (tree_of (finite.get self.now) pattern.now) ≡ None }
+        requires long { length ≡ len (expanded with_alias_only
+            (tree_of (finite.get self.now) pattern.now)) }
+        ensures { IfOk result (FindsDiagnosis self.now with_alias_only pattern.now) }
+    {
+        let ExpandedPattern { text, .. } = self.expand_clean(pattern, with_alias_only, length)?;
         let Some(reason) = reason_for(self.alloc(), text.as_str())? else {
             return Ok(None);
         };
-        let location = match reason {
-            RefusalReason::Syntax(error) => {
-                let part = error.span.start..error.span.end;
-                self.locate_part(pattern, with_alias_only, part)?
-            }
-            RefusalReason::TooBig => None,
-        };
+        let location = self.locate_reason(pattern, with_alias_only, reason)?;
         Ok(Some(Diagnosis::Refused(Refused {
             text,
             reason,
@@ -138,11 +149,28 @@ impl Grok {
     fn diagnose_structural<'a>(
         &'a self,
         pattern: &'a str,
-    ) -> Result<Option<Diagnosis<'a>>, AllocError> {
-        match self.locate(pattern)? {
-            None => Ok(None),
-            Some(found) => Ok(structural(found.fault, found.location)),
-        }
+        with_alias_only: bool,
+    ) -> Result<Option<Diagnosis<'a>>, AllocError>
+        requires faulty { first_structural (tree_of (finite.get self.now) pattern.now) ≢ None }
+        requires no_clash { (key : List ℕ) → first_fault with_alias_only
+            (tree_of (finite.get self.now) pattern.now) ≢ Some (KeyClash key) }
+        ensures { IfOk result (FindsDiagnosis self.now with_alias_only pattern.now) }
+    {
+        let Some(FaultLocation { fault, location }) = self.locate(pattern)? else {
+            return Ok(None);
+        };
+        Ok(Some(match fault {
+            Fault::Missing(name) => Diagnosis::Missing { name, location },
+            Fault::TooDeep => Diagnosis::TooDeep(location),
+            Fault::Malformed(_) => {
+                let (reason, byte) = malformation_at(location.text, location.range.start);
+                Diagnosis::Malformed {
+                    reason,
+                    byte,
+                    location,
+                }
+            }
+        }))
     }
 
     /// Finds out why [`Grok::compile`] returns an error for a pattern, and where in the pattern or
@@ -160,7 +188,7 @@ impl Grok {
         pattern: &'a str,
         with_alias_only: bool,
     ) -> Result<Option<Diagnosis<'a>>, AllocError>
-        ensures { IfOk result (Diagnoses self.now with_alias_only pattern.now) }
+        ensures { IfOk result (FindsDiagnosis self.now with_alias_only pattern.now) }
     {
         if pattern.is_empty() {
             return Ok(Some(Diagnosis::Empty));
@@ -172,9 +200,10 @@ impl Grok {
         if let Some(clash) = self.locate_clash(pattern, with_alias_only, &found)? {
             return Ok(Some(Diagnosis::Clash(clash)));
         }
-        match found.measure {
-            Measure::Size { length, .. } => self.diagnose_refusal(pattern, with_alias_only, length),
-            Measure::Fault(_) | Measure::TooLong => self.diagnose_structural(pattern),
+        if let Measure::Size { length, .. } = found.measure {
+            self.diagnose_refusal(pattern, with_alias_only, length)
+        } else {
+            self.diagnose_structural(pattern, with_alias_only)
         }
     }
 }

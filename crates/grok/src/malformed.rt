@@ -1,4 +1,8 @@
 //! Finds out why a placeholder is malformed, and where in it.
+ghost use Rattle.std.specs.Prelude.{◌≡◌};
+ghost use Rattle.grok.specs.Pieces.{is_word_byte};
+ghost use Rattle.grok.specs.Grammar.{NameWord, next_word, is_legal, HasDefinition};
+ghost use Rattle.grok.specs.Malformations.{kind_view, word_reason, IsAfterWord, IsDefinitionMalformed, HasFault, IsMalformedFrom, IsMalformedAt, HasMalformedAt};
 
 use crate::parser::{is_terminator, split_brace, split_word};
 
@@ -41,7 +45,9 @@ enum WordKind {
 
 impl WordKind {
     /// Returns the kind of the word that follows a word of this kind and a `:`.
-    fn next(self) -> WordKind {
+    fn next(self) -> WordKind
+        ensures { kind_view result ≡ next_word (kind_view self) }
+    {
         match self {
             WordKind::Name => WordKind::Alias,
             WordKind::Alias => WordKind::Extract,
@@ -51,19 +57,23 @@ impl WordKind {
     }
 
     /// Returns whether a word of this kind is the name.
-    fn is_name(self) -> bool {
+    fn is_name(self) -> bool
+        ensures { is_word_byte result ≡ is_legal (kind_view self) }
+    {
         matches!(self, WordKind::Name)
     }
 
     /// Returns why a word of this kind is malformed that ends with `terminator`, or `None` if it
     /// isn't.
-    fn reason(self, is_empty: bool, terminator: char) -> Option<MalformedReason> {
+    fn reason(self, is_empty: bool, terminator: char) -> Option<MalformedReason>
+        ensures { result ≡ word_reason (kind_view self) is_empty terminator }
+    {
         match self {
+            WordKind::Fourth => Some(MalformedReason::FourthWord),
             WordKind::Name if is_empty => Some(MalformedReason::NoName),
             WordKind::Alias if is_empty && terminator != ':' => Some(MalformedReason::NoAlias),
             WordKind::Extract if is_empty => Some(MalformedReason::NoExtract),
-            WordKind::Fourth => Some(MalformedReason::FourthWord),
-            _ => None,
+            WordKind::Name | WordKind::Alias | WordKind::Extract => None,
         }
     }
 }
@@ -82,7 +92,9 @@ enum AfterWord<'a> {
 }
 
 /// Returns what follows the word of this kind that a text begins with.
-fn after_word<'a>(kind: WordKind, text: &'a str) -> AfterWord<'a> {
+fn after_word<'a>(kind: WordKind, text: &'a str) -> AfterWord<'a>
+    ensures { IsAfterWord (kind_view kind) text.now result }
+{
     let (word, rest) = split_word(text, kind.is_name());
     let mut characters = rest.chars();
     let Some(terminator) = characters.next() else {
@@ -107,34 +119,49 @@ fn after_word<'a>(kind: WordKind, text: &'a str) -> AfterWord<'a> {
     }
 }
 
-/// Returns why the definition that a text begins with is malformed, or `None` if it isn't.
-fn malformation_of_definition<'a>(text: &'a str) -> Option<Malformation<'a>> {
-    let (definition, rest) = split_brace(text);
-    let reason = if rest.is_empty() {
-        MalformedReason::Unclosed
-    } else if rest.starts_with('{') {
-        MalformedReason::BraceInDefinition
-    } else if definition.is_empty() {
-        MalformedReason::NoDefinition
-    } else {
-        return None;
+/// Returns why the definition that a text begins with is malformed.
+fn malformation_of_definition<'a>(text: &'a str) -> Malformation<'a>
+    requires { HasDefinition text.now → ⊥ }
+    ensures { IsDefinitionMalformed text.now result.reason result.rest.now }
+{
+    let (_definition, rest) = split_brace(text);
+    let reason = match rest.as_bytes().first() {
+        None => MalformedReason::Unclosed,
+        Some(b'{') => MalformedReason::BraceInDefinition,
+        Some(_) => MalformedReason::NoDefinition,
     };
-    Some(Malformation { reason, rest })
+    Malformation { reason, rest }
 }
 
-/// Returns why the placeholder is malformed whose `%{` this text follows, or `None` if it isn't.
-pub(crate) fn malformation_of<'a>(text: &'a str) -> Option<Malformation<'a>> {
+/// Returns why the placeholder is malformed whose `%{` this text follows.
+fn malformation_of<'a>(text: &'a str) -> Malformation<'a>
+    requires { HasFault NameWord text.now }
+    ensures { IsMalformedFrom NameWord text.now result.reason result.rest.now }
+{
     let mut kind = WordKind::Name;
-    let mut text = text;
+    let mut rest = text;
     'words: loop {
-        match after_word(kind, text) {
-            AfterWord::Malformed(malformation) => return Some(malformation),
+        match after_word(kind, rest) {
+            AfterWord::Malformed(malformation) => return malformation,
             AfterWord::Definition(definition) => return malformation_of_definition(definition),
-            AfterWord::Close => return None,
+            AfterWord::Close => unreachable!(),
             AfterWord::Word(next) => {
                 kind = kind.next();
-                text = next;
+                rest = next;
             }
         }
     }
+}
+
+/// Returns why the placeholder is malformed that begins at the byte `from` of the text, and the byte
+/// from which on it is malformed.
+pub(crate) fn malformation_at(text: &str, from: usize) -> (MalformedReason, usize)
+    requires { HasMalformedAt text.now from }
+    ensures { IsMalformedAt text.now from result.0 result.1 }
+{
+    let malformation = malformation_of(&text[from + 2..]);
+    (
+        malformation.reason,
+        text.len() - malformation.rest.len(),
+    )
 }

@@ -1,8 +1,7 @@
 //! Finds out why `regex` refuses the expanded text of a pattern.
 ghost use Rattle.std.specs.Prelude.{◌≡◌, ◌≢◌, IfOk, MatchOption, MatchResult};
 ghost use Rattle.regex.specs.declared.error.Error.TheVariants.{Internal, OutOfMemory};
-ghost use Rattle.grok.specs.Compiled.{expansion_of};
-ghost use Rattle.grok.specs.Refusals.{regex_error_of, IsRegexText, IsReasonFor, Examines};
+ghost use Rattle.grok.specs.Refusals.{regex_error_of, IsRegexText, IsReasonFor};
 
 use regex::Regex;
 use std::alloc::{AllocError, Global};

@@ -20,8 +20,6 @@ use Rattle.grok.specs.declared.errors.error.Error.TheVariants as rust
 use Rattle.grok.specs.Errors.{ErrorValue, Memory, error_value}
 use Rattle.grok.specs.Compiled.{IsFaultError, IsFirstError, error_of_refusal, IsBuilt, IsRefusal, Refused, Expansion, Compiles, IsCompileError, Empty, First, Unbuilt, NoMemory}
 use Rattle.grok.specs.declared.expand.write.ExpandedPattern.{ExpandedPattern}
-use Rattle.grok.specs.declared.why_refused.RegexRefusal.{RegexRefusal}
-use Rattle.grok.specs.Refusals.{Examines}
 use Rattle.grok.specs.Expansions.{NeverRefuses, IsExpansionError, IsExpansionOf, Expands}
 
 -- ---- what was measured
@@ -129,10 +127,6 @@ module _ (e : Expansion) (some : e.pattern ≢ []) where
   pub expansion_without_memory : (r : Result ExpandedPattern Error) → IsErrAnd r (λ error. error ≡ rust.Memory) → Expands e r
   expansion_without_memory (Ok p) h = elim h [ ]
   expansion_without_memory (Err error) h = subst (λ is. IsExpansionError e is) (sym h) (NoMemory some)
-
-  pub examined_without_memory : (r : Result (Option RegexRefusal) Error) → IsErrAnd r (λ error. error ≡ rust.Memory) → Examines e r
-  examined_without_memory (Ok found) h = elim h [ ]
-  examined_without_memory (Err error) h = subst (λ is. IsExpansionError e is) (sym h) (NoMemory some)
 
 module _ {E : Type 0} (source_of : E → List ℕ) (group_names : E → List (Option (List ℕ))) (may_refuse : List ℕ → Type 0) (e : Expansion) where
   pub unexpanded_answer : (r : Result (PatternValue E) Error) (error : Error) → IsErrAnd r (λ same. same ≡ error) → IsExpansionError e error → Compiles source_of group_names may_refuse e r
