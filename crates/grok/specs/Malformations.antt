@@ -37,7 +37,7 @@ pub data IsWordMalformed (kind : WordKind) (text : List ℕ) : MalformedReason �
 -- The definition at the start of the text is malformed for this reason, from `rest` on, which is what follows the bytes
 -- other than braces.
 pub data IsDefinitionMalformed (text : List ℕ) : MalformedReason → (rest : List ℕ) → Type 0 where
-  Ends : drop (position_or_len is_brace text) text ≡ [] → IsDefinitionMalformed text reason.Unclosed []
+  Stops : drop (position_or_len is_brace text) text ≡ [] → IsDefinitionMalformed text reason.Unclosed []
   Brace : (more : List ℕ) → drop (position_or_len is_brace text) text ≡ open_brace ∷ more
       → IsDefinitionMalformed text reason.BraceInDefinition (open_brace ∷ more)
   Nothing : (more : List ℕ) → drop (position_or_len is_brace text) text ≡ close_brace ∷ more

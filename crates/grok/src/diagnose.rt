@@ -194,16 +194,18 @@ impl Grok {
             return Ok(Some(Diagnosis::Empty));
         }
         let found = self.measure_fully(pattern, with_alias_only)?;
-        if let Measure::TooLong = found.measure {
-            return Ok(Some(Diagnosis::TooLong));
-        }
-        if let Some(clash) = self.locate_clash(pattern, with_alias_only, &found)? {
-            return Ok(Some(Diagnosis::Clash(clash)));
-        }
-        if let Measure::Size { length, .. } = found.measure {
-            self.diagnose_refusal(pattern, with_alias_only, length)
-        } else {
-            self.diagnose_structural(pattern, with_alias_only)
+        match found.measure {
+            Measure::TooLong => Ok(Some(Diagnosis::TooLong)),
+            Measure::Fault(_) => match self.locate_clash(pattern, with_alias_only, &found)? {
+                Some(clash) => Ok(Some(Diagnosis::Clash(clash))),
+                None => self.diagnose_structural(pattern, with_alias_only),
+            },
+            Measure::Size { length, .. } => {
+                match self.locate_clash(pattern, with_alias_only, &found)? {
+                    Some(clash) => Ok(Some(Diagnosis::Clash(clash))),
+                    None => self.diagnose_refusal(pattern, with_alias_only, length),
+                }
+            }
         }
     }
 }

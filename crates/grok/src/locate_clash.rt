@@ -10,7 +10,7 @@ ghost use Rattle.grok.specs.NumberedBases.{opens_numbered_from, is_base_in};
 ghost use Rattle.grok.specs.Items.{label_view};
 ghost use Rattle.grok.specs.CountedDefinitions.{AreCounted, opened_events, is_counted};
 ghost use Rattle.grok.specs.FirstFaultSteps.{HasFittingNumber};
-ghost use Rattle.grok.specs.Clashs.{IsClashAt, IsFirstClash};
+ghost use Rattle.grok.specs.ClashLocations.{IsClashAt, IsFirstClash};
 ghost use Rattle.grok.specs.UseSearches.{HasPassed, HasPassedEvents, HasPassedUses, IsSoughtUse, FindsUse};
 
 use crate::defs::Grok;
@@ -250,20 +250,25 @@ fn locate_both<'a>(
         return Ok(None);
     };
     let base = String::from_str(settings.grok.alloc(), base)?;
-    let is_alias_first = so_far.is_other_used;
-    let (first, second) = if is_alias_first {
-        (own, numbered)
+    if so_far.is_other_used {
+        Ok(Some(Clash {
+            key,
+            base,
+            number,
+            is_alias_first: true,
+            first: own,
+            second: numbered,
+        }))
     } else {
-        (numbered, own)
-    };
-    Ok(Some(Clash {
-        key,
-        base,
-        number,
-        is_alias_first,
-        first,
-        second,
-    }))
+        Ok(Some(Clash {
+            key,
+            base,
+            number,
+            is_alias_first: false,
+            first: numbered,
+            second: own,
+        }))
+    }
 }
 
 impl Grok {
