@@ -5,7 +5,7 @@ use Rattle.std.specs.List.{position_or_len, before_first}
 use Rattle.std.specs.Str.{chars}
 use Rattle.grok.specs.Ascii.{close_brace, colon, equals_sign, open_brace}
 use Rattle.grok.specs.Pieces.{is_terminator, is_brace, is_empty}
-use Rattle.grok.specs.Grammar.{WordKind, NameWord, AliasWord, ExtractWord, FourthWord, next_word, word_of, after_word, HasNoWordFault, IsFaultFrom, IsFault, IsOpenAt}
+use Rattle.grok.specs.Grammar.{WordKind, NameWord, AliasWord, ExtractWord, FourthWord, next_word, word_of, after_word, HasNoWordFault, IsFaultFrom, IsOpenAt}
 use Rattle.grok.specs.declared.parser.GrokPatternError.{GrokPatternError}
 use Rattle.grok.specs.declared.malformed.MalformedReason.{MalformedReason}
 use Rattle.grok.specs.declared.malformed.WordKind as code

@@ -92,7 +92,10 @@ impl Grok {
     /// # Errors
     ///
     /// If an allocation fails.
-    pub(crate) fn locate<'a>(&'a self, pattern: &'a str) -> Result<Option<FaultLocation<'a>>, AllocError>
+    pub(crate) fn locate<'a>(
+        &'a self,
+        pattern: &'a str,
+    ) -> Result<Option<FaultLocation<'a>>, AllocError>
         ensures fault { IfOk result (λ found. option_map (λ at. fault_view at.fault) found
             ≡ first_structural (tree (finite.get self.now) pattern.now)) }
         ensures location { IfOk result (λ found. IfSome found (λ at.

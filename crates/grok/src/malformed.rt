@@ -172,8 +172,5 @@ pub(crate) fn malformation_at(text: &str, from: usize) -> (MalformedReason, usiz
     ensures { IsMalformedAt text.now from result.0 result.1 }
 {
     let malformation = malformation_of(&text[from + 2..]);
-    (
-        malformation.reason,
-        text.len() - malformation.rest.len(),
-    )
+    (malformation.reason, text.len() - malformation.rest.len())
 }

@@ -11,7 +11,7 @@ use Rattle.std.proofs.lemmas.Str.{IsCharBoundary-after_ascii, encode_ascii}
 use Rattle.grok.specs.declared.parser.GrokPatternError.{GrokPatternError}
 use Rattle.grok.specs.declared.malformed.MalformedReason.{MalformedReason}
 use Rattle.grok.specs.Pieces.{is_terminator, is_brace, is_empty}
-use Rattle.grok.specs.Grammar.{NonePass, WordKind, NameWord, AliasWord, ExtractWord, FourthWord, next_word, is_legal, word_of, after_word, IsWordFault, Ends, Odd, NoName, TooMany, NoExtract, NoAlias, HasNoWordFault, HasDefinition, IsFaultFrom, Here, Later, Undefined, IsOpenAt}
+use Rattle.grok.specs.Grammar.{NonePass, WordKind, NameWord, AliasWord, ExtractWord, FourthWord, next_word, is_legal, word_of, after_word, Ends, Odd, NoName, TooMany, NoExtract, NoAlias, HasNoWordFault, HasDefinition, IsFaultFrom, Here, Later, Undefined, IsOpenAt}
 use Rattle.grok.specs.Malformations.{word_reason, IsWordMalformed, IsDefinitionMalformed, IsMalformedFrom, IsMalformedAt, HasFault}
 use Rattle.grok.specs.Malformations as why
 use Rattle.grok.specs.declared.malformed.MalformedReason.TheVariants as reason

@@ -1,12 +1,12 @@
 -- The fault that is located is the one that compiling finds first.
-use Rattle.std.proofs.Common.{◌≡◌, ◌≢◌, ℕ, ◌+◌, Bool, List, [], ◌∷◌, ◌++◌, length, drop, Option, Some, None, Result, Ok, Err, refl, sym, ◌∙◌, ap, subst, arith}
+use Rattle.std.proofs.Common.{◌≡◌, ℕ, Bool, List, [], ◌∷◌, ◌++◌, length, Option, Some, None, sym, ◌∙◌, ap, subst, arith}
 use Rattle.std.specs.Option.{option_map}
 use Rattle.std.specs.FinMap as finite
 use Rattle.grok.specs.declared.parser.GrokPatternError.{GrokPatternError}
 use Rattle.grok.specs.Maps.{Texts}
-use Rattle.grok.specs.Pieces.{Piece, Regular, Placeholder, Malformed, Parts, pieces}
-use Rattle.grok.specs.Grammar.{NameWord, ArePieces}
-use Rattle.grok.specs.Tree.{Definitions, no_definitions, with_written, label_of, Fault, MalformedPiece, Missing, TooDeep, Event, Item, TextItem, FaultItem, PlaceholderItem, resolved, placeholder_item, items_after, items_of, tree, first_structural}
+use Rattle.grok.specs.Pieces.{Piece, Regular, Placeholder, Malformed, Parts}
+use Rattle.grok.specs.Grammar.{ArePieces}
+use Rattle.grok.specs.Tree.{Definitions, no_definitions, with_written, label_of, Fault, MalformedPiece, Item, FaultItem, resolved, items_after, tree, first_structural}
 use Rattle.grok.specs.Keys.{TreeFault, Structural, Clash, first_fault}
 use Rattle.grok.specs.FaultLocations.{Step, end_of_all, IsPieceAt, IsOwnFault, IsFaultAt, IsFaultOf}
 use Rattle.grok.specs.FaultLocations as faults

@@ -1,4 +1,4 @@
-use Rattle.std.proofs.Common.{refl, inl, inr}
+use Rattle.std.proofs.Common.{inl, inr}
 use Rattle.grok.specs.Items.{label_view, meaning_view}
 use Rattle.grok.specs.ByteLocations.{OfGroup, Copied}
 use Rattle.grok.proofs.locate_byte.part_of_item.Goals as goal

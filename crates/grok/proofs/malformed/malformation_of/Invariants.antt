@@ -1,4 +1,4 @@
-use Rattle.std.proofs.Common.{◌≡◌, ℕ, List, length}
+use Rattle.std.proofs.Common.{ℕ, List, length}
 use Rattle.std.specs.Str.{IsUtf8}
 use Rattle.grok.specs.Grammar.{NameWord}
 use Rattle.grok.specs.declared.malformed.MalformedReason.{MalformedReason}

@@ -28,6 +28,6 @@ returns-in-Malformed c = record {
   fault = c.in-Malformed.field-0;
   structural = subst (λ (fault : Fault). IsFirstStructural c.args.self.now c.args.with_alias_only c.args.pattern.now (fault_view fault) c.in-Some.found.location) c.in-Malformed.is
       (first_structural_at c.args.self.now c.args.with_alias_only c.args.pattern.now (fault_view c.in-Some.found.fault) c.in-Some.found.location c.requires.no_clash
-    (rw c.in-Some.is at c.in_ok-found.ensures.fault) (rw c.in-Some.is at c.in_ok-found.ensures.location));
+      (rw c.in-Some.is at c.in_ok-found.ensures.fault) (rw c.in-Some.is at c.in_ok-found.ensures.location));
   malformed = c.malformation_at-reason.ensures;
 }
