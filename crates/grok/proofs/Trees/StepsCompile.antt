@@ -1,6 +1,6 @@
 -- What measuring, assigning keys and building return together is the result of compiling.
 use Rattle.std.proofs.Common.{◌≡◌, ◌≢◌, ℕ, suc, ◌<◌, ◌^◌, Bool, true, false, cond, List, [], ◌∷◌, length, map, Option, Some, None, Result, Ok, Err, ◌⊎◌, inl, inr, refl, sym, ◌∙◌, ap, subst, arith}
-use Rattle.std.specs.Prelude.{nat_lt, ◌==◌, MatchResult, IsErrAnd}
+use Rattle.std.specs.Prelude.{nat_lt, ◌==◌, MatchResult, IsErrAnd, IfOk}
 use Rattle.std.specs.Option.{option_map}
 use Rattle.std.specs.String.{string_bytes}
 use Rattle.std.specs.BTreeMap.{get_by_text}
@@ -18,10 +18,8 @@ use Rattle.grok.specs.AssignedKeys.{HasKeys}
 use Rattle.grok.specs.declared.errors.error.Error.{Error}
 use Rattle.grok.specs.declared.errors.error.Error.TheVariants as rust
 use Rattle.grok.specs.Errors.{ErrorValue, Memory, error_value}
-use Rattle.grok.specs.Compiled.{IsFaultError, IsFirstError, error_of_refusal, IsBuilt, IsRefusal, Refused, Expansion, Compiles, IsCompileError, Empty, First, Unbuilt, NoMemory}
+use Rattle.grok.specs.Compiled.{IsFaultError, IsFirstError, error_of_refusal, IsBuilt, IsRefusal, Refused, Expansion, CanBuild, Compiles, IsCompileError, Empty, First, Unbuilt, NoMemory}
 use Rattle.grok.specs.declared.expand.write.ExpandedPattern.{ExpandedPattern}
-use Rattle.grok.specs.declared.why_refused.RegexRefusal.{RegexRefusal}
-use Rattle.grok.specs.Refusals.{Examines}
 use Rattle.grok.specs.Expansions.{NeverRefuses, IsExpansionError, IsExpansionOf, Expands}
 
 -- ---- what was measured
@@ -130,9 +128,11 @@ module _ (e : Expansion) (some : e.pattern ≢ []) where
   expansion_without_memory (Ok p) h = elim h [ ]
   expansion_without_memory (Err error) h = subst (λ is. IsExpansionError e is) (sym h) (NoMemory some)
 
-  pub examined_without_memory : (r : Result (Option RegexRefusal) Error) → IsErrAnd r (λ error. error ≡ rust.Memory) → Examines e r
-  examined_without_memory (Ok found) h = elim h [ ]
-  examined_without_memory (Err error) h = subst (λ is. IsExpansionError e is) (sym h) (NoMemory some)
+-- expanding a pattern without a fault
+pub expansion_if : {E : Type 0} (e : Expansion) (r : Result ExpandedPattern E) → e.pattern ≢ [] → CanBuild e → IfOk r (λ found. string_bytes found.text ≡ expanded e.alias_only e.tree)
+    → IfOk r (λ found. HasKeys e.alias_only e.tree found.keys) → IfOk r (IsExpansionOf e)
+expansion_if e (Ok found) some can text keys = record { some = some; can = can; text = text; keys = keys }
+expansion_if e (Err error) some can text keys = tt
 
 module _ {E : Type 0} (source_of : E → List ℕ) (group_names : E → List (Option (List ℕ))) (may_refuse : List ℕ → Type 0) (e : Expansion) where
   pub unexpanded_answer : (r : Result (PatternValue E) Error) (error : Error) → IsErrAnd r (λ same. same ≡ error) → IsExpansionError e error → Compiles source_of group_names may_refuse e r
