@@ -13,3 +13,4 @@ pub mod PiecesAreUnique
 pub mod PieceLaws
 pub mod PartsEndAtBoundaries
 pub mod OneMoreSpan
+pub mod MalformedHasReason

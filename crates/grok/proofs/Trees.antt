@@ -9,3 +9,4 @@ pub mod DescentFindsPlace
 pub mod ByteIsLocated
 pub mod FaultInPlaceOfOpen
 pub mod StepsCompile
+pub mod DiagnosisIsFirstFault

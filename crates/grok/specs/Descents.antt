@@ -3,6 +3,7 @@ use Rattle.std.specs.Prelude.{◌≡◌, ℕ, suc, List, [], ◌∷◌, ◌++◌
 use Rattle.grok.specs.Tree.{Definitions, Label, Meaning, Item, PlaceholderItem, Event, Open, items_of, events, inside, tree, deepest}
 use Rattle.grok.specs.Items.{item_view, meaning_view}
 use Rattle.grok.specs.FaultLocations.{path_view}
+use Rattle.grok.specs.FaultLocations as location
 use Rattle.grok.specs.ByteLocations.{IsOwnEvent, IsEventAt}
 use Rattle.grok.specs.Searches.{Passing, Seeking}
 use Rattle.grok.specs.declared.descend.Opened.{Opened}
@@ -46,9 +47,13 @@ IsStep passes stops stored levels item step.Stopped old new = StopsInItem passes
 IsStep passes stops stored levels item (step.Entered name meaning) old new =
     EntersItem passes levels item name.now (meaning_view meaning) old new
 
--- the names of the placeholders whose definitions are entered, outermost first
-abbrev pub names_of : List Opened → List (List ℕ)
-names_of around = map (λ (opened : Opened). opened.name.now) around
+-- the placeholder whose definition is entered, as a step of a path
+abbrev pub step_of : Opened → location.Step
+step_of opened = record { name = opened.name.now; from = opened.placed.range.start; to = opened.placed.range.end }
+
+-- the placeholders whose definitions are entered, outermost first
+abbrev pub path_of : List Opened → List location.Step
+path_of around = map step_of around
 
 -- THE PLACE that a search finds in a pattern's tree. The tree is cut at an event. The search passed over all events
 -- before it, it is the sought one, and it is an event of the piece at this place.
@@ -60,8 +65,8 @@ pub record IsFoundAt {S : Type 0} (has_passed : Passing S) (is_sought : Seeking 
   pub cut : tree stored pattern ≡ before ++ event ∷ after
   pub passed : has_passed old before new
   pub sought : is_sought old before event
-  pub stands : IsEventAt stored deepest pattern (path_view place.path.items) place.text.now place.range.start
-      place.range.end (item_view place.item) before event
+  pub stands : IsEventAt stored deepest pattern (path_view place.location.path.items) place.location.text.now place.location.range.start
+      place.location.range.end (item_view place.item) before event
 
 -- what a search returns: the place of the sought event, or `None` if it passed over the whole tree
 abbrev pub FindsPlace : {S : Type 0} → Passing S → Seeking S → Definitions → List ℕ → Option Place → S → S → Type 0

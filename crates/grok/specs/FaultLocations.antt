@@ -1,9 +1,10 @@
--- Where the first structural fault of a pattern stands: the names of the definitions that lead to it, and the
--- byte range of the piece that has it.
+-- Where the first structural fault of a pattern stands: the placeholders that lead to it, and the byte range of the
+-- piece that has it.
 use Rattle.std.specs.Prelude.{◌≡◌, ℕ, zero, suc, List, [], ◌∷◌, ◌++◌, length, map, Option, Some, None}
-use Rattle.std.specs.Borrow.{Bor}
 use Rattle.grok.specs.Pieces.{Piece, Regular, Placeholder, Malformed, pieces}
-use Rattle.grok.specs.Tree.{Definitions, Fault, TooDeep, Label, Meaning, Stored, Item, FaultItem, PlaceholderItem, items_of, events, inside, first_structural}
+use Rattle.grok.specs.Tree.{Definitions, Fault, TooDeep, Label, Meaning, Stored, Item, FaultItem, PlaceholderItem, items_of, events, inside, deepest, first_structural}
+use Rattle.grok.specs.declared.location.PathStep.{PathStep}
+use Rattle.grok.specs.declared.location.Location.{Location}
 
 -- ---- byte ranges
 
@@ -33,6 +34,22 @@ pub record IsPieceAt (stored : Definitions) (text : List ℕ) (before : List Ite
   pub begins : from ≡ end_of_all text 0 pieces_before
   pub ends : to ≡ end_of text piece
 
+-- ---- paths
+
+-- A placeholder that leads from a text to its definition: its name, and its byte range in the text that has it.
+pub record Step : Type 0 where
+  pub name : List ℕ
+  pub from : ℕ
+  pub to : ℕ
+
+-- what contracts see of a step of a path
+abbrev pub step_view : PathStep → Step
+step_view step = record { name = step.name.now; from = step.range.start; to = step.range.end }
+
+-- the placeholders of a path, outermost first
+abbrev pub path_view : List PathStep → List Step
+path_view path = map step_view path
+
 -- ---- faults
 
 -- the first structural fault of `items` and of the definitions that they stand for, if `levels` levels are left
@@ -48,21 +65,23 @@ pub data IsOwnFault : ℕ → Item → Fault → Type 0 where
 -- WHERE A TEXT'S FIRST FAULT STANDS, if `levels` levels are left in the text. `path` leads from `text` to the text
 -- `faulty`, whose piece at the byte range from `from` to `to` has the fault, and no piece before it has a fault.
 -- There are two cases. Either the faulty piece is one of `text` itself. Or it is inside a placeholder of `text`:
--- then the path begins with the name of that placeholder, and its rest leads from the definition of that name to
--- the faulty piece.
-pub data IsFaultAt (stored : Definitions) : (levels : ℕ) (text : List ℕ) (path : List (List ℕ))
+-- then the path begins with that placeholder, and its rest leads from the definition of its name to the faulty
+-- piece.
+pub data IsFaultAt (stored : Definitions) : (levels : ℕ) (text : List ℕ) (path : List Step)
     (faulty : List ℕ) (from to : ℕ) (fault : Fault) → Type 0 where
   Here : (levels : ℕ) (text : List ℕ) (before : List Item) (from to : ℕ) (item : Item) (fault : Fault)
       → IsPieceAt stored text before from to item → fault_within stored levels before ≡ None
       → IsOwnFault levels item fault → IsFaultAt stored levels text [] text from to fault
   Inside : (levels : ℕ) (text : List ℕ) (before : List Item) (begin end : ℕ) (label : Label)
-      (definition : List ℕ) (path : List (List ℕ)) (faulty : List ℕ) (from to : ℕ) (fault : Fault)
+      (definition : List ℕ) (path : List Step) (faulty : List ℕ) (from to : ℕ) (fault : Fault)
       → IsPieceAt stored text before begin end (PlaceholderItem label (Stored definition))
       → stored label.name ≡ Some definition
       → fault_within stored (suc levels) before ≡ None
       → IsFaultAt stored levels definition path faulty from to fault
-      → IsFaultAt stored (suc levels) text (label.name ∷ path) faulty from to fault
+      → IsFaultAt stored (suc levels) text
+      (record { name = label.name; from = begin; to = end } ∷ path) faulty from to fault
 
--- the names of a path, outermost first
-abbrev pub path_view : List (Bor (List ℕ)) → List (List ℕ)
-path_view path = map (λ (name : Bor (List ℕ)). name.now) path
+-- the first structural fault of the pattern stands at this location
+abbrev pub IsFaultOf : Definitions → List ℕ → Fault → Location → Type 0
+IsFaultOf stored pattern fault location = IsFaultAt stored deepest pattern (path_view location.path.items) location.text.now
+    location.range.start location.range.end fault

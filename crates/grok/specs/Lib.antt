@@ -56,7 +56,8 @@ pub mod ByteSearches
 pub mod Searches
 pub mod Descents
 pub mod ClashLocations
-pub mod FirstFaultLocations
+pub mod Malformations
+pub mod Diagnoses
 pub mod UseSearches
 pub mod TreeLaws
 -- THE WORDS FOR CALLERS: every definition that a contract of a public call uses.
@@ -77,22 +78,18 @@ pub use Rattle.grok.specs.Expanded.{expanded}
 pub use Rattle.grok.specs.Measured.{measured_tree, reached_pieces, reached_texts, saturated}
 pub use Rattle.grok.specs.MeasureCache.{measure_view}
 pub use Rattle.grok.specs.CountedMeasures.{IsCountedMeasure}
--- where the first structural fault stands
-pub use Rattle.grok.specs.FaultLocations.{IsFaultAt, path_view}
--- which piece writes a byte of the expanded text
-pub use Rattle.grok.specs.ByteLocations.{HasByte, IsByteLocation, LocatesByte}
--- where the two placeholders of a clash stand
-pub use Rattle.grok.specs.ByteLocations.{IsEventAt}
-pub use Rattle.grok.specs.ClashLocations.{HasKeyAt, IsClashAt, IsFirstClash}
--- where the first fault stands
-pub use Rattle.grok.specs.FirstFaultLocations.{located_fault, IsFirstFaultAt}
+-- what is wrong with a pattern, and where: faults and clashes, and which piece writes a byte of the expanded text
+pub use Rattle.grok.specs.FaultLocations.{IsFaultAt, IsFaultOf, path_view}
+pub use Rattle.grok.specs.ByteLocations.{HasByte, IsEventAt, IsByteLocation}
+pub use Rattle.grok.specs.ClashLocations.{HasKeyAt, IsClashAt}
+pub use Rattle.grok.specs.Malformations.{IsMalformedAt}
+pub use Rattle.grok.specs.Diagnoses.{FindsDiagnosis, IsDiagnosis, IsFine}
 -- errors, and what compiling returns
 pub use Rattle.grok.specs.Items.{fault_view}
 pub use Rattle.grok.specs.Errors.{ErrorValue, error_value, error_text}
 pub use Rattle.grok.specs.Compiled.{Expansion, expansion_of, Compiles, IsPatternOf, IsCompileError, IsFaultError}
 -- why `regex` refuses the expanded text
-pub use Rattle.grok.specs.Expansions.{IsExpansionError}
-pub use Rattle.grok.specs.Refusals.{IsRegexText, IsReasonFor, IsRefusalOf, IsExamined, Examines}
+pub use Rattle.grok.specs.Refusals.{IsRegexText, IsReasonFor}
 -- engines
 pub use Rattle.grok.specs.Captures.{name_texts, text_of, capture_texts, found_texts, IsSliceOf, AreSlicesOf, IsMatchIn}
 pub use Rattle.grok.specs.Engines.{engine_regex}

@@ -4,10 +4,10 @@ use Rattle.std.specs.FinMap as finite
 use Rattle.grok.specs.Tree.{Label, Meaning, PlaceholderItem, Event, Text, Open, Close, FaultEvent, events, deepest}
 use Rattle.grok.specs.Keys.{base_key, how_often}
 use Rattle.grok.specs.CountedDefinitions.{resolve, opened_events, is_counted, counted}
-use Rattle.grok.specs.FaultLocations.{path_view}
+use Rattle.grok.specs.FaultLocations.{Step, path_view}
 use Rattle.grok.specs.ByteLocations.{IsEventAt}
 use Rattle.grok.specs.declared.expand.counted_definitions.CompileSettings.{CompileSettings}
-use Rattle.grok.specs.declared.locate_clash.PlaceholderLocation.{PlaceholderLocation}
+use Rattle.grok.specs.declared.location.Location.{Location}
 use Rattle.grok.specs.declared.locate_clash.SoughtKeys.{SoughtKeys}
 use Rattle.grok.specs.declared.locate_clash.UsesSoFar.{UsesSoFar}
 use Rattle.grok.specs.declared.locate_clash.UseSearch.{UseSearch}
@@ -44,7 +44,7 @@ IsSoughtUse start es (FaultEvent fault) = ⊥
 -- The sought use is found: a placeholder with the base key `keys.base`. It is the piece at the byte range from `from` to
 -- `to` of the text `found`, and `path` has the definitions that lead there from `text`, where `levels` levels are left.
 -- Before it, `keys.base` is used `old.left` times.
-pub record IsUseAt (settings : CompileSettings) (keys : SoughtKeys) (levels : ℕ) (text : List ℕ) (path : List (List ℕ))
+pub record IsUseAt (settings : CompileSettings) (keys : SoughtKeys) (levels : ℕ) (text : List ℕ) (path : List Step)
     (found : List ℕ) (from to : ℕ) (old new : UsesSoFar) : Type 0 where
   pub label : Label
   pub meaning : Meaning
@@ -58,7 +58,7 @@ pub record IsUseAt (settings : CompileSettings) (keys : SoughtKeys) (levels : �
 
 -- What the search of a pattern for the sought use of a base key returns: where the placeholder with that use is, or
 -- `None` if the search passed over the whole pattern.
-abbrev pub FindsUse : CompileSettings → SoughtKeys → List ℕ → Option PlaceholderLocation → UsesSoFar → UsesSoFar → Type 0
+abbrev pub FindsUse : CompileSettings → SoughtKeys → List ℕ → Option Location → UsesSoFar → UsesSoFar → Type 0
 FindsUse settings keys pattern found old new = MatchOption found
     (HasPassedEvents settings keys (events (opened_events settings deepest) (resolve settings pattern)) old new)
     (λ location. IsUseAt settings keys deepest pattern (path_view location.path.items) location.text.now

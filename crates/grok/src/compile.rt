@@ -11,7 +11,7 @@ ghost use Rattle.grok.specs.NumberedBases.{opens_numbered_from, is_base_in};
 ghost use Rattle.grok.specs.Expanded.{expanded};
 ghost use Rattle.grok.specs.Errors.{error_value, Memory as memory};
 ghost use Rattle.grok.specs.Compiled.{IsFirstError, IsBuilt, IsRefusal, Compiles, expansion_of};
-ghost use Rattle.grok.specs.Expansions.{Expands};
+ghost use Rattle.grok.specs.Expansions.{Expands, IsExpansionOf};
 ghost use Rattle.grok.specs.RegexFinds.{IsReadByDefault, MayRefuse};
 ghost use Rattle.grok.specs.Engines.{engine_regex};
 ghost use Rattle.regex.specs.Strings.{regex_source, regex_names};
@@ -88,21 +88,21 @@ impl Grok {
     }
 
     /// Expands a pattern that has no fault. Its expanded text has `length` bytes.
-    fn expand_clean(
+    pub(crate) fn expand_clean(
         &self,
         pattern: &str,
         with_alias_only: bool,
         length: usize,
-    ) -> Result<ExpandedPattern, Error>
+    ) -> Result<ExpandedPattern, AllocError>
         requires some { pattern.now ≢ [] }
         requires clean { first_fault with_alias_only
             (tree_of (finite.get self.now) pattern.now) ≡ None }
         requires long { length ≡ len (expanded with_alias_only
             (tree_of (finite.get self.now) pattern.now)) }
-        ensures { Expands (expansion_of self.now with_alias_only pattern.now) result }
+        ensures { IfOk result (IsExpansionOf (expansion_of self.now with_alias_only pattern.now)) }
     {
         let text = String::with_capacity(self.alloc(), length)?;
-        Ok(write(self, pattern, with_alias_only, text)?)
+        write(self, pattern, with_alias_only, text)
     }
 
     /// Expands a pattern: returns its expanded text and its keys.
@@ -135,7 +135,7 @@ impl Grok {
                 }
                 // Frees what measuring remembers before the text is allocated.
                 drop(found);
-                self.expand_clean(pattern, with_alias_only, length)
+                Ok(self.expand_clean(pattern, with_alias_only, length)?)
             }
         }
     }

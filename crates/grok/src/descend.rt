@@ -8,7 +8,7 @@ ghost use Rattle.grok.specs.Events.{event_view};
 ghost use Rattle.grok.specs.PlacedItems.{IsOfLibrary, HasRead, left_in};
 ghost use Rattle.grok.specs.FaultLocations.{path_view};
 ghost use Rattle.grok.specs.Searches.{PassesMore, StopsAt};
-ghost use Rattle.grok.specs.Descents.{IsEventStep, IsStep, names_of, FindsPlace};
+ghost use Rattle.grok.specs.Descents.{IsEventStep, IsStep, path_of, FindsPlace};
 
 use crate::defs::Grok;
 use crate::defs::definition::Definition;
@@ -16,9 +16,9 @@ use crate::defs::items::{Item, Label, Meaning};
 use crate::defs::placed_items::{PlacedItem, PlacedItems};
 use crate::errors::fault::{Fault, LEVELS};
 use crate::expand::events::Event;
+use crate::location::{Location, PathStep};
 use std::alloc::AllocError;
 use std::mem;
-use std::ops::Range;
 
 /// A search for an event in the tree of a pattern.
 pub(crate) trait Search<'a> {
@@ -66,13 +66,10 @@ pub(crate) trait Search<'a> {
         ensures definitions { IfOk result (λ is_passed. definitions self.new ≡ definitions self.old) };
 }
 
-/// A piece of a text, and the definitions that lead to the text.
+/// A piece of a text: where it stands, and its item.
 #[derive(Drop)]
 pub(crate) struct Place<'a> {
-    /// The names of the placeholders that lead from the pattern to the text, outermost first.
-    pub path: Vec<&'a str>,
-    pub text: &'a str,
-    pub range: Range<usize>,
+    pub location: Location<'a>,
     pub item: Item<'a>,
 }
 
@@ -187,18 +184,24 @@ fn place_of<'a>(
     text: &'a str,
     placed: PlacedItem<'a>,
 ) -> Result<Place<'a>, AllocError>
-    ensures path { IfOk result (λ place. path_view place.path.items ≡ names_of around.now) }
-    ensures text { IfOk result (λ place. place.text ≡ text.entry) }
-    ensures placed { IfOk result (λ place. (place.range ≡ placed.entry.range) × (place.item ≡ placed.entry.item)) }
+    ensures path { IfOk result (λ place. path_view place.location.path.items ≡ path_of around.now) }
+    ensures text { IfOk result (λ place. place.location.text ≡ text.entry) }
+    ensures placed { IfOk result (λ place. (place.location.range ≡ placed.entry.range) × (place.item ≡ placed.entry.item)) }
 {
     let mut path = Vec::new(grok.alloc());
     'texts: for opened in around {
-        path.push(opened.name)?;
+        path.push(PathStep {
+            name: opened.name,
+            range: opened.placed.range.start..opened.placed.range.end,
+        })?;
     }
-    Ok(Place {
+    let location = Location {
         path,
         text,
         range: placed.range,
+    };
+    Ok(Place {
+        location,
         item: placed.item,
     })
 }

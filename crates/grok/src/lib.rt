@@ -24,8 +24,8 @@
 //! ```
 //!
 //! [`Grok::compile`] returns an [`Error`] for the first fault in reading order, or if the engine
-//! refuses the expanded text. [`Grok::locate_first`] returns where that fault stands, and
-//! [`Grok::why_refused`] why the engine refuses a text. [`Grok::measure`] returns the size of that text without expanding it.
+//! refuses the expanded text. [`Grok::diagnose`] returns what is wrong, and where. [`Grok::measure`]
+//! returns the size of the expanded text without expanding it.
 //! Every call that allocates returns a `Result`, and a call that fails changes nothing.
 //!
 //! To match many lines, make a [`Matcher`] once. It returns what [`PatternOf::match_against`]
@@ -37,6 +37,7 @@ mod compile;
 mod debug_map;
 mod defs;
 mod descend;
+mod diagnose;
 mod engine;
 mod errors;
 mod expand;
@@ -46,7 +47,8 @@ pub mod laws;
 mod locate;
 mod locate_byte;
 mod locate_clash;
-mod locate_first;
+mod location;
+mod malformed;
 mod matches;
 mod measure;
 mod numeral;
@@ -55,20 +57,20 @@ mod why_refused;
 
 pub use defs::names::Names;
 pub use defs::{Grok, patterns};
+pub use diagnose::{Diagnosis, Refused};
 pub use engine::matcher::{EngineMatcher, HasMatcher};
 pub use engine::regex_engine::RegexEngine;
 pub use engine::regex_matcher::RegexMatcher;
 pub use engine::{Engine, Refusal};
 pub use errors::{Error, Fault, MAX_NESTING};
-pub use locate::FaultLocation;
-pub use locate_byte::{ByteLocation, WrittenByte};
-pub use locate_clash::{ClashLocation, PlaceholderLocation};
-pub use locate_first::FirstFaultLocation;
+pub use locate_clash::Clash;
+pub use location::{Location, PathStep};
+pub use malformed::MalformedReason;
 pub use matches::borrowed::MatchesRef;
 pub use matches::matcher::MatcherOf;
 pub use matches::{CaptureNames, MatchesIter, MatchesOf, PatternOf};
 pub use measure::{Looks, Measure};
-pub use why_refused::{RefusalReason, RegexRefusal};
+pub use why_refused::RefusalReason;
 
 /// A pattern over `regex`.
 pub type Pattern = PatternOf<RegexEngine>;

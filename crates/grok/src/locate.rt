@@ -1,11 +1,11 @@
 //! Finds where the first structural fault of a pattern stands, without expanding it.
 ghost use Rattle.std.specs.Prelude.{◌≡◌, IfOk, IfSome, option_map, None, true};
 ghost use Rattle.std.specs.FinMap as finite;
-ghost use Rattle.grok.specs.Tree.{tree, deepest, first_structural};
+ghost use Rattle.grok.specs.Tree.{tree, first_structural};
 ghost use Rattle.grok.specs.Items.{fault_view, item_view};
 ghost use Rattle.grok.specs.MeasureCache.{IsIdle, HasCorrectCache};
 ghost use Rattle.grok.specs.Events.{event_view};
-ghost use Rattle.grok.specs.FaultLocations.{IsFaultAt, path_view};
+ghost use Rattle.grok.specs.FaultLocations.{IsFaultOf};
 ghost use Rattle.grok.specs.FaultSearches.{is_fault, fault_of_item};
 
 use crate::defs::Grok;
@@ -14,24 +14,18 @@ use crate::defs::items::Item;
 use crate::descend::{Search, descend};
 use crate::errors::fault::Fault;
 use crate::expand::events::Event;
+use crate::location::Location;
 use crate::measure::measurer::Measurer;
 use crate::measure::settings::MeasureSettings;
 use std::alloc::AllocError;
-use std::ops::Range;
 
-/// Where the first structural fault of a pattern stands. [`Grok::locate`] returns it.
-#[derive(Clone, PartialEq, Eq, Debug, Drop)]
-pub struct FaultLocation<'a> {
+/// The first structural fault of a pattern, and where the piece with it stands. A malformed
+/// placeholder takes the rest of its text.
+#[derive(Drop)]
+pub(crate) struct FaultLocation<'a> {
     /// The fault, as [`Grok::measure`] reports it.
     pub fault: Fault<'a>,
-    /// The names of the placeholders that lead from the pattern to the definition with the fault,
-    /// outermost first. If it is empty, the pattern itself has the fault.
-    pub path: Vec<&'a str>,
-    /// The text with the fault: the last definition of the path, or else the pattern.
-    pub text: &'a str,
-    /// The byte range of the piece of that text that has the fault. A malformed placeholder takes
-    /// the rest of the text.
-    pub range: Range<usize>,
+    pub location: Location<'a>,
 }
 
 /// Returns whether an event is a structural fault.
@@ -98,12 +92,11 @@ impl Grok {
     /// # Errors
     ///
     /// If an allocation fails.
-    pub fn locate<'a>(&'a self, pattern: &'a str) -> Result<Option<FaultLocation<'a>>, AllocError>
-        ensures fault { IfOk result (λ found. option_map (λ location. fault_view location.fault) found
+    pub(crate) fn locate<'a>(&'a self, pattern: &'a str) -> Result<Option<FaultLocation<'a>>, AllocError>
+        ensures fault { IfOk result (λ found. option_map (λ at. fault_view at.fault) found
             ≡ first_structural (tree (finite.get self.now) pattern.now)) }
-        ensures location { IfOk result (λ found. IfSome found (λ location.
-            IsFaultAt (finite.get self.now) deepest pattern.now (path_view location.path.items)
-            location.text.now location.range.start location.range.end (fault_view location.fault))) }
+        ensures location { IfOk result (λ found. IfSome found (λ at.
+            IsFaultOf (finite.get self.now) pattern.now (fault_view at.fault) at.location)) }
     {
         let mut search = FaultSearch {
             measurer: Measurer::new(MeasureSettings {
@@ -116,9 +109,7 @@ impl Grok {
             None => Ok(None),
             Some(place) => Ok(Some(FaultLocation {
                 fault: fault_of_item(place.item),
-                path: place.path,
-                text: place.text,
-                range: place.range,
+                location: place.location,
             })),
         }
     }

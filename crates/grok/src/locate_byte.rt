@@ -16,6 +16,7 @@ use crate::defs::items::Item;
 use crate::descend::{Search, descend};
 use crate::expand::events::Event;
 use crate::generated_name::CLOSE;
+use crate::location::Location;
 use crate::measure::Measure;
 use crate::measure::measurer::Measurer;
 use crate::measure::partial_size::{
@@ -23,36 +24,22 @@ use crate::measure::partial_size::{
 };
 use crate::measure::settings::MeasureSettings;
 use std::alloc::AllocError;
-use std::ops::Range;
 
 /// What a piece writes of an expanded text, at one byte of it.
-#[derive(Clone, Copy, PartialEq, Eq, Debug)]
-pub enum WrittenByte<'a> {
+#[derive(Clone, Copy)]
+pub(crate) enum WrittenByte {
     /// A byte of regular text. It is this many bytes after the first byte of the piece.
     Copied(usize),
     /// A byte of the group of a placeholder: of the start of the group, such as `(?<_n_0>`, or its
     /// `)`.
-    OfGroup {
-        /// The name of the placeholder.
-        name: &'a str,
-        /// The definition that it stands for, which the group surrounds.
-        definition: &'a str,
-    },
+    OfGroup,
 }
 
-/// The piece that writes a byte of an expanded text. [`Grok::locate_byte`] returns it.
-#[derive(Clone, PartialEq, Eq, Debug, Drop)]
-pub struct ByteLocation<'a> {
-    /// The names of the placeholders that lead from the pattern to the text with the piece,
-    /// outermost first. If it is empty, the piece is one of the pattern itself.
-    pub path: Vec<&'a str>,
-    /// The text with the piece: what the last placeholder of the path stands for, or else the
-    /// pattern.
-    pub text: &'a str,
-    /// The byte range of the piece in that text.
-    pub range: Range<usize>,
-    /// What the piece writes at that byte.
-    pub part: WrittenByte<'a>,
+/// The piece that writes a byte of an expanded text, and what it writes at that byte.
+#[derive(Drop)]
+pub(crate) struct ByteLocation<'a> {
+    pub location: Location<'a>,
+    pub part: WrittenByte,
 }
 
 /// The search for the event that writes the byte at position `byte`. It passes over each definition
@@ -131,21 +118,17 @@ impl<'a> Search<'a> for ByteSearch<'a> {
 
 /// Returns what an item writes at the byte that comes `offset` bytes after the start of what its
 /// event writes.
-fn part_of_item<'a>(item: Item<'a>, offset: usize) -> WrittenByte<'a>
+fn part_of_item(item: Item<'_>, offset: usize) -> WrittenByte
     ensures { IsPartOfItem offset (item_view item.entry) result }
 {
     match item {
-        Item::Placeholder(label, meaning) => WrittenByte::OfGroup {
-            name: label.name,
-            definition: meaning.text(),
-        },
+        Item::Placeholder(..) => WrittenByte::OfGroup,
         Item::Text(_) | Item::Fault(_) => WrittenByte::Copied(offset),
     }
 }
 
 impl Grok {
-    /// Finds the piece that writes a byte of the expanded text of a pattern, such as the byte at
-    /// which [`Grok::why_refused`] has a syntax error begin. Returns `None` if the pattern has a
+    /// Finds the piece that writes a byte of the expanded text of a pattern. Returns `None` if the pattern has a
     /// structural fault, or if its expanded text has no byte at this position.
     ///
     /// Each definition is measured once. Then only the definitions on the path are read again, at
@@ -154,7 +137,7 @@ impl Grok {
     /// # Errors
     ///
     /// If an allocation fails.
-    pub fn locate_byte<'a>(
+    pub(crate) fn locate_byte<'a>(
         &'a self,
         pattern: &'a str,
         with_alias_only: bool,
@@ -181,9 +164,7 @@ impl Grok {
             None => Ok(None),
             Some(place) => Ok(Some(ByteLocation {
                 part: part_of_item(place.item, offset_after(search.before, byte)),
-                path: place.path,
-                text: place.text,
-                range: place.range,
+                location: place.location,
             })),
         }
     }

@@ -5,7 +5,7 @@ ghost use Rattle.std.specs.Str.{bytes_eq};
 ghost use Rattle.std.specs.String.{string_bytes};
 ghost use Rattle.grok.specs.Tree as tree;
 ghost use Rattle.grok.specs.Tree.{tree as tree_of, reached};
-ghost use Rattle.grok.specs.Keys.{Clash, first_fault, base_key as base_key_of};
+ghost use Rattle.grok.specs.Keys.{Clash as KeyClash, first_fault, base_key as base_key_of};
 ghost use Rattle.grok.specs.NumberedBases.{opens_numbered_from, is_base_in};
 ghost use Rattle.grok.specs.Items.{label_view};
 ghost use Rattle.grok.specs.CountedDefinitions.{AreCounted, opened_events, is_counted};
@@ -23,30 +23,26 @@ use crate::expand::events::Event;
 use crate::expand::first_fault::find_first_fault;
 use crate::expand::key_assigner::base_key;
 use crate::expand::numbered::parts_of_numbered;
+use crate::location::Location;
+use crate::measure::full_measure::FullMeasure;
 use std::alloc::AllocError;
-use std::ops::Range;
 
-/// Where a placeholder stands.
-#[derive(Clone, PartialEq, Eq, Debug, Drop)]
-pub struct PlaceholderLocation<'a> {
-    /// The names of the placeholders that lead from the pattern to the definition with this one,
-    /// outermost first. If it is empty, the placeholder stands in the pattern itself.
-    pub path: Vec<&'a str>,
-    /// The text of the placeholder: the last definition of the path, or else the pattern.
-    pub text: &'a str,
-    /// The byte range of the placeholder in that text.
-    pub range: Range<usize>,
-}
-
-/// Where the two placeholders of a clash stand. [`Grok::locate_clash`] returns it.
-#[derive(Clone, PartialEq, Eq, Debug, Drop)]
-pub struct ClashLocation<'a> {
-    /// The key that both would get.
+/// Two placeholders that would get the same key. One of them has the key as its alias. The other
+/// one gets it because keys of placeholders with the same base key are numbered.
+#[derive(PartialEq, Eq, Debug, Drop)]
+pub struct Clash<'a> {
+    /// The key that both would get, such as `x[2]`.
     pub key: String,
+    /// The base key of the numbered placeholder, such as `x`.
+    pub base: String,
+    /// Its number, such as 2: so many placeholders before it have the same base key.
+    pub number: usize,
+    /// Whether the first placeholder has the key as its alias, and not the second one.
+    pub is_alias_first: bool,
     /// The placeholder that has the key.
-    pub first: PlaceholderLocation<'a>,
+    pub first: Location<'a>,
     /// The placeholder that would get it again.
-    pub second: PlaceholderLocation<'a>,
+    pub second: Location<'a>,
 }
 
 /// The base key whose use is sought, and another one. Both can take part in a clash.
@@ -190,7 +186,7 @@ fn find_use<'a>(
     keys: SoughtKeys<'_>,
     pattern: &'a str,
     so_far: &mut UsesSoFar,
-) -> Result<Option<PlaceholderLocation<'a>>, AllocError>
+) -> Result<Option<Location<'a>>, AllocError>
     requires { AreCounted settings definitions.now }
     ensures { IfOk result (λ found.
         FindsUse settings.entry keys.entry pattern.now found so_far.old so_far.new) }
@@ -205,11 +201,7 @@ fn find_use<'a>(
     *so_far = search.so_far;
     match found {
         None => Ok(None),
-        Some(place) => Ok(Some(PlaceholderLocation {
-            path: place.path,
-            text: place.text,
-            range: place.range,
-        })),
+        Some(place) => Ok(Some(place.location)),
     }
 }
 
@@ -219,12 +211,12 @@ fn locate_both<'a>(
     definitions: &CountedDefinitions<'a>,
     pattern: &'a str,
     key: String,
-) -> Result<Option<ClashLocation<'a>>, AllocError>
+) -> Result<Option<Clash<'a>>, AllocError>
     requires counted { AreCounted settings definitions.now }
     requires known { (base : List ℕ) → is_base_in settings.numbered.now base ≡ opens_numbered_from base
         (reached (tree_of (finite.get settings.grok.now) pattern.now)) }
     requires clash { first_fault settings.with_alias_only
-        (tree_of (finite.get settings.grok.now) pattern.now) ≡ Some (Clash (string_bytes key)) }
+        (tree_of (finite.get settings.grok.now) pattern.now) ≡ Some (KeyClash (string_bytes key)) }
     requires number { HasFittingNumber (string_bytes key) }
     ensures found { IfOk result (λ found. found ≡ None → ⊥) }
     ensures location { IfOk result (λ found. IfSome found (λ clash. IsClashAt
@@ -257,15 +249,22 @@ fn locate_both<'a>(
     else {
         return Ok(None);
     };
+    let base = String::from_str(settings.grok.alloc(), base)?;
     if so_far.is_other_used {
-        Ok(Some(ClashLocation {
+        Ok(Some(Clash {
             key,
+            base,
+            number,
+            is_alias_first: true,
             first: own,
             second: numbered,
         }))
     } else {
-        Ok(Some(ClashLocation {
+        Ok(Some(Clash {
             key,
+            base,
+            number,
+            is_alias_first: false,
             first: numbered,
             second: own,
         }))
@@ -274,9 +273,8 @@ fn locate_both<'a>(
 
 impl Grok {
     /// Finds where the two placeholders of a clash stand, if the first fault of a pattern is a clash.
-    /// [`Grok::compile_with`] reports that clash, unless the expanded text would be longer than the
-    /// greatest `usize`. Otherwise returns `None`: the pattern has no fault, or its first one is a
-    /// structural fault, which [`Grok::locate`] finds.
+    /// Otherwise returns `None`: the pattern has no fault, or its first one is a structural fault.
+    /// `found` is what measuring the pattern found.
     ///
     /// Each definition is counted once. Then only the definitions on the two paths are read again, at
     /// most 1,023 on each.
@@ -285,17 +283,19 @@ impl Grok {
     ///
     /// If an allocation fails, or if a base key that can clash is used more than `usize::MAX` times
     /// before a fault.
-    pub fn locate_clash<'a>(
+    pub(crate) fn locate_clash<'a>(
         &'a self,
         pattern: &'a str,
         with_alias_only: bool,
-    ) -> Result<Option<ClashLocation<'a>>, AllocError>
+        found: &FullMeasure<'a>,
+    ) -> Result<Option<Clash<'a>>, AllocError>
+        requires { (base : List ℕ) → is_base_in found.now.numbered base ≡ opens_numbered_from base
+            (reached (tree_of (finite.get self.now) pattern.now)) }
         ensures first { IfOk result (λ found. IsFirstClash (first_fault with_alias_only
             (tree_of (finite.get self.now) pattern.now)) found) }
         ensures location { IfOk result (λ found. IfSome found (λ clash.
             IsClashAt (finite.get self.now) with_alias_only pattern.now clash)) }
     {
-        let found = self.measure_fully(pattern, with_alias_only)?;
         if found.numbered.is_empty() {
             return Ok(None);
         }

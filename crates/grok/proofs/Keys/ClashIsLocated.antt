@@ -18,8 +18,8 @@ use Rattle.grok.specs.UseSearches.{is_some_use, IsUseAt, FindsUse}
 use Rattle.grok.specs.declared.expand.counted_definitions.CompileSettings.{CompileSettings}
 use Rattle.grok.specs.declared.locate_clash.SoughtKeys.{SoughtKeys}
 use Rattle.grok.specs.declared.locate_clash.UsesSoFar.{UsesSoFar}
-use Rattle.grok.specs.declared.locate_clash.PlaceholderLocation.{PlaceholderLocation}
-use Rattle.grok.specs.declared.locate_clash.ClashLocation.{ClashLocation}
+use Rattle.grok.specs.declared.location.Location.{Location}
+use Rattle.grok.specs.declared.locate_clash.Clash as found
 use Rattle.grok.proofs.Sizes.SizeIsThatOfTree.{first_structural-append, or_else}
 use Rattle.grok.proofs.Trees.EventsInTree.{event_follows}
 use Rattle.grok.proofs.Trees.StepsCompile.{no_structural}
@@ -133,7 +133,7 @@ module _ (alias_only : Bool) (key base : List ℕ) (count : ℕ) (key_is : key �
 -- ---- the uses that the search finds
 
 -- a capturing placeholder of the pattern with this base key, before which the key is used this often, stands here
-pub record IsUse (stored : Definitions) (alias_only : Bool) (pattern key : List ℕ) (number : ℕ) (location : PlaceholderLocation) : Type 0 where
+pub record IsUse (stored : Definitions) (alias_only : Bool) (pattern key : List ℕ) (number : ℕ) (location : Location) : Type 0 where
   pub label : Label
   pub meaning : Meaning
   pub before : List Event
@@ -145,7 +145,7 @@ pub record IsUse (stored : Definitions) (alias_only : Bool) (pattern key : List 
   pub asks : base_key label ≡ key
   pub often : how_often (capturing alias_only before) key ≡ number
 
-module _ (stored : Definitions) (alias_only : Bool) (pattern : List ℕ) (key : List ℕ) (number : ℕ) (location : PlaceholderLocation) (u : IsUse stored alias_only pattern key number location)
+module _ (stored : Definitions) (alias_only : Bool) (pattern : List ℕ) (key : List ℕ) (number : ℕ) (location : Location) (u : IsUse stored alias_only pattern key number location)
     (before : List Event) (label : Label) (meaning : Meaning) (after : List Event) (cut : tree stored pattern ≡ before ++ Open label meaning ∷ after) where
   abbrev cuts : Type 0
   cuts = AreCuts u.before (Open u.label u.meaning) before (Open label meaning)
@@ -171,11 +171,13 @@ module _ (stored : Definitions) (alias_only : Bool) (pattern : List ℕ) (key : 
 
 -- ---- both placeholders
 
-module _ (stored : Definitions) (alias_only : Bool) (pattern : List ℕ) (clash : ClashLocation) where
+module _ (stored : Definitions) (alias_only : Bool) (pattern : List ℕ) (clash : found.Clash) where
   module _ (one two : List ℕ) (first_number second_number : ℕ) (f : IsUse stored alias_only pattern one first_number clash.first) (s : IsUse stored alias_only pattern two second_number clash.second) where
     pub clash_at : numbered one first_number ≡ string_bytes clash.key → numbered two second_number ≡ string_bytes clash.key
+        → string_bytes clash.key ≡ numbered (string_bytes clash.base) clash.number
+        → one ≡ cond clash.is_alias_first (string_bytes clash.key) (string_bytes clash.base) → two ≡ cond clash.is_alias_first (string_bytes clash.base) (string_bytes clash.key)
         → (between : List Event) → s.before ≡ f.before ++ Open f.label f.meaning ∷ between → first_fault alias_only s.before ≡ None → IsClashAt stored alias_only pattern clash
-    clash_at first_is second_is between order none =
+    clash_at first_is second_is named first_key second_key between order none =
         let second : HasKeyAt stored alias_only pattern (string_bytes clash.key) clash.second s.label s.meaning s.before = record {
           stands = s.stands;
           captures = s.captures;
@@ -197,6 +199,9 @@ module _ (stored : Definitions) (alias_only : Bool) (pattern : List ℕ) (clash 
           after = s.after;
           cut = s.cut ∙ ap (λ es. es ++ Open s.label s.meaning ∷ s.after) order;
           none = sym (ap (first_fault alias_only) order) ∙ none;
+          numbered = named;
+          first_asks = f.asks ∙ first_key;
+          second_asks = s.asks ∙ second_key;
         }
 
 -- ---- what the search returns
@@ -217,7 +222,7 @@ module _ (settings : CompileSettings) (keys : SoughtKeys) (pattern : List ℕ) (
   abbrev started : UsesSoFar
   started = record { left = number; is_other_used = false }
 
-  found_use : (location : PlaceholderLocation) → can_clash settings.numbered.now keys.other.now ≡ true → IsUseAt settings keys deepest pattern (path_view location.path.items) location.text.now location.range.start location.range.end started new
+  found_use : (location : Location) → can_clash settings.numbered.now keys.other.now ≡ true → IsUseAt settings keys deepest pattern (path_view location.path.items) location.text.now location.range.start location.range.end started new
       → (u : IsUse (finite.get settings.grok.now) settings.with_alias_only pattern keys.base.now number location) × (new.is_other_used ≡ is_some_use (how_often (capturing settings.with_alias_only u.before) keys.other.now))
   unfolding tree
   found_use location can_other u =
@@ -237,7 +242,7 @@ module _ (settings : CompileSettings) (keys : SoughtKeys) (pattern : List ℕ) (
         u.passed.seen ∙ ap is_some_use (counted_as_used settings.numbered.now settings.with_alias_only u.before keys.other.now can_other),
       )
 
-  is_found : number < how_often (capturing settings.with_alias_only its_tree) keys.base.now → (found : Option PlaceholderLocation) → FindsUse settings keys pattern found started new → found ≡ None → ⊥
+  is_found : number < how_often (capturing settings.with_alias_only its_tree) keys.base.now → (found : Option Location) → FindsUse settings keys pattern found started new → found ≡ None → ⊥
   unfolding tree
   is_found low (Some location) finds none = cc
   is_found low None finds none = absurd (omega (arith, low, finds.fewer, counted_as_used settings.numbered.now settings.with_alias_only its_tree keys.base.now can))
@@ -301,19 +306,28 @@ module _ (settings : CompileSettings) (pattern : List ℕ) (key base : Bor (List
     numbered_low (Numbered asks often some) = omega (arith, often, more_there base.now, uses_at settings.with_alias_only k.clash.before k.clash.label k.clash.meaning k.clash.after base.now k.clash.captures asks)
 
     -- both searches find a use
-    pub own_is_found : (found : Option PlaceholderLocation) → FindsUse settings (record { base = key; other = base }) pattern found (record { left = 0; is_other_used = false }) new → found ≡ None → ⊥
+    pub own_is_found : (found : Option Location) → FindsUse settings (record { base = key; other = base }) pattern found (record { left = 0; is_other_used = false }) new → found ≡ None → ⊥
     own_is_found = is_found settings (record { base = key; other = base }) pattern 0 new k.can_key (own_low k.clash.last)
 
-    pub numbered_is_found : (found : Option PlaceholderLocation) → FindsUse settings (record { base = base; other = key }) pattern found (record { left = number; is_other_used = false }) new → found ≡ None → ⊥
+    pub numbered_is_found : (found : Option Location) → FindsUse settings (record { base = base; other = key }) pattern found (record { left = number; is_other_used = false }) new → found ≡ None → ⊥
     numbered_is_found = is_found settings (record { base = base; other = key }) pattern number new k.can_base (numbered_low k.clash.last)
 
   -- ---- which one comes first
 
-  module _ (number : ℕ) (k : IsKnownClash number) (name : String Global) (name_is : string_bytes name ≡ key.now) (own its : PlaceholderLocation) (own_new new : UsesSoFar)
+  module _ (number : ℕ) (k : IsKnownClash number) (name : String Global) (name_is : string_bytes name ≡ key.now) (base_name : String Global) (base_is : string_bytes base_name ≡ base.now) (own its : Location) (own_new new : UsesSoFar)
       (own_at : IsUseAt settings (record { base = key; other = base }) deepest pattern (path_view own.path.items) own.text.now own.range.start own.range.end (record { left = 0; is_other_used = false }) own_new)
       (its_at : IsUseAt settings (record { base = base; other = key }) deepest pattern (path_view its.path.items) its.text.now its.range.start its.range.end (record { left = number; is_other_used = false }) new) where
     abbrev its_use : Type 0
     its_use = (u : IsUse stored settings.with_alias_only pattern base.now number its) × (new.is_other_used ≡ is_some_use (often_in u.before key.now))
+
+    abbrev own_then_its : found.Clash
+    own_then_its = record { key = name; base = base_name; number = number; is_alias_first = true; first = own; second = its }
+
+    abbrev its_then_own : found.Clash
+    its_then_own = record { key = name; base = base_name; number = number; is_alias_first = false; first = its; second = own }
+
+    named : string_bytes name ≡ numbered (string_bytes base_name) number
+    named = name_is ∙ k.named ∙ ap (λ bs. numbered bs number) (sym base_is)
 
     the_own : IsUse stored settings.with_alias_only pattern key.now 0 own
     the_own = (found_use settings (record { base = key; other = base }) pattern 0 own_new k.can_key own k.can_base own_at).0
@@ -325,7 +339,7 @@ module _ (settings : CompileSettings) (pattern : List ℕ) (key base : Bor (List
     c = k.clash
 
     own_by : IsUse stored settings.with_alias_only pattern key.now 0 own → its_use → IsLast settings.with_alias_only key.now base.now number c.before c.label → new.is_other_used ≡ true
-        → IsClashAt stored settings.with_alias_only pattern (record { key = name; first = own; second = its })
+        → IsClashAt stored settings.with_alias_only pattern (own_then_its)
     own_by o (u, seen) (Own asks none low) is =
         let (between, order) = use_before stored settings.with_alias_only pattern base.now number its u c.before c.label c.meaning c.after c.cut low in
         let few : often_in u.before key.now ≡ 0 = omega (arith, none, ap (λ es. often_in es key.now) order, uses_more settings.with_alias_only u.before (Open u.label u.meaning ∷ between) key.now) in
@@ -333,23 +347,23 @@ module _ (settings : CompileSettings) (pattern : List ℕ) (key base : Bor (List
     own_by o (u, seen) (Numbered asks often some) is =
         let same = use_is stored settings.with_alias_only pattern base.now number its u c.before c.label c.meaning c.after c.cut c.captures asks often in
         let (between, order) = use_before stored settings.with_alias_only pattern key.now 0 own o c.before c.label c.meaning c.after c.cut some in
-        clash_at stored settings.with_alias_only pattern (record { key = name; first = own; second = its }) key.now base.now 0 number o u (sym name_is) (sym k.named ∙ sym name_is) between (same ∙ order) (ap (first_fault settings.with_alias_only) same ∙ c.none)
+        clash_at stored settings.with_alias_only pattern (own_then_its) key.now base.now 0 number o u (sym name_is) (sym k.named ∙ sym name_is) named (sym name_is) (sym base_is) between (same ∙ order) (ap (first_fault settings.with_alias_only) same ∙ c.none)
 
     numbered_by : IsUse stored settings.with_alias_only pattern key.now 0 own → its_use → IsLast settings.with_alias_only key.now base.now number c.before c.label → new.is_other_used ≡ false
-        → IsClashAt stored settings.with_alias_only pattern (record { key = name; first = its; second = own })
+        → IsClashAt stored settings.with_alias_only pattern (its_then_own)
     numbered_by o (u, seen) (Own asks none low) is =
         let same = use_is stored settings.with_alias_only pattern key.now 0 own o c.before c.label c.meaning c.after c.cut c.captures asks none in
         let (between, order) = use_before stored settings.with_alias_only pattern base.now number its u c.before c.label c.meaning c.after c.cut low in
-        clash_at stored settings.with_alias_only pattern (record { key = name; first = its; second = own }) base.now key.now number 0 u o (sym k.named ∙ sym name_is) (sym name_is) between (same ∙ order) (ap (first_fault settings.with_alias_only) same ∙ c.none)
+        clash_at stored settings.with_alias_only pattern (its_then_own) base.now key.now number 0 u o (sym k.named ∙ sym name_is) (sym name_is) named (sym base_is) (sym name_is) between (same ∙ order) (ap (first_fault settings.with_alias_only) same ∙ c.none)
     numbered_by o (u, seen) (Numbered asks often some) is =
         let same = use_is stored settings.with_alias_only pattern base.now number its u c.before c.label c.meaning c.after c.cut c.captures asks often in
         let many : is_some_use (often_in u.before key.now) ≡ true = some_use (often_in u.before key.now) (omega (arith, some, ap (λ es. often_in es key.now) same)) in
         absurd (true≢false (sym many ∙ sym seen ∙ is))
 
     -- the placeholder with the key as its base key was read before the other one
-    pub own_first : new.is_other_used ≡ true → IsClashAt stored settings.with_alias_only pattern (record { key = name; first = own; second = its })
+    pub own_first : new.is_other_used ≡ true → IsClashAt stored settings.with_alias_only pattern (own_then_its)
     own_first = own_by the_own the_numbered c.last
 
     -- or after it
-    pub numbered_first : new.is_other_used ≡ false → IsClashAt stored settings.with_alias_only pattern (record { key = name; first = its; second = own })
+    pub numbered_first : new.is_other_used ≡ false → IsClashAt stored settings.with_alias_only pattern (its_then_own)
     numbered_first = numbered_by the_own the_numbered c.last

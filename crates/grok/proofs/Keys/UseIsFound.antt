@@ -4,6 +4,7 @@ use Rattle.std.specs.Prelude.{IsTrue, if◌then◌else◌}
 use Rattle.std.specs.FinMap as finite
 use Rattle.grok.specs.Tree.{Definitions, Label, Meaning, Item, PlaceholderItem, Event, Text, Open, Close, FaultEvent, deepest}
 use Rattle.grok.specs.Keys.{how_often}
+use Rattle.grok.specs.FaultLocations.{Step}
 use Rattle.grok.specs.ByteLocations.{IsOwnEvent, Regular, Opening, Closing, Broken, Deep, IsEventAt}
 use Rattle.grok.specs.CountedDefinitions.{counted}
 use Rattle.grok.specs.Searches.{PassesMore}
@@ -45,7 +46,7 @@ own_opening stored levels item own event label meaning (Closing n its_label its_
 own_opening stored levels item own event label meaning (Broken _ fault) is = cc
 own_opening stored levels item own event label meaning (Deep its_label its_meaning) is = cc
 
-pub use_found : (pattern : List ℕ) (path : List (List ℕ)) (text : List ℕ) (from to : ℕ) (item : Item) (before : List Event) (event : Event) (start new : UseSearch)
+pub use_found : (pattern : List ℕ) (path : List Step) (text : List ℕ) (from to : ℕ) (item : Item) (before : List Event) (event : Event) (start new : UseSearch)
     → IsEventAt (finite.get start.settings.grok.now) deepest pattern path text from to item before event → HasPassedUses start before new → IsSoughtUse start before event
     → IsUseAt start.settings start.keys deepest pattern path text from to start.so_far new.so_far
 use_found pattern path text from to item before (Open label meaning) start new at p (counts, asks, often) =

@@ -8,6 +8,7 @@ use Rattle.grok.specs.Expanded.{expanded, groups, nesting}
 use Rattle.grok.specs.Sizes.{Size, plus, digits_from, length_of, size_of_bytes, size_or_fault}
 use Rattle.grok.specs.MeasureCache.{shown, shown_result, measure_view}
 use Rattle.grok.specs.Measured.{Measured, Faulty, Sized, TooLong, size_within, fault_or, measured_tree}
+use Rattle.grok.specs.FaultLocations.{Step}
 use Rattle.grok.specs.ByteLocations.{IsOwnEvent, Regular, Opening, Closing, Broken, Deep, IsEventAt, IsPartOf, IsByteLocation}
 use Rattle.grok.specs.Searches.{PassesMore}
 use Rattle.grok.specs.declared.measure.settings.MeasureSettings.{MeasureSettings}
@@ -136,7 +137,7 @@ definition_size alias_only resolve levels text sum (Ok z) is same =
 
 -- ---- what the search finds
 
-pub byte_found : (stored : Definitions) (pattern : List ℕ) (path : List (List ℕ)) (text : List ℕ) (from to : ℕ) (item : Item) (before : List Event) (event : Event) (after : List Event) (old new : ByteSearch) (offset : ℕ) (part : WrittenByte)
+pub byte_found : (stored : Definitions) (pattern : List ℕ) (path : List Step) (text : List ℕ) (from to : ℕ) (item : Item) (before : List Event) (event : Event) (after : List Event) (old new : ByteSearch) (offset : ℕ) (part : WrittenByte)
     → first_structural (tree stored pattern) ≡ None → tree stored pattern ≡ before ++ event ∷ after → IsEventAt stored deepest pattern path text from to item before event → HasPassedBytes old before new → WritesByte old before event
     → ((z : Size) → new.before ≡ shown z → length_of z ≤ old.byte → old.byte ≡ length_of z + offset) → IsPartOfItem offset item part
     → IsByteLocation stored old.measurer.settings.with_alias_only pattern old.byte path text from to part

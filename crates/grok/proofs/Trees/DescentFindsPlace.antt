@@ -6,10 +6,11 @@ use Rattle.grok.specs.Tree.{Definitions, Label, Meaning, meaning_text, Item, Pla
 use Rattle.grok.specs.Items.{item_view}
 use Rattle.grok.specs.Events.{events_left}
 use Rattle.grok.specs.FaultLocations.{IsPieceAt, path_view}
+use Rattle.grok.specs.FaultLocations as location
 use Rattle.grok.specs.ByteLocations.{IsOwnEvent, Closing, IsEventAt, Here, Inside}
 use Rattle.grok.specs.PlacedItems.{HasRead, left_in}
 use Rattle.grok.specs.Searches.{Passing, Seeking, PassesMore, StopsAt}
-use Rattle.grok.specs.Descents.{Stopping, StopsInItem, EntersItem, IsEventStep, IsStep, names_of, IsFoundAt}
+use Rattle.grok.specs.Descents.{Stopping, StopsInItem, EntersItem, IsEventStep, IsStep, step_of, path_of, IsFoundAt}
 use Rattle.grok.specs.declared.defs.placed_items.PlacedItem.{PlacedItem}
 use Rattle.grok.specs.declared.defs.placed_items.PlacedItems.{PlacedItems}
 use Rattle.grok.specs.declared.descend.Opened.{Opened}
@@ -77,7 +78,7 @@ pub record IsDescending {S : Type 0} (passes : Passing S) (stored : Definitions)
   pub passed : passes start (events (inside (items_of stored) levels) before) new
 
 -- the search of a text stops at an event of this piece
-pub record IsStoppedAt {S : Type 0} (passes : Passing S) (stops : Stopping S) (stored : Definitions) (levels : ℕ) (text : List ℕ) (path : List (List ℕ))
+pub record IsStoppedAt {S : Type 0} (passes : Passing S) (stops : Stopping S) (stored : Definitions) (levels : ℕ) (text : List ℕ) (path : List location.Step)
     (found : List ℕ) (from to : ℕ) (item : Item) (old new : S) : Type 0 where
   pub before : List Event
   pub event : Event
@@ -124,22 +125,22 @@ module _ {S : Type 0} (passes : Passing S) (stops : Stopping S) (stored : Defini
 
     -- a place in the innermost text is one of the pattern
     way_leads : (around : List Opened) (levels : ℕ) (text : List ℕ) (start : S) → way_to around levels text start
-        → (rest : List (List ℕ)) (found : List ℕ) (from to : ℕ) (item : Item) (new : S) → IsStoppedAt passes stops stored levels text rest found from to item start new
-        → IsStoppedAt passes stops stored deepest pattern (names_of around ++ rest) found from to item old new
+        → (rest : List location.Step) (found : List ℕ) (from to : ℕ) (item : Item) (new : S) → IsStoppedAt passes stops stored levels text rest found from to item start new
+        → IsStoppedAt passes stops stored deepest pattern (path_of around ++ rest) found from to item old new
     way_leads around levels text start Outermost rest found from to item new u = u
     way_leads around levels text start (Within outside _ opened _ before _ items label meaning is way o) rest found from to item new u =
         let es = events_at (suc levels) items in
-        let whole : IsStoppedAt passes stops stored (suc levels) opened.items.text.now (opened.name.now ∷ rest) found from to item before new = record {
+        let whole : IsStoppedAt passes stops stored (suc levels) opened.items.text.now (step_of opened ∷ rest) found from to item before new = record {
           before = es ++ Open label meaning ∷ u.before;
           event = u.event;
-          stands = subst (λ name. IsEventAt stored (suc levels) opened.items.text.now (name ∷ rest) found from to item (es ++ Open label meaning ∷ u.before) u.event) o.named
+          stands = subst (λ name. IsEventAt stored (suc levels) opened.items.text.now (record { name = name; from = opened.placed.range.start; to = opened.placed.range.end } ∷ rest) found from to item (es ++ Open label meaning ∷ u.before) u.event) o.named
               (Inside levels opened.items.text.now items opened.placed.range.start opened.placed.range.end label meaning rest found from to item u.before u.event o.stands u.stands);
           passed = subst (λ es. passes before es new) (append_assoc es (Open label meaning ∷ []) u.before) (joins before start new (es ++ Open label meaning ∷ []) u.before o.passed u.passed);
           stopped = u.stopped;
         } in
-        let longer : names_of around ++ rest ≡ names_of outside ++ opened.name.now ∷ rest =
-        ap (λ around. names_of around ++ rest) is ∙ ap (λ names. names ++ rest) (map-append (λ (opened : Opened). opened.name.now) outside (opened ∷ [])) ∙ append_assoc (names_of outside) (opened.name.now ∷ []) rest in
-        subst (λ names. IsStoppedAt passes stops stored deepest pattern names found from to item old new) (sym longer) (way_leads outside (suc levels) opened.items.text.now before way (opened.name.now ∷ rest) found from to item new whole)
+        let longer : path_of around ++ rest ≡ path_of outside ++ step_of opened ∷ rest =
+        ap (λ around. path_of around ++ rest) is ∙ ap (λ names. names ++ rest) (map-append step_of outside (opened ∷ [])) ∙ append_assoc (path_of outside) (step_of opened ∷ []) rest in
+        subst (λ names. IsStoppedAt passes stops stored deepest pattern names found from to item old new) (sym longer) (way_leads outside (suc levels) opened.items.text.now before way (step_of opened ∷ rest) found from to item new whole)
 
     -- ---- the end of a text
 
@@ -199,11 +200,11 @@ module _ {S : Type 0} (passes : Passing S) (stops : Stopping S) (stored : Defini
         }
 
         pub descending_stops : (new : S) → StopsInItem passes stops stored d.levels (item_view placed.item) mid new
-            → IsStoppedAt passes stops stored deepest pattern (names_of around) later.text.now placed.range.start placed.range.end (item_view placed.item) old new
+            → IsStoppedAt passes stops stored deepest pattern (path_of around) later.text.now placed.range.start placed.range.end (item_view placed.item) old new
         descending_stops new s =
             let front = events_at d.levels d.before in
-            subst (λ text. IsStoppedAt passes stops stored deepest pattern (names_of around) text.now placed.range.start placed.range.end (item_view placed.item) old new) (sym same)
-            (subst (λ names. IsStoppedAt passes stops stored deepest pattern names inner.text.now placed.range.start placed.range.end (item_view placed.item) old new) (append-nil (names_of around))
+            subst (λ text. IsStoppedAt passes stops stored deepest pattern (path_of around) text.now placed.range.start placed.range.end (item_view placed.item) old new) (sym same)
+            (subst (λ names. IsStoppedAt passes stops stored deepest pattern names inner.text.now placed.range.start placed.range.end (item_view placed.item) old new) (append-nil (path_of around))
             (way_leads around d.levels inner.text.now d.start d.way [] inner.text.now placed.range.start placed.range.end (item_view placed.item) new (record {
               before = front ++ s.own;
               event = s.event;
@@ -275,12 +276,12 @@ module _ {S : Type 0} (passes : Passing S) (stops : Stopping S) (stored : Defini
               }
 
           pub closes_here : (new : S) → stops mid Close × (new ≡ mid)
-              → IsStoppedAt passes stops stored deepest pattern (names_of outside) outer.items.text.now outer.placed.range.start outer.placed.range.end (item_view outer.placed.item) old new
+              → IsStoppedAt passes stops stored deepest pattern (path_of outside) outer.items.text.now outer.placed.range.start outer.placed.range.end (item_view outer.placed.item) old new
           closes_here new (stopped, same) =
               let item = PlaceholderItem closing.label closing.meaning in
               let text = outer.items.text.now in
-              subst (λ item. IsStoppedAt passes stops stored deepest pattern (names_of outside) text outer.placed.range.start outer.placed.range.end item old new) (sym closing.opened.is)
-              (subst (λ names. IsStoppedAt passes stops stored deepest pattern names text outer.placed.range.start outer.placed.range.end item old new) (append-nil (names_of outside))
+              subst (λ item. IsStoppedAt passes stops stored deepest pattern (path_of outside) text outer.placed.range.start outer.placed.range.end item old new) (sym closing.opened.is)
+              (subst (λ names. IsStoppedAt passes stops stored deepest pattern names text outer.placed.range.start outer.placed.range.end item old new) (append-nil (path_of outside))
               (way_leads outside (suc closing.levels) text closing.start closing.way [] text outer.placed.range.start outer.placed.range.end item new (record {
                 before = front ++ own;
                 event = Close;
@@ -296,12 +297,12 @@ module _ {S : Type 0} (passed : Passing S) (sought : Seeking S) (stored : Defini
   all_passed more = more old [] begins
 
   pub found_at : (around : List Opened) (text : List ℕ) (placed : PlacedItem) (place : Place)
-      → IsStoppedAt (PassesMore passed) (StopsAt passed sought) stored deepest pattern (names_of around) text placed.range.start placed.range.end (item_view placed.item) old new
-      → path_view place.path.items ≡ names_of around → place.text.now ≡ text → (place.range ≡ placed.range) × (place.item ≡ placed.item)
+      → IsStoppedAt (PassesMore passed) (StopsAt passed sought) stored deepest pattern (path_of around) text placed.range.start placed.range.end (item_view placed.item) old new
+      → path_view place.location.path.items ≡ path_of around → place.location.text.now ≡ text → (place.location.range ≡ placed.range) × (place.item ≡ placed.item)
       → IsFoundAt passed sought stored pattern place old new
   unfolding tree
   found_at around text placed place u path_is text_is (range_is, item_is) =
-      let (after, cut) = event_follows stored deepest pattern (names_of around) text placed.range.start placed.range.end (item_view placed.item) u.before u.event u.stands in
+      let (after, cut) = event_follows stored deepest pattern (path_of around) text placed.range.start placed.range.end (item_view placed.item) u.before u.event u.stands in
       let all : passed old u.before new = u.passed old [] begins in
       record {
         before = u.before;

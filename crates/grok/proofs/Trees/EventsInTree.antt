@@ -1,7 +1,7 @@
 -- An event that comes from a place is in the tree, after the events before it.
 use Rattle.std.proofs.Common.{◌≡◌, ℕ, suc, List, [], ◌∷◌, ◌++◌, refl, sym, ◌∙◌, ap, append-nil, append_assoc}
 use Rattle.grok.specs.Tree.{Definitions, meaning_text, Item, TextItem, FaultItem, PlaceholderItem, items_of, events, inside, Event, Text, Open, Close, FaultEvent}
-use Rattle.grok.specs.FaultLocations.{IsPieceAt}
+use Rattle.grok.specs.FaultLocations.{Step, IsPieceAt}
 use Rattle.grok.specs.ByteLocations.{IsOwnEvent, Regular, Opening, Closing, Broken, Deep, IsEventAt, Here, Inside}
 
 pub events-append : (inner : List ℕ → List Event) (xs ys : List Item) → events inner (xs ++ ys) ≡ events inner xs ++ events inner ys
@@ -35,7 +35,7 @@ item_follows stored levels text items from to item own event stands (after, is) 
           ∙ sym (append_assoc front own (event ∷ (after ++ rest))),
     )
 
-pub event_follows : (stored : Definitions) (levels : ℕ) (text : List ℕ) (path : List (List ℕ)) (found : List ℕ) (from to : ℕ) (item : Item) (before : List Event) (event : Event)
+pub event_follows : (stored : Definitions) (levels : ℕ) (text : List ℕ) (path : List Step) (found : List ℕ) (from to : ℕ) (item : Item) (before : List Event) (event : Event)
     → IsEventAt stored levels text path found from to item before event → Follows (events (inside (items_of stored) levels) (items_of stored text)) before event
 event_follows stored levels text path found from to item before event (Here _ _ items _ _ _ own _ stands is_own) =
     item_follows stored levels text items from to item own event stands (own_follows stored levels item own event is_own)
@@ -53,7 +53,7 @@ pub record IsOwn (stored : Definitions) (item : Item) (event : Event) : Type 0 w
   pub own : List Event
   pub is_own : IsOwnEvent stored levels item own event
 
-pub own_event : (stored : Definitions) (levels : ℕ) (text : List ℕ) (path : List (List ℕ)) (found : List ℕ) (from to : ℕ) (item : Item) (before : List Event) (event : Event)
+pub own_event : (stored : Definitions) (levels : ℕ) (text : List ℕ) (path : List Step) (found : List ℕ) (from to : ℕ) (item : Item) (before : List Event) (event : Event)
     → IsEventAt stored levels text path found from to item before event → IsOwn stored item event
 own_event stored levels text path found from to item before event (Here _ _ items _ _ _ own _ stands is_own) = record { levels = levels; own = own; is_own = is_own }
 own_event stored levels text path found from to item before event (Inside n _ items begin end label meaning rest _ _ _ _ below _ stands at) =

@@ -1,7 +1,7 @@
 -- The first event that is a fault comes from the place of the first fault.
 use Rattle.std.proofs.Common.{◌≡◌, ℕ, suc, Bool, true, false, List, [], ◌∷◌, ◌++◌, Option, Some, None, refl, sym, ◌∙◌, ap, subst, append-nil}
 use Rattle.grok.specs.Tree.{Definitions, Fault, TooDeep, Inline, Stored, Item, TextItem, FaultItem, PlaceholderItem, items_of, events, inside, first_structural, Event, Text, Open, Close, FaultEvent}
-use Rattle.grok.specs.FaultLocations.{fault_within, IsPieceAt, IsOwnFault, IsFaultAt}
+use Rattle.grok.specs.FaultLocations.{Step, fault_within, IsPieceAt, IsOwnFault, IsFaultAt}
 use Rattle.grok.specs.FaultLocations as faults
 use Rattle.std.specs.Prelude.{IsTrue, not, is_some, if◌then◌else◌}
 use Rattle.std.specs.Option.{option_map}
@@ -44,7 +44,7 @@ sound_here stored (first ∷ before) item after h = sound_here stored before ite
 piece_sound : (stored : Definitions) (text : List ℕ) (items : List Item) (from to : ℕ) (item : Item) (stands : IsPieceAt stored text items from to item) → AreSound (items_of stored) stored (item ∷ stands.after)
 piece_sound stored text items from to item stands = sound_here stored items item stands.after (subst (AreSound (items_of stored) stored) stands.items ((sound_texts stored).sound text))
 
-pub located : (stored : Definitions) (levels : ℕ) (text : List ℕ) (path : List (List ℕ)) (found : List ℕ) (from to : ℕ) (item : Item) (before : List Event) (event : Event) (fault : Fault)
+pub located : (stored : Definitions) (levels : ℕ) (text : List ℕ) (path : List Step) (found : List ℕ) (from to : ℕ) (item : Item) (before : List Event) (event : Event) (fault : Fault)
     → IsEventAt stored levels text path found from to item before event → event ≡ FaultEvent fault → first_structural before ≡ None → IsFaultAt stored levels text path found from to fault
 located stored levels text path found from to item before event fault (Here _ _ items _ _ _ own _ stands is_own) is clean =
     faults.Here levels text items from to item fault stands (clean_parts (events (inside (items_of stored) levels) items) own clean).0 (own_fault stored levels item own event fault is_own is).0
@@ -77,7 +77,7 @@ passed_if true (Some fault) es is same before clean = cc
 passed_if false found es is same before clean = ap first_structural (append-nil before) ∙ clean
 
 -- a fault after events without a fault is the first one
-pub fault_found : (stored : Definitions) (levels : ℕ) (text : List ℕ) (path : List (List ℕ)) (found : List ℕ) (from to : ℕ) (item : Item) (before : List Event) (event : Event) (after all : List Event)
+pub fault_found : (stored : Definitions) (levels : ℕ) (text : List ℕ) (path : List Step) (found : List ℕ) (from to : ℕ) (item : Item) (before : List Event) (event : Event) (after all : List Event)
     → IsEventAt stored levels text path found from to item before event → all ≡ before ++ event ∷ after → first_structural before ≡ None → is_fault event ≡ true
     → (Some (fault_of_item item) ≡ first_structural all) × IsFaultAt stored levels text path found from to (fault_of_item item)
 fault_found stored levels text path found from to item before (FaultEvent fault) after all at cut clean is =

@@ -1,10 +1,11 @@
 -- What measuring, assigning keys and building return together is the result of compiling.
 use Rattle.std.proofs.Common.{◌≡◌, ◌≢◌, ℕ, suc, ◌<◌, ◌^◌, Bool, true, false, cond, List, [], ◌∷◌, length, map, Option, Some, None, Result, Ok, Err, ◌⊎◌, inl, inr, refl, sym, ◌∙◌, ap, subst, arith}
-use Rattle.std.specs.Prelude.{nat_lt, ◌==◌, MatchResult, IsErrAnd}
+use Rattle.std.specs.Prelude.{nat_lt, ◌==◌, MatchResult, IsErrAnd, IfOk}
 use Rattle.std.specs.Option.{option_map}
 use Rattle.std.specs.String.{string_bytes}
 use Rattle.std.specs.BTreeMap.{get_by_text}
 use Rattle.std.proofs.lemmas.Bool.{true≢false, ne_eqb, ltb-true}
+use Rattle.std.proofs.lemmas.Bool.Decides.{nat_tests}
 use Rattle.grok.specs.Tree.{Label, Fault, Event, Text, Open, Close, FaultEvent, first_structural}
 use Rattle.grok.specs.Keys.{is_capturing, key_after, is_among, first_fault_after, first_fault, TreeFault, Structural, Clash, keys, capturing, extract_of}
 use Rattle.grok.specs.Expanded.{expanded, groups, nesting}
@@ -18,10 +19,8 @@ use Rattle.grok.specs.AssignedKeys.{HasKeys}
 use Rattle.grok.specs.declared.errors.error.Error.{Error}
 use Rattle.grok.specs.declared.errors.error.Error.TheVariants as rust
 use Rattle.grok.specs.Errors.{ErrorValue, Memory, error_value}
-use Rattle.grok.specs.Compiled.{IsFaultError, IsFirstError, error_of_refusal, IsBuilt, IsRefusal, Refused, Expansion, Compiles, IsCompileError, Empty, First, Unbuilt, NoMemory}
+use Rattle.grok.specs.Compiled.{IsFaultError, IsFirstError, error_of_refusal, IsBuilt, IsRefusal, Refused, Expansion, CanBuild, Compiles, IsCompileError, Empty, First, Unbuilt, NoMemory}
 use Rattle.grok.specs.declared.expand.write.ExpandedPattern.{ExpandedPattern}
-use Rattle.grok.specs.declared.why_refused.RegexRefusal.{RegexRefusal}
-use Rattle.grok.specs.Refusals.{Examines}
 use Rattle.grok.specs.Expansions.{NeverRefuses, IsExpansionError, IsExpansionOf, Expands}
 
 -- ---- what was measured
@@ -67,6 +66,18 @@ fits_or (Some fault) n g h m k l e = cc
 -- the text of a tree that was measured fits
 pub sized_fits : (alias_only : Bool) (es : List Event) (m k l : ℕ) → Sized m k l ≡ measured_tree alias_only es → length (expanded alias_only es) < 2 ^ 64
 sized_fits alias_only es m k l e = fits_or (first_structural es) (length (expanded alias_only es)) (groups alias_only es) (nesting es) m k l e
+
+too_long_as : (n g h : ℕ) (b : Bool) → nat_lt n (2 ^ 64) ≡ b → TooLong ≡ cond b (Sized n g h) TooLong → n < 2 ^ 64 → ⊥
+too_long_as n g h true lt e low = cc
+too_long_as n g h false lt e low = grind (arith, nat_tests, lt, low)
+
+too_long_or : (o : Option Fault) (n g h : ℕ) → TooLong ≡ fault_or o (size_within n g h) → (o ≡ None) × (n < 2 ^ 64 → ⊥)
+too_long_or None n g h e = (refl, too_long_as n g h (nat_lt n (2 ^ 64)) refl e)
+too_long_or (Some fault) n g h e = cc
+
+-- a tree that is measured as too long has no structural fault, and its text doesn't fit
+pub too_long_is : (alias_only : Bool) (es : List Event) → TooLong ≡ measured_tree alias_only es → (first_structural es ≡ None) × (length (expanded alias_only es) < 2 ^ 64 → ⊥)
+too_long_is alias_only es e = too_long_or (first_structural es) (length (expanded alias_only es)) (groups alias_only es) (nesting es) e
 
 none_by : (capturing taken : Bool) (key : List ℕ) (o p : Option TreeFault) (q : Option Fault) → (o ≡ None → q ≡ None) → (p ≡ None → q ≡ None) → cond capturing (cond taken (Some (Clash key)) o) p ≡ None → q ≡ None
 none_by true true key o p q f h e = cc
@@ -130,9 +141,11 @@ module _ (e : Expansion) (some : e.pattern ≢ []) where
   expansion_without_memory (Ok p) h = elim h [ ]
   expansion_without_memory (Err error) h = subst (λ is. IsExpansionError e is) (sym h) (NoMemory some)
 
-  pub examined_without_memory : (r : Result (Option RegexRefusal) Error) → IsErrAnd r (λ error. error ≡ rust.Memory) → Examines e r
-  examined_without_memory (Ok found) h = elim h [ ]
-  examined_without_memory (Err error) h = subst (λ is. IsExpansionError e is) (sym h) (NoMemory some)
+-- expanding a pattern without a fault
+pub expansion_if : {E : Type 0} (e : Expansion) (r : Result ExpandedPattern E) → e.pattern ≢ [] → CanBuild e → IfOk r (λ found. string_bytes found.text ≡ expanded e.alias_only e.tree)
+    → IfOk r (λ found. HasKeys e.alias_only e.tree found.keys) → IfOk r (IsExpansionOf e)
+expansion_if e (Ok found) some can text keys = record { some = some; can = can; text = text; keys = keys }
+expansion_if e (Err error) some can text keys = tt
 
 module _ {E : Type 0} (source_of : E → List ℕ) (group_names : E → List (Option (List ℕ))) (may_refuse : List ℕ → Type 0) (e : Expansion) where
   pub unexpanded_answer : (r : Result (PatternValue E) Error) (error : Error) → IsErrAnd r (λ same. same ≡ error) → IsExpansionError e error → Compiles source_of group_names may_refuse e r

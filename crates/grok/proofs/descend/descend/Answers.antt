@@ -5,7 +5,7 @@ use Rattle.grok.specs.Tree.{Definitions, deepest, items_of}
 use Rattle.grok.specs.Items.{item_view, meaning_view}
 use Rattle.grok.specs.PlacedItems.{IsOfLibrary, HasRead, left_in}
 use Rattle.grok.specs.Searches.{PassesMore, StopsAt}
-use Rattle.grok.specs.Descents.{IsStep, names_of}
+use Rattle.grok.specs.Descents.{IsStep, path_of}
 use Rattle.grok.specs.declared.defs.placed_items.PlacedItems.{PlacedItems}
 use Rattle.grok.specs.declared.descend.Opened.{Opened}
 use Rattle.grok.proofs.Trees.DescentFindsPlace.{descending_starts, descending_fits, descending_levels, descending_goes_on, descending_stops, descending_enters, descending_ends, closes_on, closes_here, found_at, step_fewer, enter_fewer, close_fewer, all_passed, passes_none, passes_both}
@@ -99,7 +99,7 @@ returns-in-Stopped-clause-found g c =
     let place = c.in_ok-place_of-in-Stopped in
     let here = descending_stops (PassesMore s.HasPassed) (StopsAt s.HasPassed s.IsSought) stored (passes_both s.HasPassed) pattern old around inner mid d later c.in_ok-placed.ensures.text placed stands read new (rw c.in-Stopped.is at stepped) in
     found_at s.HasPassed s.IsSought stored pattern old new c.requires.begins around later.text.now placed place.field-0 here
-    (place.ensures.path ∙ ap names_of c.deref.ensures.value) (ap (λ (text : Bor (List ℕ)). text.now) place.ensures.text) place.ensures.placed
+    (place.ensures.path ∙ ap path_of c.deref.ensures.value) (ap (λ (text : Bor (List ℕ)). text.now) place.ensures.text) place.ensures.placed
 
 pub items-smaller-in_ok-push-in-Entered : goal.items-smaller-in_ok-push-in-Entered
 items-smaller-in_ok-push-in-Entered g c =
@@ -195,7 +195,7 @@ returns-then-not-pass_event-clause-found g c =
     let place = c.in_ok-place_of-in-None in
     let here = closes_here (PassesMore s.HasPassed) (StopsAt s.HasPassed s.IsSought) stored (passes_both s.HasPassed) pattern old around inner mid d over outside outer c.in-Some-pop.ensures.items new (c.if-not-pass_event.ensures.stopped refl, c.if-not-pass_event.ensures.same refl) in
     found_at s.HasPassed s.IsSought stored pattern old new c.requires.begins outside outer.items.text.now outer.placed place.field-0 here
-    (place.ensures.path ∙ ap names_of c.deref-then-not-pass_event.ensures.value) (ap (λ (text : Bor (List ℕ)). text.now) place.ensures.text) place.ensures.placed
+    (place.ensures.path ∙ ap path_of c.deref-then-not-pass_event.ensures.value) (ap (λ (text : Bor (List ℕ)). text.now) place.ensures.text) place.ensures.placed
 
 pub items-smaller : goal.items-smaller
 items-smaller g c =

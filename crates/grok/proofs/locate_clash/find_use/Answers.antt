@@ -14,4 +14,4 @@ returns-in-Some c =
     let start : UseSearch = record { settings = c.args.settings; definitions = c.args.definitions; keys = c.args.keys; so_far = c.args.so_far.now } in
     let place = c.in-Some.place in
     let f = rw c.in-Some.is at c.in_ok-found.ensures.found in
-    use_found c.args.pattern.now (path_view place.path.items) place.text.now place.range.start place.range.end (item_view place.item) f.before f.event start c.descend.new.search f.stands f.passed f.sought
+    use_found c.args.pattern.now (path_view place.location.path.items) place.location.text.now place.location.range.start place.location.range.end (item_view place.item) f.before f.event start c.descend.new.search f.stands f.passed f.sought

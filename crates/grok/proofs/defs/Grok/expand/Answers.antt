@@ -62,6 +62,11 @@ returns-in-Some-2 c =
     First (error_value c.in-Some-2.error) (some_bytes c.args.pattern.now (sym c.is_empty.ensures ∙ c.if-is_empty.false)) (rw c.in-Some-2.is at c.in_ok-error-in-Size.ensures)
     (λ clean. sized_fits c.args.with_alias_only events c.in-Size.length c.in-Size.groups c.in-Size.nesting (sym (ap measure_view c.in-Size.is) ∙ c.in_ok-found.ensures.measured.answer))
 
+pub returns-in_err-expand_clean-in-Size : goal.returns-in_err-expand_clean-in-Size
+returns-in_err-expand_clean-in-Size c =
+    expansion_without_memory (expansion_of c.args.self.now c.args.with_alias_only c.args.pattern.now)
+    (some_bytes c.args.pattern.now (sym c.is_empty.ensures ∙ c.if-is_empty.false)) c.from_residual-in_err-expand_clean-in-Size.result c.from_residual-in_err-expand_clean-in-Size.ensures.1
+
 pub expand_clean-requires-clause-clean : goal.expand_clean-requires-clause-clean
 expand_clean-requires-clause-clean c =
     let events : List Event = tree (finite.get c.args.self.now) c.args.pattern.now in

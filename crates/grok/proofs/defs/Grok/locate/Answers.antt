@@ -14,7 +14,7 @@ returns-clause-fault c =
     let stored = finite.get c.args.self.now in
     let place = c.in-Some.place in
     let f = rw c.in-Some.is at c.in_ok-descend.ensures.found in
-    let both = fault_found stored deepest c.args.pattern.now (path_view place.path.items) place.text.now place.range.start place.range.end (item_view place.item) f.before f.event f.after (tree stored c.args.pattern.now) f.stands f.cut f.passed f.sought in
+    let both = fault_found stored deepest c.args.pattern.now (path_view place.location.path.items) place.location.text.now place.location.range.start place.location.range.end (item_view place.item) f.before f.event f.after (tree stored c.args.pattern.now) f.stands f.cut f.passed f.sought in
     ap Some c.fault_of_item.ensures ∙ both.0
 
 pub returns-clause-location : goal.returns-clause-location
@@ -22,5 +22,5 @@ returns-clause-location c =
     let stored = finite.get c.args.self.now in
     let place = c.in-Some.place in
     let f = rw c.in-Some.is at c.in_ok-descend.ensures.found in
-    let both = fault_found stored deepest c.args.pattern.now (path_view place.path.items) place.text.now place.range.start place.range.end (item_view place.item) f.before f.event f.after (tree stored c.args.pattern.now) f.stands f.cut f.passed f.sought in
-    subst (IsFaultAt stored deepest c.args.pattern.now (path_view place.path.items) place.text.now place.range.start place.range.end) (sym c.fault_of_item.ensures) both.1
+    let both = fault_found stored deepest c.args.pattern.now (path_view place.location.path.items) place.location.text.now place.location.range.start place.location.range.end (item_view place.item) f.before f.event f.after (tree stored c.args.pattern.now) f.stands f.cut f.passed f.sought in
+    subst (IsFaultAt stored deepest c.args.pattern.now (path_view place.location.path.items) place.location.text.now place.location.range.start place.location.range.end) (sym c.fault_of_item.ensures) both.1

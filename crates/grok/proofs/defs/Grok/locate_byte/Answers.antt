@@ -47,6 +47,6 @@ returns c =
     let clean : first_structural (tree stored pattern) ≡ None = measured_clean c.args.with_alias_only (tree stored pattern) c.in_ok-measure.measure c.in_default.not-Fault measured in
     let place = c.in-Some.place in
     let f = rw c.in-Some.is at c.in_ok-descend.ensures.found in
-    subst (λ (settings : MeasureSettings). IsByteLocation stored settings.with_alias_only pattern c.args.byte (path_view place.path.items) place.text.now place.range.start place.range.end c.part_of_item.result) settings
-    (byte_found stored pattern (path_view place.path.items) place.text.now place.range.start place.range.end (item_view place.item) f.before f.event f.after start c.descend.new.search c.offset_after.result c.part_of_item.result
+    subst (λ (settings : MeasureSettings). IsByteLocation stored settings.with_alias_only pattern c.args.byte (path_view place.location.path.items) place.location.text.now place.location.range.start place.location.range.end c.part_of_item.result) settings
+    (byte_found stored pattern (path_view place.location.path.items) place.location.text.now place.location.range.start place.location.range.end (item_view place.item) f.before f.event f.after start c.descend.new.search c.offset_after.result c.part_of_item.result
     clean f.cut f.stands f.passed f.sought c.offset_after.ensures c.part_of_item.ensures)

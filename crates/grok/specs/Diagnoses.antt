@@ -1,0 +1,111 @@
+-- What is wrong with a pattern, and where.
+use Rattle.std.specs.Prelude.{◌≡◌, ◌≢◌, ℕ, ◌+◌, ◌-◌, min, Bool, List, [], Option, Some, None, MatchOption, string_bytes}
+use Rattle.std.specs.FinMap as finite
+use Rattle.grok.specs.declared.parser.GrokPatternError.{GrokPatternError}
+use Rattle.grok.specs.Maps.{Texts}
+use Rattle.grok.specs.Tree as tree
+use Rattle.grok.specs.Tree.{Definitions, MalformedPiece, first_structural}
+use Rattle.grok.specs.Keys.{Structural, first_fault}
+use Rattle.grok.specs.Keys as keys
+use Rattle.grok.specs.Expanded.{expanded}
+use Rattle.grok.specs.Compiled.{expansion_of, Fits, CanBuild}
+use Rattle.grok.specs.FaultLocations.{IsFaultOf, path_view}
+use Rattle.grok.specs.ByteLocations.{HasByte, IsByteLocation}
+use Rattle.grok.specs.ClashLocations.{IsClashAt}
+use Rattle.grok.specs.Malformations.{IsMalformedAt}
+use Rattle.grok.specs.Refusals.{IsRegexText, IsReasonFor}
+use Rattle.grok.specs.declared.location.Location.{Location}
+use Rattle.grok.specs.declared.locate_clash.Clash.{Clash}
+use Rattle.grok.specs.declared.locate_byte.WrittenByte.{WrittenByte}
+use Rattle.grok.specs.declared.locate_byte.WrittenByte.TheVariants.{Copied, OfGroup}
+use Rattle.grok.specs.declared.malformed.MalformedReason.{MalformedReason}
+use Rattle.grok.specs.declared.why_refused.RefusalReason.{RefusalReason}
+use Rattle.grok.specs.declared.why_refused.RefusalReason.TheVariants.{Syntax, TooBig}
+use Rattle.grok.specs.declared.diagnose.Refused.{Refused}
+use Rattle.grok.specs.declared.diagnose.Diagnosis.{Diagnosis}
+use Rattle.grok.specs.declared.diagnose.Diagnosis.TheVariants as diagnosis
+
+-- ---- where a part of the expanded text comes from
+
+-- The range of a text that a part of `length` bytes of the expanded text comes from, which begins in the piece from `from`
+-- to `to`. A part that begins in regular text was copied from there, up to the end of the piece at most. A part that begins
+-- in the group of a placeholder comes from the whole placeholder.
+abbrev pub IsRangeOf : (length from to : ℕ) → WrittenByte → (begin end : ℕ) → Type 0
+IsRangeOf length from to (Copied offset) begin end = (begin ≡ min (from + offset) to) × (end ≡ min (begin + length) to)
+IsRangeOf length from to OfGroup begin end = (begin ≡ from) × (end ≡ to)
+
+-- the location from which the part from `start` to `stop` of the expanded text comes
+pub record IsOriginOf (stored : Definitions) (alias_only : Bool) (pattern : List ℕ) (start stop : ℕ) (location : Location)
+    : Type 0 where
+  pub from : ℕ
+  pub to : ℕ
+  pub written : WrittenByte
+  pub begins : IsByteLocation stored alias_only pattern start (path_view location.path.items) location.text.now from to written
+  pub range : IsRangeOf (stop - start) from to written location.range.start location.range.end
+
+-- Where the reason of a refusal stands: where the part of an error of syntax comes from, or nowhere if that part is at the
+-- end of the expanded text, or if the regex is too big.
+abbrev pub LocatesReason : Definitions → Bool → List ℕ → RefusalReason → Option Location → Type 0
+LocatesReason stored alias_only pattern (Syntax error) found = MatchOption found
+    (HasByte alias_only (tree.tree stored pattern) error.span.start → ⊥)
+    (IsOriginOf stored alias_only pattern error.span.start error.span.end)
+LocatesReason stored alias_only pattern TooBig found = found ≡ None
+
+-- ---- diagnoses
+
+-- what compiling finds first is this structural fault, and it stands at this location
+pub record IsFirstStructural (texts : Texts) (alias_only : Bool) (pattern : List ℕ) (fault : tree.Fault) (location : Location)
+    : Type 0 where
+  pub first : first_fault alias_only (tree.tree (finite.get texts) pattern) ≡ Some (Structural fault)
+  pub stands : IsFaultOf (finite.get texts) pattern fault location
+
+-- what compiling finds first is a malformed placeholder, which stands at this location, and is malformed for this reason
+-- from the position `byte` of its text on
+pub record IsFirstMalformed (texts : Texts) (alias_only : Bool) (pattern : List ℕ) (why : MalformedReason) (byte : ℕ)
+    (location : Location) : Type 0 where
+  pub fault : GrokPatternError
+  pub structural : IsFirstStructural texts alias_only pattern (MalformedPiece fault) location
+  pub malformed : IsMalformedAt location.text.now location.range.start why byte
+
+-- What compiling finds first is this clash. If the tree is clean, the expanded text fits a `usize`.
+pub record IsFirstClashOf (texts : Texts) (alias_only : Bool) (pattern : List ℕ) (clash : Clash) : Type 0 where
+  pub first : first_fault alias_only (tree.tree (finite.get texts) pattern) ≡ Some (keys.Clash (string_bytes clash.key))
+  pub stands : IsClashAt (finite.get texts) alias_only pattern clash
+  pub fits : first_structural (tree.tree (finite.get texts) pattern) ≡ None → Fits (expansion_of texts alias_only pattern)
+
+-- The pattern has no fault, and `regex` may refuse its expanded text for this reason.
+pub record IsRefusedAs (texts : Texts) (alias_only : Bool) (pattern : List ℕ) (refused : Refused) : Type 0 where
+  pub some : pattern ≢ []
+  pub can : CanBuild (expansion_of texts alias_only pattern)
+  pub text : string_bytes refused.text ≡ expanded alias_only (tree.tree (finite.get texts) pattern)
+  pub reason : IsReasonFor (string_bytes refused.text) refused.reason
+  pub location : LocatesReason (finite.get texts) alias_only pattern refused.reason refused.location
+
+-- The pattern has no structural fault, and its expanded text is longer than the greatest `usize`.
+pub record IsTooLong (texts : Texts) (alias_only : Bool) (pattern : List ℕ) : Type 0 where
+  pub clean : first_structural (tree.tree (finite.get texts) pattern) ≡ None
+  pub long : Fits (expansion_of texts alias_only pattern) → ⊥
+
+-- what is wrong with the pattern
+abbrev pub IsDiagnosis : Texts → Bool → List ℕ → Diagnosis → Type 0
+IsDiagnosis texts alias_only pattern diagnosis.Empty = pattern ≡ []
+IsDiagnosis texts alias_only pattern (diagnosis.Malformed reason byte location) =
+    IsFirstMalformed texts alias_only pattern reason byte location
+IsDiagnosis texts alias_only pattern (diagnosis.Missing name location) =
+    IsFirstStructural texts alias_only pattern (tree.Missing name.now) location
+IsDiagnosis texts alias_only pattern (diagnosis.TooDeep location) =
+    IsFirstStructural texts alias_only pattern tree.TooDeep location
+IsDiagnosis texts alias_only pattern (diagnosis.Clash clash) = IsFirstClashOf texts alias_only pattern clash
+IsDiagnosis texts alias_only pattern (diagnosis.Refused refused) = IsRefusedAs texts alias_only pattern refused
+IsDiagnosis texts alias_only pattern diagnosis.TooLong = IsTooLong texts alias_only pattern
+
+-- Nothing is wrong with the pattern: it isn't empty, it has no fault, and `regex` builds a regex from its expanded text.
+pub record IsFine (texts : Texts) (alias_only : Bool) (pattern : List ℕ) : Type 0 where
+  pub some : pattern ≢ []
+  pub can : CanBuild (expansion_of texts alias_only pattern)
+  pub regex : IsRegexText (expanded alias_only (tree.tree (finite.get texts) pattern))
+
+-- THE DIAGNOSIS OF A PATTERN: what is wrong with it, or `None` if nothing is.
+abbrev pub FindsDiagnosis : Texts → Bool → List ℕ → Option Diagnosis → Type 0
+FindsDiagnosis texts alias_only pattern found = MatchOption found (IsFine texts alias_only pattern)
+    (IsDiagnosis texts alias_only pattern)
