@@ -22,7 +22,6 @@ pub(crate) fn call(rt: &HostRuntime, name: &str) -> Result<()> {
         "aliases" => compile::<Heads>(rt, &USERS, "%{USER:usr:text}", true),
         "all_names" => compile::<Heads>(rt, &USERS, "%{USER:usr:text}", false),
         "refused" => compile::<Refuser>(rt, &TWO_LEVELS, "%{A}", false),
-        "why_refused" => why_refused(rt),
         "bare_short" => compile_repeated(rt, 1),
         "bare_long" => compile_repeated(rt, 5000),
         "mac" => compile::<RegexEngine>(rt, &grok::patterns(), "%{MAC}", false),
@@ -82,10 +81,4 @@ fn compile_repeated(rt: &HostRuntime, count: usize) -> Result<()> {
         pattern.push_str("%a")?;
     }
     compile::<Bare>(rt, &[], pattern.as_str(), false)
-}
-
-fn why_refused(rt: &HostRuntime) -> Result<()> {
-    let grok = Grok::from_iter(rt.alloc(), &[("A", "a(b")])?;
-    twice!(rt, grok.why_refused("%{A}", false));
-    Ok(())
 }

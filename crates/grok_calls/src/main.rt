@@ -22,6 +22,7 @@ macro_rules! twice {
 mod chains;
 mod compiles;
 mod definitions;
+mod diagnoses;
 mod engines;
 mod errors;
 mod matches;
@@ -56,6 +57,7 @@ fn make_call(rt: &HostRuntime, group: &str, name: &str) -> Result<()> {
         "pieces" => pieces::call(rt, name),
         "definitions" => definitions::call(rt, name),
         "measures" => measures::call(rt, name),
+        "diagnoses" => diagnoses::call(rt, name),
         "errors" => errors::call(rt, name),
         "engines" => engines::call(rt, name),
         "chains" => chains::call(rt, name),

@@ -3,13 +3,11 @@
 #![tactic(auto)]
 
 #[cfg(test)]
-mod byte_locations;
-#[cfg(test)]
-mod clash_locations;
-#[cfg(test)]
 mod deep;
 #[cfg(test)]
 mod definitions;
+#[cfg(test)]
+mod diagnoses;
 #[cfg(test)]
 mod errors;
 #[cfg(test)]
@@ -17,12 +15,8 @@ mod large;
 #[cfg(test)]
 mod libraries;
 #[cfg(test)]
-mod locations;
-#[cfg(test)]
 mod measure;
 #[cfg(test)]
 mod pieces;
-#[cfg(test)]
-mod refusals;
 #[cfg(test)]
 mod rows;

@@ -1,0 +1,21 @@
+//! Calls of `diagnose`, one for each kind of fault that it measures or searches for.
+use anyhow::{Result, bail};
+use grok::Grok;
+
+pub(crate) fn call(rt: &HostRuntime, name: &str) -> Result<()> {
+    match name {
+        "nothing" => diagnose(rt, &[("A", "a"), ("B", "%{A}%{A}")], "%{B:key}"),
+        "missing" => diagnose(rt, &[("A", "a"), ("B", "%{A}%{MISSING}")], "%{A}%{B:key}"),
+        "malformed" => diagnose(rt, &[("A", "a%{b c}")], "%{A}"),
+        "clash" => diagnose(rt, &[("A", "a"), ("B", "%{A:x}%{A:x}")], "%{A:x[1]}%{B}"),
+        "refused" => diagnose(rt, &[("A", "a(b")], "%{A}"),
+        _ => bail!("no call has this name"),
+    }
+}
+
+/// Diagnoses a pattern in alias-only mode.
+fn diagnose(rt: &HostRuntime, definitions: &[(&str, &str)], pattern: &str) -> Result<()> {
+    let grok = Grok::from_iter(rt.alloc(), definitions)?;
+    twice!(rt, grok.diagnose(pattern, true));
+    Ok(())
+}
