@@ -10,7 +10,6 @@ ghost use Rattle.grok.specs.Diagnoses.{IsRangeOf, IsOriginOf, LocatesReason, Fin
 use crate::defs::Grok;
 use crate::errors::fault::Fault;
 use crate::expand::write::ExpandedPattern;
-use crate::locate::FaultLocation;
 use crate::locate_byte::WrittenByte;
 use crate::locate_clash::Clash;
 use crate::location::Location;
@@ -156,21 +155,22 @@ impl Grok {
             (tree_of (finite.get self.now) pattern.now) ≢ Some (KeyClash key) }
         ensures { IfOk result (FindsDiagnosis self.now with_alias_only pattern.now) }
     {
-        let Some(FaultLocation { fault, location }) = self.locate(pattern)? else {
+        let Some(found) = self.locate(pattern)? else {
             return Ok(None);
         };
-        Ok(Some(match fault {
-            Fault::Missing(name) => Diagnosis::Missing { name, location },
-            Fault::TooDeep => Diagnosis::TooDeep(location),
+        let location = found.location;
+        match found.fault {
+            Fault::Missing(name) => Ok(Some(Diagnosis::Missing { name, location })),
+            Fault::TooDeep => Ok(Some(Diagnosis::TooDeep(location))),
             Fault::Malformed(_) => {
                 let (reason, byte) = malformation_at(location.text, location.range.start);
-                Diagnosis::Malformed {
+                Ok(Some(Diagnosis::Malformed {
                     reason,
                     byte,
                     location,
-                }
+                }))
             }
-        }))
+        }
     }
 
     /// Finds out why [`Grok::compile`] returns an error for a pattern, and where in the pattern or

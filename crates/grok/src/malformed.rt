@@ -112,10 +112,12 @@ fn after_word<'a>(kind: WordKind, text: &'a str) -> AfterWord<'a>
     if let Some(reason) = kind.reason(word.is_empty(), terminator) {
         return AfterWord::Malformed(Malformation { reason, rest: text });
     }
-    match terminator {
-        ':' => AfterWord::Word(characters.as_str()),
-        '=' => AfterWord::Definition(characters.as_str()),
-        _ => AfterWord::Close,
+    if terminator == ':' {
+        AfterWord::Word(characters.as_str())
+    } else if terminator == '=' {
+        AfterWord::Definition(characters.as_str())
+    } else {
+        AfterWord::Close
     }
 }
 
@@ -125,12 +127,22 @@ fn malformation_of_definition<'a>(text: &'a str) -> Malformation<'a>
     ensures { IsDefinitionMalformed text.now result.reason result.rest.now }
 {
     let (_definition, rest) = split_brace(text);
-    let reason = match rest.as_bytes().first() {
-        None => MalformedReason::Unclosed,
-        Some(b'{') => MalformedReason::BraceInDefinition,
-        Some(_) => MalformedReason::NoDefinition,
-    };
-    Malformation { reason, rest }
+    if rest.is_empty() {
+        return Malformation {
+            reason: MalformedReason::Unclosed,
+            rest,
+        };
+    }
+    if rest.as_bytes()[0] == b'{' {
+        return Malformation {
+            reason: MalformedReason::BraceInDefinition,
+            rest,
+        };
+    }
+    Malformation {
+        reason: MalformedReason::NoDefinition,
+        rest,
+    }
 }
 
 /// Returns why the placeholder is malformed whose `%{` this text follows.

@@ -18,15 +18,15 @@ pub word_end_none : (word rest : List ℕ) → length rest ≡ 0 → word_end wo
 word_end_none word [] e = refl
 word_end_none word (b ∷ bs) e = absurd (omega arith)
 
-first_from_get : (cs : List ℕ) (c : ℕ) → Some c ≡ slice_get cs 0 → get_or cs 0 0 ≡ c
+pub first_from_get : (cs : List ℕ) (c : ℕ) → Some c ≡ slice_get cs 0 → get_or cs 0 0 ≡ c
 first_from_get [] c e = cc
 first_from_get (d ∷ cs) c e = cc
 
-char_nonempty : (c : ℕ) (more : List ℕ) → 0 < length (encode c ++ more)
+pub char_nonempty : (c : ℕ) (more : List ℕ) → 0 < length (encode c ++ more)
 char_nonempty c more = let h = len_utf8_bounds c in omega (arith, length-append (encode c) more, length-encode c)
 
 -- the same byte, if it is a terminator
-bad_byte : (b c : ℕ) (bs more : List ℕ) → (b ∷ bs) ≡ encode c ++ more → is_terminator c ≡ false → (t : Bool) → is_terminator b ≡ t → is_terminator b ≡ false
+pub bad_byte : (b c : ℕ) (bs more : List ℕ) → (b ∷ bs) ≡ encode c ++ more → is_terminator c ≡ false → (t : Bool) → is_terminator b ≡ t → is_terminator b ≡ false
 bad_byte b c bs more e f false h = h
 bad_byte b c bs more e f true h =
     let same : c ≡ b = char_from_byte (b ∷ bs) more c e (terminator_ascii b h) (omega arith) in

@@ -62,7 +62,7 @@ malformed_piece stored written (Malformed other ∷ front) piece rest (x ∷ bef
 
 -- a malformed piece of a text begins with `%{`, and has a fault of the grammar
 malformed_there : (text : List ℕ) (from : ℕ) (front rest : List Piece) (fault : GrokPatternError) → ArePieces text from (front ++ Malformed fault ∷ rest) → HasMalformedAt text (end_of_all text from front)
-malformed_there text from [] rest fault are = (are.1, fault, are.3)
+malformed_there text from [] rest fault are = (are.1, (fault, are.3))
 malformed_there text from (Regular s e part ∷ front) rest fault are = malformed_there text e front rest fault are.3
 malformed_there text from (Placeholder s e part parts ∷ front) rest fault are = malformed_there text e front rest fault are.3
 malformed_there text from (Malformed other ∷ []) rest fault are = let none = are.0 in cc

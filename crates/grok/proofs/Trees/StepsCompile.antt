@@ -5,7 +5,6 @@ use Rattle.std.specs.Option.{option_map}
 use Rattle.std.specs.String.{string_bytes}
 use Rattle.std.specs.BTreeMap.{get_by_text}
 use Rattle.std.proofs.lemmas.Bool.{true≢false, ne_eqb, ltb-true}
-use Rattle.std.proofs.lemmas.Bool.Decides.{nat_tests}
 use Rattle.grok.specs.Tree.{Label, Fault, Event, Text, Open, Close, FaultEvent, first_structural}
 use Rattle.grok.specs.Keys.{is_capturing, key_after, is_among, first_fault_after, first_fault, TreeFault, Structural, Clash, keys, capturing, extract_of}
 use Rattle.grok.specs.Expanded.{expanded, groups, nesting}
@@ -66,18 +65,6 @@ fits_or (Some fault) n g h m k l e = cc
 -- the text of a tree that was measured fits
 pub sized_fits : (alias_only : Bool) (es : List Event) (m k l : ℕ) → Sized m k l ≡ measured_tree alias_only es → length (expanded alias_only es) < 2 ^ 64
 sized_fits alias_only es m k l e = fits_or (first_structural es) (length (expanded alias_only es)) (groups alias_only es) (nesting es) m k l e
-
-too_long_as : (n g h : ℕ) (b : Bool) → nat_lt n (2 ^ 64) ≡ b → TooLong ≡ cond b (Sized n g h) TooLong → n < 2 ^ 64 → ⊥
-too_long_as n g h true lt e low = cc
-too_long_as n g h false lt e low = grind (arith, nat_tests, lt, low)
-
-too_long_or : (o : Option Fault) (n g h : ℕ) → TooLong ≡ fault_or o (size_within n g h) → (o ≡ None) × (n < 2 ^ 64 → ⊥)
-too_long_or None n g h e = (refl, too_long_as n g h (nat_lt n (2 ^ 64)) refl e)
-too_long_or (Some fault) n g h e = cc
-
--- a tree that is measured as too long has no structural fault, and its text doesn't fit
-pub too_long_is : (alias_only : Bool) (es : List Event) → TooLong ≡ measured_tree alias_only es → (first_structural es ≡ None) × (length (expanded alias_only es) < 2 ^ 64 → ⊥)
-too_long_is alias_only es e = too_long_or (first_structural es) (length (expanded alias_only es)) (groups alias_only es) (nesting es) e
 
 none_by : (capturing taken : Bool) (key : List ℕ) (o p : Option TreeFault) (q : Option Fault) → (o ≡ None → q ≡ None) → (p ≡ None → q ≡ None) → cond capturing (cond taken (Some (Clash key)) o) p ≡ None → q ≡ None
 none_by true true key o p q f h e = cc

@@ -35,7 +35,7 @@ returns-then-so_far-clause-location c =
     let k = known_clash settings c.args.pattern.now text base number c.in-Some.ensures.0 c.in-Some.ensures.1 c.requires.known (c.requires.clash ∙ ap (λ key. Some (Clash key)) (sym c.as_str-text.ensures.value)) in
     let own_at = rw c.in-Some-2.is at c.in_ok-own.ensures in
     let numbered_at = rw c.in-Some-3.is at c.in_ok-numbered.ensures in
-    own_first settings c.args.pattern.now text base number k c.args.key (sym c.as_str-text.ensures.value) c.in_ok-base.field-0 c.in_ok-base.ensures.ok c.in-Some-2.own c.in-Some-3.numbered c.find_use.new.so_far c.find_use-2.new.so_far own_at numbered_at c.if-so_far.true
+    own_first settings c.args.pattern.now text base number k c.args.key (sym c.as_str-text.ensures.value) c.in_ok-base.base c.in_ok-base.ensures.ok c.in-Some-2.own c.in-Some-3.numbered c.find_use.new.so_far c.find_use-2.new.so_far own_at numbered_at c.if-so_far.true
 
 pub returns-else-so_far-clause-location : goal.returns-else-so_far-clause-location
 returns-else-so_far-clause-location c =
@@ -46,4 +46,4 @@ returns-else-so_far-clause-location c =
     let k = known_clash settings c.args.pattern.now text base number c.in-Some.ensures.0 c.in-Some.ensures.1 c.requires.known (c.requires.clash ∙ ap (λ key. Some (Clash key)) (sym c.as_str-text.ensures.value)) in
     let own_at = rw c.in-Some-2.is at c.in_ok-own.ensures in
     let numbered_at = rw c.in-Some-3.is at c.in_ok-numbered.ensures in
-    numbered_first settings c.args.pattern.now text base number k c.args.key (sym c.as_str-text.ensures.value) c.in_ok-base.field-0 c.in_ok-base.ensures.ok c.in-Some-2.own c.in-Some-3.numbered c.find_use.new.so_far c.find_use-2.new.so_far own_at numbered_at c.if-so_far.false
+    numbered_first settings c.args.pattern.now text base number k c.args.key (sym c.as_str-text.ensures.value) c.in_ok-base.base c.in_ok-base.ensures.ok c.in-Some-2.own c.in-Some-3.numbered c.find_use.new.so_far c.find_use-2.new.so_far own_at numbered_at c.if-so_far.false

@@ -15,5 +15,5 @@ pub returns-then-is_empty-clause-first : goal.returns-then-is_empty-clause-first
 returns-then-is_empty-clause-first c key clash =
     let stored = finite.get c.args.self.now in
     let events = tree stored c.args.pattern.now in
-    let structural = clash_needs_number c.args.with_alias_only stored c.args.pattern.now (no_numbered_alias (reached events) (λ base. sym (c.in_ok-found.ensures.numbered base) ∙ c.is_empty.ensures c.if-is_empty.true base)) in
+    let structural = clash_needs_number c.args.with_alias_only stored c.args.pattern.now (no_numbered_alias (reached events) (λ base. sym (c.requires base) ∙ c.is_empty.ensures c.if-is_empty.true base)) in
     no_clash (first_structural events) key (sym structural ∙ clash)
