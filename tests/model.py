@@ -39,8 +39,8 @@ def size(text):
 Regular = collections.namedtuple("Regular", "begin text")
 # A placeholder. A part that is missing is empty.
 Placeholder = collections.namedtuple("Placeholder", "begin text name alias extract definition")
-# A malformed placeholder, with all that follows it: the fault as the crate calls it, the reason in words of our own, and where
-# in the piece the part begins that is wrong. For a wrong character, that is the character. Else it is the whole placeholder.
+# A malformed placeholder, with all that follows it: the fault as the crate calls it, the reason in words of our own, and from
+# where on in the piece it is malformed. If it has no end, that is the end of the piece.
 Malformed = collections.namedtuple("Malformed", "begin text fault reason at")
 
 NAME = re.compile(r"[A-Za-z0-9_]*")
@@ -83,37 +83,38 @@ def pieces(text):
 
 def placeholder(begin, text):
     """The piece at the beginning of this text, which begins with `%{`."""
-    def malformed(fault, reason, at=0):
-        return Malformed(begin, text, fault, reason, at)
+    def malformed(fault, reason, at):
+        return Malformed(begin, text, fault, reason, size(text[:at]))
 
     words, at = [], 2
     while not words or text[at] == ":":
         at += len(words) > 0  # past the `:`
+        word_begin = at
         word = (WORD if words else NAME).match(text, at).group()
         words.append(word)
         at += len(word)
         if at == len(text):
-            return malformed(INVALID, NO_END)
+            return malformed(INVALID, NO_END, at)
         if text[at] not in "}=:":
-            return malformed(f"InvalidCharacter({quoted(text[at])})", BAD_CHARACTER, size(text[:at]))
+            return malformed(f"InvalidCharacter({quoted(text[at])})", BAD_CHARACTER, at)
         if words[0] == "":
-            return malformed(INVALID, NO_NAME)
+            return malformed(INVALID, NO_NAME, word_begin)
         if len(words) == 4:
-            return malformed(INVALID, FOUR_PARTS)
+            return malformed(INVALID, FOUR_PARTS, word_begin)
         if len(words) == 3 and word == "":
-            return malformed(INVALID_DEFINITION, EMPTY_EXTRACT)
+            return malformed(INVALID_DEFINITION, EMPTY_EXTRACT, word_begin)
         if len(words) == 2 and word == "" and text[at] != ":":
-            return malformed(INVALID_DEFINITION, EMPTY_ALIAS)
+            return malformed(INVALID_DEFINITION, EMPTY_ALIAS, word_begin)
     definition = ""
     if text[at] == "=":
         definition = NO_BRACE.match(text, at + 1).group()
         at += 1 + len(definition)
         if at == len(text):
-            return malformed(INVALID_DEFINITION, NO_END)
+            return malformed(INVALID_DEFINITION, NO_END, at)
         if text[at] == "{":
-            return malformed(INVALID_DEFINITION, BRACE)
+            return malformed(INVALID_DEFINITION, BRACE, at)
         if definition == "":
-            return malformed(INVALID_DEFINITION, EMPTY_DEFINITION)
+            return malformed(INVALID_DEFINITION, EMPTY_DEFINITION, at)
     name, alias, extract = (words + ["", ""])[:3]
     return Placeholder(begin, text[:at + 1], name, alias, extract, definition)
 

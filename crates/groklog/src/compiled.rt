@@ -7,25 +7,6 @@ use grok::{Error, Pattern};
 use groklog_input::{Fault, Report};
 use std::alloc::{AllocError, Global};
 
-/// Returns the fault that the program reports if compiling the pattern returned `error`.
-fn pattern_fault(
-    alloc: Global,
-    library: &Library<'_>,
-    pattern: &PatternText,
-    with_alias_only: bool,
-    error: &Error,
-) -> Result<Fault, AllocError> {
-    match error {
-        // own error: the library reported that an allocation failed, or that the text of the pattern
-        // is too long for any.
-        Error::Memory => Ok(Fault::Memory),
-        error => {
-            let report = report_of(alloc, library, pattern, with_alias_only, error)?;
-            Ok(Fault::Pattern(report))
-        }
-    }
-}
-
 /// Compiles one pattern.
 fn compile(
     alloc: Global,
@@ -35,7 +16,13 @@ fn compile(
 ) -> Result<Pattern, Fault> {
     match library.grok.compile(pattern.text.as_str(), with_alias_only) {
         Ok(compiled) => Ok(compiled),
-        Err(error) => Err(pattern_fault(alloc, library, pattern, with_alias_only, &error)?),
+        // own error: the library reported that an allocation failed, or that the text of the pattern
+        // is too long for any.
+        Err(Error::Memory) => Err(Fault::Memory),
+        Err(_) => {
+            let report = report_of(alloc, library, pattern, with_alias_only)?;
+            Err(Fault::Pattern(report))
+        }
     }
 }
 

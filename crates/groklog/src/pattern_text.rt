@@ -18,7 +18,7 @@ pub struct PatternText {
 /// # Errors
 ///
 /// If an allocation fails.
-pub fn ordinal(alloc: Global, number: u64) -> Result<String, AllocError> {
+pub fn ordinal(alloc: Global, number: usize) -> Result<String, AllocError> {
     let ending = match (number % 100, number % 10) {
         (11..=13, _) => "th",
         (_, 1) => "st",
@@ -31,7 +31,7 @@ pub fn ordinal(alloc: Global, number: u64) -> Result<String, AllocError> {
 
 /// Returns the words by which reports refer to the pattern with this number, counted from 1, of
 /// `count` patterns.
-fn words_for(alloc: Global, number: u64, count: usize) -> Result<String, AllocError> {
+fn words_for(alloc: Global, number: usize, count: usize) -> Result<String, AllocError> {
     if count == 1 {
         return String::from_str(alloc, "the pattern");
     }
@@ -50,10 +50,8 @@ pub fn adapt_patterns(
     texts: &[&str],
 ) -> Result<Vec<PatternText>, AllocError> {
     let mut adapted = Vec::new(alloc);
-    let mut number = 0u64;
-    for text in texts {
-        number = number.saturating_add(1);
-        let words = words_for(alloc, number, texts.len())?;
+    for (index, text) in texts.iter().enumerate() {
+        let words = words_for(alloc, index.saturating_add(1), texts.len())?;
         let text = library.adapt(alloc, text, words.as_str())?;
         adapted.push(PatternText { text, words })?;
     }
