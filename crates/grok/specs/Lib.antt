@@ -80,7 +80,7 @@ pub use Rattle.grok.specs.MeasureCache.{measure_view}
 pub use Rattle.grok.specs.CountedMeasures.{IsCountedMeasure}
 -- what is wrong with a pattern, and where: faults and clashes, and which piece writes a byte of the expanded text
 pub use Rattle.grok.specs.FaultLocations.{IsFaultAt, IsFaultOf, path_view}
-pub use Rattle.grok.specs.ByteLocations.{HasByte, IsEventAt, IsByteLocation}
+pub use Rattle.grok.specs.ByteLocations.{HasByte, IsEventAt, IsByteLocation, LocatesByte}
 pub use Rattle.grok.specs.ClashLocations.{HasKeyAt, IsClashAt}
 pub use Rattle.grok.specs.Malformations.{IsMalformedAt}
 pub use Rattle.grok.specs.Diagnoses.{FindsDiagnosis, IsDiagnosis, IsFine, IsFirstStructural, IsFirstMalformed, IsFirstClashOf, IsRefusedAs, IsTooLong, LocatesReason, IsOriginOf}

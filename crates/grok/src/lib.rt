@@ -63,6 +63,7 @@ pub use engine::regex_engine::RegexEngine;
 pub use engine::regex_matcher::RegexMatcher;
 pub use engine::{Engine, Refusal};
 pub use errors::{Error, Fault, MAX_NESTING};
+pub use locate_byte::{ByteLocation, WrittenByte};
 pub use locate_clash::Clash;
 pub use location::{Location, PathStep};
 pub use malformed::MalformedReason;

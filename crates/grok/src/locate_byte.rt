@@ -26,8 +26,8 @@ use crate::measure::settings::MeasureSettings;
 use std::alloc::AllocError;
 
 /// What a piece writes of an expanded text, at one byte of it.
-#[derive(Clone, Copy)]
-pub(crate) enum WrittenByte {
+#[derive(Clone, Copy, PartialEq, Eq, Debug)]
+pub enum WrittenByte {
     /// A byte of regular text. It is this many bytes after the first byte of the piece.
     Copied(usize),
     /// A byte of the group of a placeholder: of the start of the group, such as `(?<_n_0>`, or its
@@ -35,10 +35,12 @@ pub(crate) enum WrittenByte {
     OfGroup,
 }
 
-/// The piece that writes a byte of an expanded text, and what it writes at that byte.
-#[derive(Drop)]
-pub(crate) struct ByteLocation<'a> {
+/// The piece that writes a byte of an expanded text. [`Grok::locate_byte`] returns it.
+#[derive(Clone, PartialEq, Eq, Debug, Drop)]
+pub struct ByteLocation<'a> {
+    /// Where the piece stands.
     pub location: Location<'a>,
+    /// What it writes at that byte.
     pub part: WrittenByte,
 }
 
@@ -128,8 +130,8 @@ fn part_of_item(item: Item<'_>, offset: usize) -> WrittenByte
 }
 
 impl Grok {
-    /// Finds the piece that writes a byte of the expanded text of a pattern. Returns `None` if the pattern has a
-    /// structural fault, or if its expanded text has no byte at this position.
+    /// Finds the piece that writes a byte of the expanded text of a pattern. Returns `None` if the
+    /// pattern has a structural fault, or if its expanded text has no byte at this position.
     ///
     /// Each definition is measured once. Then only the definitions on the path are read again, at
     /// most 1,023 of them.
@@ -137,7 +139,7 @@ impl Grok {
     /// # Errors
     ///
     /// If an allocation fails.
-    pub(crate) fn locate_byte<'a>(
+    pub fn locate_byte<'a>(
         &'a self,
         pattern: &'a str,
         with_alias_only: bool,

@@ -3,8 +3,8 @@
 use crate::excerpt::{Excerpt, excerpt_of};
 use crate::library::Library;
 use crate::pattern_text::PatternText;
-use crate::stops::{Outermost, Searched, Stop, Written, furthest_stop};
-use grok::Pattern;
+use crate::stops::{Outermost, Searched, Stop, furthest_stop};
+use grok::{Location, Pattern};
 use groklog_input::visible;
 use regex_beginnings::{Found, Group};
 use std::alloc::{AllocError, Global};
@@ -225,11 +225,12 @@ fn push_inside(
     alloc: Global,
     library: &Library<'_>,
     report: &mut String,
-    inner: &Written<'_>,
+    inner: &Location<'_>,
 ) -> Result<(), AllocError> {
-    let Some((name, through)) = inner.path.as_slice().split_last() else {
+    let Some((innermost, through)) = inner.path.as_slice().split_last() else {
         return Ok(());
     };
+    let name = innermost.name;
     let start = format!(in alloc; "  inside it, the definition {name}")?;
     report.push_str(start.as_str())?;
     if let Some(source) = library.source(name) {
@@ -238,7 +239,7 @@ fn push_inside(
     }
     for (number, step) in through.iter().enumerate() {
         report.push_str(if number == 0 { ", used by " } else { " > " })?;
-        report.push_str(step)?;
+        report.push_str(step.name)?;
     }
     report.push_str(if through.is_empty() {
         " stops at "

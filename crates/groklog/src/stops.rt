@@ -2,7 +2,7 @@
 
 use crate::library::Library;
 use crate::pattern_text::PatternText;
-use grok::{Pattern, WrittenByte};
+use grok::{ByteLocation, Location, Pattern, WrittenByte};
 use regex_beginnings::{Beginnings, Found, Group, Piece};
 use std::alloc::{AllocError, Global};
 use std::collections::BTreeMap;
@@ -28,16 +28,6 @@ pub struct Stop {
     pub count: usize,
     /// What the beginning finds. It is `None` if the beginning is empty.
     pub found: Option<Found>,
-}
-
-/// A part of the pattern or of a definition.
-#[derive(Drop)]
-pub struct Written<'x> {
-    /// The names of the placeholders that lead from the pattern to the definition, outermost first.
-    pub path: Vec<&'x str>,
-    /// The definition, or the pattern.
-    pub text: &'x str,
-    pub range: Range<usize>,
 }
 
 /// The placeholder of the pattern in whose definition a piece is.
@@ -98,10 +88,30 @@ pub fn furthest_stop(all: &mut [Searched<'_, '_>], line: &str) -> Result<Option<
 
 /// Returns how many bytes after the start of a piece of a pattern the byte is from which `part` was
 /// written. A byte of a placeholder's group comes from the whole placeholder, whose start counts.
-fn offset_of(part: WrittenByte<'_>) -> usize {
+fn offset_of(part: WrittenByte) -> usize {
     match part {
         WrittenByte::Copied(offset) => offset,
-        WrittenByte::OfGroup { .. } => 0,
+        WrittenByte::OfGroup => 0,
+    }
+}
+
+/// Returns the part from one byte to another one, up to the end of the first byte's piece at most if
+/// the other one stands in another text.
+fn part_between<'p>(first: ByteLocation<'p>, last: &ByteLocation<'p>) -> Location<'p> {
+    let Location { path, text, range } = first.location;
+    let start = range.start.saturating_add(offset_of(first.part));
+    let end = if path != last.location.path {
+        range.end
+    } else if let WrittenByte::Copied(offset) = last.part {
+        let begin = last.location.range.start;
+        begin.saturating_add(offset).saturating_add(1)
+    } else {
+        last.location.range.end
+    };
+    Location {
+        path,
+        text,
+        range: start..end,
     }
 }
 
@@ -195,7 +205,7 @@ impl<'p, 'd> Searched<'p, 'd> {
     /// # Errors
     ///
     /// If an allocation fails.
-    pub fn written(&self, alloc: Global, part: Range<usize>) -> Result<Written<'p>, AllocError> {
+    pub fn written(&self, alloc: Global, part: Range<usize>) -> Result<Location<'p>, AllocError> {
         let (grok, pattern) = (&self.library.grok, self.text.text.as_str());
         let last = part.end.saturating_sub(1);
         let (Some(first), Some(last)) = (
@@ -203,28 +213,13 @@ impl<'p, 'd> Searched<'p, 'd> {
             grok.locate_byte(pattern, self.with_alias_only, last)?,
         ) else {
             // This doesn't happen: each byte of the expanded text was written by something.
-            return Ok(Written {
+            return Ok(Location {
                 path: Vec::new(alloc),
                 text: pattern,
                 range: 0..pattern.len(),
             });
         };
-        let start = first.range.start.saturating_add(offset_of(first.part));
-        let end = match last.part {
-            WrittenByte::Copied(offset) => {
-                last.range.start.saturating_add(offset).saturating_add(1)
-            }
-            WrittenByte::OfGroup { .. } => last.range.end,
-        };
-        Ok(Written {
-            range: start..if first.path == last.path {
-                end
-            } else {
-                first.range.end
-            },
-            path: first.path,
-            text: first.text,
-        })
+        Ok(part_between(first, &last))
     }
 
     /// Returns the placeholder of the pattern in whose definition these groups are. They are around
@@ -237,10 +232,10 @@ impl<'p, 'd> Searched<'p, 'd> {
         let (grok, pattern) = (&self.library.grok, self.text.text.as_str());
         for group in groups.iter().rev() {
             if let Some(location) = grok.locate_byte(pattern, self.with_alias_only, group.start)?
-                && let WrittenByte::OfGroup { .. } = location.part
+                && let WrittenByte::OfGroup = location.part
             {
                 return Ok(Some(Outermost {
-                    range: location.range,
+                    range: location.location.range,
                     count: self.pieces_before(group.start),
                 }));
             }

@@ -15,7 +15,7 @@ pub fn summary_of(alloc: Global, answers: &LogAnswers<'_>) -> Result<String, All
     let matched = answers.matched()?;
     let mut lines = unmatched.saturating_add(broken);
     let mut parts = String::new(alloc);
-    for (number, count) in (1u64..).zip(&matched) {
+    for (number, count) in (1usize..).zip(&matched) {
         lines = lines.saturating_add(*count);
         let part = if matched.len() == 1 {
             format!(in alloc; "{count} matched, ")?
