@@ -1,9 +1,10 @@
-//! Calls of `diagnose`, one for each kind of fault that it measures or searches for.
+//! Calls of `diagnose`, one for each kind of fault that it measures or searches for, and a call of `locate_byte`.
 use anyhow::{Result, bail};
 use grok::Grok;
 
 pub(crate) fn call(rt: &HostRuntime, name: &str) -> Result<()> {
     match name {
+        "byte" => locate_byte(rt),
         "nothing" => diagnose(rt, &[("A", "a"), ("B", "%{A}%{A}")], "%{B:key}"),
         "missing" => diagnose(rt, &[("A", "a"), ("B", "%{A}%{MISSING}")], "%{A}%{B:key}"),
         "malformed" => diagnose(rt, &[("A", "a%{b c}")], "%{A}"),
@@ -17,5 +18,12 @@ pub(crate) fn call(rt: &HostRuntime, name: &str) -> Result<()> {
 fn diagnose(rt: &HostRuntime, definitions: &[(&str, &str)], pattern: &str) -> Result<()> {
     let grok = Grok::from_iter(rt.alloc(), definitions)?;
     twice!(rt, grok.diagnose(pattern, true));
+    Ok(())
+}
+
+/// Locates the byte that the second placeholder of a definition writes.
+fn locate_byte(rt: &HostRuntime) -> Result<()> {
+    let grok = Grok::from_iter(rt.alloc(), &[("A", "a"), ("B", "%{A}%{A}")])?;
+    twice!(rt, grok.locate_byte("%{A}%{B:key}", false, 36));
     Ok(())
 }
