@@ -295,6 +295,20 @@ struct RefusedDefinition<'a> {
     fault: SyntaxFault<'a>,
 }
 
+/// Returns the error of syntax for which the engine refuses a definition as a pattern of its own, or
+/// `None` if it doesn't refuse it, or for another reason.
+fn fault_alone<'x>(
+    alloc: Global,
+    library: &'x Library<'_>,
+    definition: &'x str,
+    with_alias_only: bool,
+) -> Result<Option<SyntaxFault<'x>>, AllocError> {
+    match library.grok.diagnose(definition, with_alias_only)? {
+        Some(Diagnosis::Refused(refused)) => Ok(syntax_fault(alloc, definition, refused)),
+        _ => Ok(None),
+    }
+}
+
 /// Returns the first definition that a placeholder of this text has and that the engine refuses
 /// alone because of its syntax, or `None` if there is none.
 fn first_refused<'x>(
@@ -304,10 +318,7 @@ fn first_refused<'x>(
     with_alias_only: bool,
 ) -> Result<Option<RefusedDefinition<'x>>, AllocError> {
     for (name, definition) in &definitions_in(alloc, library, text)? {
-        let diagnosis = library.grok.diagnose(definition, with_alias_only)?;
-        if let Some(Diagnosis::Refused(refused)) = diagnosis
-            && let Some(fault) = syntax_fault(alloc, definition, refused)
-        {
+        if let Some(fault) = fault_alone(alloc, library, definition, with_alias_only)? {
             return Ok(Some(RefusedDefinition {
                 name,
                 text: definition,
