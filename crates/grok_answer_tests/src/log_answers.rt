@@ -301,11 +301,13 @@ fn lines_of_two_files(rt: HostRuntime) -> Result<(), Fail> {
     let mut written = Vec::new(alloc);
     let mut log: &[u8] = b"!\n\xff";
     assert!(&rt; answer_lines(alloc, &mut answers, &mut log, &mut written).is_ok());
-    assert!(&rt; !answers.has_matched());
+    assert_eq!(&rt; (answers.unmatched(), answers.broken()), (1, 1));
     answers.begin_file("b.log");
     let mut log: &[u8] = b"--\n!\n";
     assert!(&rt; answer_lines(alloc, &mut answers, &mut log, &mut written).is_ok());
-    assert!(&rt; answers.has_matched());
+    let matched = answers.matched()?;
+    assert!(&rt; matched.iter().any(|count| *count == 1));
+    assert_eq!(&rt; (answers.unmatched(), answers.broken()), (2, 1));
     let expected = "{\"no\":1,\"from\":\"a.log\"}\n{\"no\":2,\"from\":\"a.log\"}\n\
         {\"no\":3,\"from\":\"b.log\",\"dash\":\"--\"}\n{\"no\":4,\"from\":\"b.log\"}\n";
     assert_eq!(&rt; written.as_slice(), expected.as_bytes());
