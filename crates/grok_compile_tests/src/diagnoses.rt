@@ -386,14 +386,10 @@ fn a_clash_of_a_name(rt: HostRuntime) -> Result<(), Fail> {
 /// Checks how many placeholders lead to a location, and the last one's name and where in which text the location is.
 fn check_deep(
     rt: &(impl Abort + AllocGlobal),
-    location: Option<&Location<'_>>,
+    location: &Location<'_>,
     expected: (usize, &str, &str),
 ) -> Result<(), Fail> {
     let (count, name, place) = expected;
-    let Some(location) = location else {
-        assert!(rt; false, "no location: {place}");
-        return Ok(());
-    };
     assert_eq!(rt; location.path.len(), count, "{place}");
     assert_eq!(rt;
         location.path.last().map(|step| step.name),
@@ -455,7 +451,7 @@ const DEEP: &[Deep] = &[
 ];
 
 /// The location of a structural fault.
-fn location_of<'x>(found: &'x Option<Diagnosis<'x>>) -> Option<&'x Location<'x>> {
+fn location_of<'a>(found: Option<Diagnosis<'a>>) -> Option<Location<'a>> {
     match found {
         Some(Diagnosis::Missing { location, .. }) => Some(location),
         Some(Diagnosis::TooDeep(location)) => Some(location),
@@ -468,8 +464,11 @@ fn check_deep_row(rt: &(impl Abort + AllocGlobal), row: &Deep) -> Result<(), Fai
     let (count, last) = row.chain;
     add_chain(rt.alloc(), &mut grok, "C", count, last)?;
     add_doublings(rt.alloc(), &mut grok, "a")?;
-    let found = grok.diagnose(row.pattern, true)?;
-    check_deep(rt, location_of(&found), row.location)
+    let Some(location) = location_of(grok.diagnose(row.pattern, true)?) else {
+        assert!(rt; false, "no location: {}", row.location.2);
+        return Ok(());
+    };
+    check_deep(rt, &location, row.location)
 }
 
 /// A location below long chains, circles and doublings is found in the time of a test.
@@ -482,22 +481,19 @@ fn deep_rows(rt: HostRuntime) -> Result<(), Fail> {
 }
 
 /// Checks the placeholder of a clash that is in the innermost of 62 doublings.
-fn check_doubled(
+fn check_doubled<'a>(
     rt: &(impl Abort + AllocGlobal),
-    grok: &Grok,
-    pattern: &str,
+    grok: &'a Grok,
+    pattern: &'a str,
     is_first: bool,
 ) -> Result<(), Fail> {
     let Some(Diagnosis::Clash(clash)) = grok.diagnose(pattern, true)? else {
         assert!(rt; false, "no clash: {pattern}");
         return Ok(());
     };
-    let deep = if is_first {
-        &clash.first
-    } else {
-        &clash.second
-    };
-    check_deep(rt, Some(deep), (63, "D0", "0..6 of %{A:x}"))
+    let Clash { first, second, .. } = clash;
+    let deep = if is_first { first } else { second };
+    check_deep(rt, &deep, (63, "D0", "0..6 of %{A:x}"))
 }
 
 /// The last of 2^62 uses of a base key clashes, and so does the first of them.
