@@ -496,13 +496,24 @@ fn check_doubled<'a>(
     check_deep(rt, &deep, (63, "D0", "0..6 of %{A:x}"))
 }
 
-/// The last of 2^62 uses of a base key clashes, and so does the first of them.
+/// The last of 2^62 uses of a base key clashes, and so does the first of them. Without the fault after the clash, the text
+/// would be too long.
 #[test]
 fn clashes_of_doublings(rt: HostRuntime) -> Result<(), Fail> {
     let mut grok = Grok::from_iter(rt.alloc(), &[("A", "a")])?;
     add_doublings(rt.alloc(), &mut grok, "%{A:x}")?;
-    check_doubled(&rt, &grok, "%{A:x[4611686018427387903]}%{D62}", false)?;
-    check_doubled(&rt, &grok, "%{D62}%{D3}%{A:x[4611686018427387903]}", true)?;
+    check_doubled(
+        &rt,
+        &grok,
+        "%{A:x[4611686018427387903]}%{D62}%{nope}",
+        false,
+    )?;
+    check_doubled(
+        &rt,
+        &grok,
+        "%{D62}%{D3}%{A:x[4611686018427387903]}%{nope}",
+        true,
+    )?;
     check_doubled(&rt, &grok, "%{D62}%{A:x[1]}%{nope}", true)
 }
 
