@@ -2,7 +2,9 @@
 use Rattle.std.proofs.Common.{◌≡◌, ℕ, ◌<◌, ◌+◌, List, length, Option, None, Some, IfSome, All, arith, subst, sym}
 use Rattle.regex_hir.specs.Re.{Re}
 use Rattle.regex_literal.specs.Find.{Nowhere, AnyOccursAt}
+use Rattle.regex_extract.specs.Frames.{ContainsFramed}
 use Rattle.regex_extract.specs.Needles.{ContainsNeedle}
+use Rattle.regex_extract.specs.declared.frames.Frame.{Frame}
 use Rattle.regex_meta.proofs.LeftmostLemmas.{find_none, attempt_fits, Matches-of_attempt}
 use Rattle.regex_meta.proofs.ProgramLemmas.{refuted}
 use Rattle.regex_meta.specs.declared.program.Program.{Program}
@@ -22,3 +24,10 @@ pub contained : (re : Re) (found : Option (List (List ℕ))) (literals : List (L
     IfSome found (λ built. built ≡ literals) → ∥ IfSome found (ContainsNeedle re) ∥₁
 contained re None literals contains same = ∣ tt ∣₁
 contained re (Some built) literals contains same = ∣ subst (ContainsNeedle re) (sym same) contains ∣₁
+
+-- a match that contains a literal with these bytes around it contains the literal
+pub contains_framed : (re : Re) (literals : List (List ℕ)) (frame : Option Frame) → ContainsFramed re literals frame →
+    ContainsNeedle re literals
+contains_framed re literals frame framed = λ hay bytes i j it.
+    let found = framed hay bytes i j it in
+    (found.0, found.1, found.2)

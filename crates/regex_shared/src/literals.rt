@@ -1,27 +1,64 @@
 //! The literals of which each match of a pattern contains one.
-ghost use Rattle.std.specs.Prelude.{IfOk, IfSome};
+ghost use Rattle.std.specs.Prelude.{◌≡◌, None, IfOk, IfSome, IsTrue};
+ghost use Rattle.regex_extract.specs.Frames.{IsInner};
 ghost use Rattle.regex_extract.specs.Needles.{ContainsNeedle};
-ghost use Rattle.regex_meta.specs.Programs.{pattern_of};
+ghost use Rattle.regex_meta.specs.Programs.{pattern_of, leftmost};
 
-use regex_literal::Prefilter;
+use regex_extract::{Frames, Inner};
+use regex_literal::{Bounded, Prefilter};
 use regex_meta::Program;
 use regex_vm::Declined;
 use std::alloc::Global;
 
-/// Finds the rarest literals of which each match of the program contains one, and builds the search
-/// for them. Returns `None` if there are no such literals, or no fast search for them, or if each
-/// match starts where the line starts: then one automaton decides as fast.
-pub(crate) fn required_literals(
+/// The literals that are rarest in a match, and those that are rarest elsewhere in it. Each match
+/// contains one of both, where they are there.
+pub(crate) type Literals = (Option<Prefilter>, Option<Prefilter>);
+
+/// Builds the search for literals of which each match of the program contains one. Returns `None` if
+/// there is no fast one.
+fn search_for(
     alloc: Global,
     program: &Program,
+    inner: Option<Inner>,
 ) -> Result<Option<Prefilter>, Declined>
+    requires { IfSome inner (IsInner (pattern_of program.now)) }
     ensures { IfOk result (λ found. ∥ IfSome found (ContainsNeedle (pattern_of program.now)) ∥₁) }
 {
-    if regex_extract::is_anchored_start(&program.hir) {
-        return Ok(None);
-    }
-    match regex_extract::required(alloc, &program.hir)? {
-        Some(literals) => Ok(Prefilter::new(alloc, literals)?),
+    match inner {
+        Some(Inner { found, head: _head }) => Ok(Prefilter::new(alloc, found.needles)?),
         None => Ok(None),
+    }
+}
+
+/// Finds literals of which each match of the program contains one, at two places of it. There are
+/// none if each match starts where the line starts: then one automaton decides as fast.
+pub(crate) fn required_literals(alloc: Global, program: &Program) -> Result<Literals, Declined>
+    ensures rarest { IfOk result (λ found. ∥ IfSome found.0 (ContainsNeedle (pattern_of program.now)) ∥₁) }
+    ensures others { IfOk result (λ found. ∥ IfSome found.1 (ContainsNeedle (pattern_of program.now)) ∥₁) }
+{
+    if regex_extract::is_anchored_start(&program.hir) {
+        return Ok((None, None));
+    }
+    let Frames {
+        first: _first,
+        best,
+        second,
+    } = regex_extract::framed_needles(alloc, &program.hir)?;
+    let rarest = search_for(alloc, program, best)?;
+    let others = search_for(alloc, program, second)?;
+    Ok((rarest, others))
+}
+
+/// Returns whether the line has none of these literals, of which each match contains one.
+pub(crate) fn lacks(literals: &Option<Prefilter>, program: &Program, hay: &[u8]) -> bool
+    requires { ∥ IfSome literals.now (ContainsNeedle (pattern_of program.now)) ∥₁ }
+    ensures { IsTrue result → leftmost program.now hay.now 0 ≡ None }
+{
+    let Some(literals) = literals else {
+        return false;
+    };
+    match literals.find_bounded(hay, 0) {
+        Bounded::Missing => true,
+        Bounded::Found(_, _) | Bounded::Tired(_) => false,
     }
 }

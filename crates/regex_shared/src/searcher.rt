@@ -9,9 +9,9 @@ ghost use Rattle.regex_tagged.specs.Valid.{IsFor};
 ghost use Rattle.regex_vm.specs.Found.{group_cells, span};
 ghost use Rattle.regex_shared.specs.steps.Searches.{IsFirstEnd, IsSameSearch};
 
-use crate::literals::required_literals;
+use crate::literals::{lacks, required_literals};
 use regex_dfa::{End, Forward, Reverse, Start};
-use regex_literal::{Bounded, Prefilter};
+use regex_literal::Prefilter;
 use regex_meta::Program;
 use regex_tagged::Tagged;
 use regex_vm::{Backtracker, Declined};
@@ -26,8 +26,10 @@ pub(crate) struct Searcher {
     pub(crate) program: Program,
     /// Whether each match starts where the line starts.
     at_start: bool,
-    /// Literals of which each match contains one.
-    literals: Option<Prefilter>,
+    /// The literals that are rarest in a match. Each match contains one of them.
+    rarest: Option<Prefilter>,
+    /// Those that are rarest elsewhere in a match. Each match contains one of them too.
+    others: Option<Prefilter>,
     /// Finds the groups of a match.
     tagged: Tagged,
     /// Finds the end of the first match.
@@ -37,7 +39,8 @@ pub(crate) struct Searcher {
     /// Searches a line if an automaton gives up.
     backtracker: Backtracker,
     ghost starts: { ∥ (at_start ≡ true → IsAnchored true (pattern_of program)) ∥₁ },
-    ghost contains: { ∥ IfSome literals (ContainsNeedle (pattern_of program)) ∥₁ },
+    ghost contains: { ∥ IfSome rarest (ContainsNeedle (pattern_of program)) ∥₁ },
+    ghost contains_others: { ∥ IfSome others (ContainsNeedle (pattern_of program)) ∥₁ },
     ghost tagged_runs: { IsFor tagged program.dfa },
     ghost forward_runs: { IsForwardFor forward program.dfa },
     ghost reverse_runs: { IsReverseFor reverse program.dfa },
@@ -50,11 +53,12 @@ impl Searcher {
     {
         let (tagged, forward, reverse) = automata_of(alloc, &program)?;
         let at_start = starts_lines(&program);
-        let literals = required_literals(alloc, &program)?;
+        let (rarest, others) = required_literals(alloc, &program)?;
         Ok(Searcher {
             program,
             at_start,
-            literals,
+            rarest,
+            others,
             tagged,
             forward,
             reverse,
@@ -150,17 +154,11 @@ impl Searcher {
         }
     }
 
-    /// Returns whether the line has none of the literals of which each match contains one.
+    /// Returns whether the line lacks the literals of which each match contains one.
     fn lacks_literal(&self, hay: &[u8]) -> bool
         ensures { IsTrue result → leftmost self.now.program hay.now 0 ≡ None }
     {
-        let Some(literals) = &self.literals else {
-            return false;
-        };
-        match literals.find_bounded(hay, 0) {
-            Bounded::Missing => true,
-            Bounded::Found(_, _) | Bounded::Tired(_) => false,
-        }
+        lacks(&self.rarest, &self.program, hay) || lacks(&self.others, &self.program, hay)
     }
 
     /// Writes the cells of the groups of the first match, whose span is `whole`, and returns that
