@@ -42,3 +42,7 @@ echo
 echo '## Searching for a clash'
 echo
 "$here/clashes.sh"
+echo
+echo '## Reports of groklog'
+echo
+"$here/reports.py"

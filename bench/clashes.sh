@@ -1,6 +1,6 @@
 #!/usr/bin/env bash
 # Measures how long `compile` takes to find the first fault, and how much memory, if an alias ends in a number: then the
-# uses of keys are counted to find a clash. The definitions are the costly ones of docs/HOSTILE.md, in three sizes.
+# uses of base keys are counted to find a clash. The definitions are the costly ones of docs/HOSTILE.md, in three sizes.
 # The grok_calls of another version can be given, to measure both in the same run.
 #
 #   bench/clashes.sh [GROK_CALLS]
@@ -8,11 +8,12 @@ set -euo pipefail
 source "$(dirname "$0")/common.sh"
 programs=("$(program grok_calls)" "$@")
 sizes=(25 50 100)
-shapes=(doubled shared all-numbered circle)
+shapes=(doubled shared all-numbered pairs circle)
 declare -A meaning=(
     [doubled]='a definition with many aliases, one of them numbered, doubled 70 times'
     [shared]='many definitions that each use one with many aliases, one of them numbered'
     [all-numbered]='the same, with every alias numbered'
+    [pairs]='many keys that each clash, the last of them first'
     [circle]='a circle with many inline definitions, one alias of which is numbered'
 )
 
@@ -49,6 +50,13 @@ library() {
         seq -f 'N%g=%%{B}' $((bytes / 2 / 18))
         seq -f '%%{N%g}' $((bytes / 2 / 18)) | tr -d '\n' | sed 's/^/TOP=/'
         echo
+        ;;
+    pairs)
+        printf 'T='
+        seq -f '%%{A:k%g[1]}' $((bytes / 26)) | tr -d '\n'
+        printf '\nU='
+        seq -f '%%{A:k%g}' $((bytes / 26)) -1 1 | tr -d '\n'
+        printf '\nTOP=%%{T}%%{U}%%{U}\n'
         ;;
     circle)
         printf 'TOP=%%{A:x[1]}'

@@ -4,10 +4,15 @@ use Rattle.grok.specs.KeyTable.{Entries}
 use Rattle.grok.specs.Groups.{texts_in_line}
 use Rattle.grok.specs.declared.matches.borrowed.MatchesRef.{MatchesRef}
 
+-- the line of a borrowed match
+abbrev pub borrowed_line : MatchesRef → List ℕ
+borrowed_line matches = matches.located.line.now
+
 -- the key table (each key with its group) of the pattern of a borrowed match
 abbrev pub borrowed_keys : MatchesRef → Entries
 borrowed_keys matches = matches.keys.now
 
--- the text of each group of a borrowed match that took part, from group 0 on
+-- of each group of a borrowed match, from group 0 on, the text that it captured, or `None` if it took no part in the
+-- match
 abbrev pub borrowed_captures : MatchesRef → List (Option (List ℕ))
 borrowed_captures matches = texts_in_line matches.located

@@ -96,6 +96,14 @@ pub data IsCompileError (may_refuse : List ℕ → Type 0) (e : Expansion) : Err
       → IsCompileError may_refuse e error
   NoMemory : e.pattern ≢ [] → IsCompileError may_refuse e Memory
 
+-- which texts may be refused by an engine that refuses nothing: none
+abbrev pub NeverRefuses : List ℕ → Type 0
+NeverRefuses text = ⊥
+
+-- the error is one that compiling may return with an engine that refuses nothing
+abbrev pub IsExpansionError : Expansion → Error → Type 0
+IsExpansionError e error = IsCompileError NeverRefuses e (error_value error)
+
 -- THE COMPILED PATTERN. It is built from the expanded text of a pattern without a fault, and has the keys of
 -- its capturing placeholders and their extracts.
 pub record IsPatternOf {E : Type 0} (source_of : E → List ℕ) (group_names : E → List (Option (List ℕ)))

@@ -3,11 +3,10 @@ use Rattle.std.specs.Prelude.{◌≡◌, ℕ, ◌≤◌, Bool, List}
 use Rattle.grok.specs.declared.measure.Measure.{Measure}
 use Rattle.grok.specs.declared.measure.Looks.{Looks}
 use Rattle.grok.specs.Maps.{Texts}
-use Rattle.grok.specs.Measured.{tree_of, IsClean, measured_tree, saturated, reached_pieces, reached_texts}
-use Rattle.grok.specs.MeasureCache.{reading_of, measure_view}
+use Rattle.grok.specs.Measured.{tree_of, IsClean, measured_tree, saturated, reached_pieces, reached_texts, measure_view}
 
 -- THE RESULT of measuring a pattern with these definitions, and how many pieces and ends of texts were read for
--- it. No text is read twice, a pattern without a fault is read to its end, and nothing is read after a fault.
+-- it. No text is read twice, and a pattern without a fault is read to its end.
 pub record IsCountedMeasure (texts : Texts) (alias_only : Bool) (pattern : List ℕ) (measure : Measure)
     (looks : Looks) : Type 0 where
   pub answer : measure_view measure ≡ measured_tree alias_only (tree_of texts pattern)
@@ -15,5 +14,3 @@ pub record IsCountedMeasure (texts : Texts) (alias_only : Bool) (pattern : List 
   pub ends : looks.ends ≤ saturated (reached_texts texts pattern)
   pub all_pieces : IsClean (tree_of texts pattern) → looks.pieces ≡ saturated (reached_pieces texts pattern)
   pub all_ends : IsClean (tree_of texts pattern) → looks.ends ≡ saturated (reached_texts texts pattern)
-  pub read_pieces : looks.pieces ≡ saturated (reading_of texts alias_only pattern).looks
-  pub read_ends : looks.ends ≡ saturated (reading_of texts alias_only pattern).ends

@@ -1,7 +1,6 @@
 -- What is wrong with a pattern, and where.
 use Rattle.std.specs.Prelude.{◌≡◌, ◌≢◌, ℕ, ◌+◌, ◌-◌, min, Bool, List, [], Option, Some, None, MatchOption, string_bytes}
 use Rattle.std.specs.FinMap as finite
-use Rattle.grok.specs.declared.parser.GrokPatternError.{GrokPatternError}
 use Rattle.grok.specs.Maps.{Texts}
 use Rattle.grok.specs.Tree as tree
 use Rattle.grok.specs.Tree.{Definitions, MalformedPiece, first_structural}
@@ -12,7 +11,7 @@ use Rattle.grok.specs.Compiled.{expansion_of, Fits, CanBuild}
 use Rattle.grok.specs.FaultLocations.{IsFaultOf, path_view}
 use Rattle.grok.specs.ByteLocations.{HasByte, IsByteLocation}
 use Rattle.grok.specs.ClashLocations.{IsClashAt}
-use Rattle.grok.specs.Malformations.{IsMalformedAt}
+use Rattle.grok.specs.Malformations.{fault_of, IsMalformedAt}
 use Rattle.grok.specs.Refusals.{IsRegexText, IsReasonFor}
 use Rattle.grok.specs.declared.location.Location.{Location}
 use Rattle.grok.specs.declared.locate_clash.Clash.{Clash}
@@ -63,8 +62,7 @@ pub record IsFirstStructural (texts : Texts) (alias_only : Bool) (pattern : List
 -- from the position `byte` of its text on
 pub record IsFirstMalformed (texts : Texts) (alias_only : Bool) (pattern : List ℕ) (why : MalformedReason) (byte : ℕ)
     (location : Location) : Type 0 where
-  pub fault : GrokPatternError
-  pub structural : IsFirstStructural texts alias_only pattern (MalformedPiece fault) location
+  pub structural : IsFirstStructural texts alias_only pattern (MalformedPiece (fault_of why)) location
   pub malformed : IsMalformedAt location.text.now location.range.start why byte
 
 -- What compiling finds first is this clash. If the tree is clean, the expanded text fits a `usize`.

@@ -62,8 +62,8 @@ abbrev pub is_among : List ℕ → List (List ℕ) → Bool
 is_among key [] = false
 is_among key (other ∷ others) = if bytes_eq other key then true else is_among key others
 
--- The first fault of events that come after the capturing placeholders `before`, the latest of which is the
--- first. `taken` has their keys.
+-- The first fault of these events, if the capturing placeholders `before` were read before them and have the keys
+-- `taken`. In `before` the latest placeholder stands first.
 abbrev pub first_fault_after : Bool → List Label → List (List ℕ) → List Event → Option TreeFault
 first_fault_after alias_only before taken [] = None
 first_fault_after alias_only before taken (Text text ∷ events) = first_fault_after alias_only before taken events

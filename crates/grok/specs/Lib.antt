@@ -2,11 +2,8 @@ pub mod Ascii
 pub mod Pieces
 pub mod PlaceholderNames
 pub mod Views
-pub mod Rest
 pub mod Grammar
 pub mod Texts
-pub mod Joined
-pub mod Tiles
 pub mod Numeral
 pub mod GeneratedNames
 pub mod Maps
@@ -15,51 +12,31 @@ pub mod Captures
 pub mod Locations
 pub mod RegexFinds
 pub mod Engines
+pub mod KeyNumbers
 pub mod KeyTable
-pub mod KeyRanges
 pub mod Answers
 pub mod Groups
 pub mod BorrowedMatches
 pub mod AnswerLaws
-pub mod Spans
-pub mod Sources
 pub mod DefaultDefinitions
 pub mod Tree
 pub mod Keys
-pub mod Endings
 pub mod Expanded
 pub mod Items
-pub mod Events
 pub mod Errors
-pub mod CapturedSoFar
 pub mod FirstFault
-pub mod NumberedBases
-pub mod KeyUses
-pub mod CountedDefinitions
-pub mod AssignedKeys
-pub mod FirstFaultSteps
-pub mod Writes
 pub mod Compiled
-pub mod Expansions
+pub mod PlaceholderKeys
 pub mod Refusals
-pub mod Named
-pub mod Sizes
-pub mod MeasuredOnce
 pub mod Measured
-pub mod MeasureCache
 pub mod CountedMeasures
 pub mod FaultLocations
-pub mod PlacedItems
-pub mod FaultSearches
 pub mod ByteLocations
-pub mod ByteSearches
-pub mod Searches
-pub mod Descents
 pub mod ClashLocations
 pub mod Malformations
 pub mod Diagnoses
-pub mod UseSearches
 pub mod TreeLaws
+pub mod steps
 -- THE WORDS FOR CALLERS: every definition that a contract of a public call uses.
 -- pieces
 pub use Rattle.grok.specs.Pieces.{Piece, Regular, Placeholder, Malformed, Parts, pieces}
@@ -76,7 +53,7 @@ pub use Rattle.grok.specs.Keys.{capturing, keys, extract_of, first_fault}
 pub use Rattle.grok.specs.Expanded.{expanded}
 -- sizes
 pub use Rattle.grok.specs.Measured.{measured_tree, reached_pieces, reached_texts, saturated}
-pub use Rattle.grok.specs.MeasureCache.{measure_view}
+pub use Rattle.grok.specs.Measured.{measure_view}
 pub use Rattle.grok.specs.CountedMeasures.{IsCountedMeasure}
 -- what is wrong with a pattern, and where: faults and clashes, and which piece writes a byte of the expanded text
 pub use Rattle.grok.specs.FaultLocations.{IsFaultAt, IsFaultOf, path_view}
@@ -87,16 +64,19 @@ pub use Rattle.grok.specs.Diagnoses.{FindsDiagnosis, IsDiagnosis, IsFine, IsFirs
 -- errors, and what compiling returns
 pub use Rattle.grok.specs.Items.{fault_view}
 pub use Rattle.grok.specs.Errors.{ErrorValue, error_value, error_text}
-pub use Rattle.grok.specs.Compiled.{Expansion, expansion_of, Compiles, IsPatternOf, IsCompileError, IsFaultError}
+pub use Rattle.grok.specs.Compiled.{Expansion, expansion_of, Compiles, IsPatternOf, IsCompileError, IsFaultError, IsExpansionError}
+-- the keys of the placeholders of a pattern
+pub use Rattle.grok.specs.KeyNumbers.{key_text, key_number, numbers}
+pub use Rattle.grok.specs.PlaceholderKeys.{AreKeysOf}
 -- why `regex` refuses the expanded text
 pub use Rattle.grok.specs.Refusals.{IsRegexText, IsReasonFor}
 -- engines
 pub use Rattle.grok.specs.Captures.{name_texts, text_of, capture_texts, found_texts, IsSliceOf, AreSlicesOf, IsMatchIn}
 pub use Rattle.grok.specs.Engines.{engine_regex}
 pub use Rattle.grok.specs.RegexFinds.{IsReadByDefault, captures_in, captures_by}
-pub use Rattle.grok.specs.Locations.{AreLocationsIn, located_texts}
+pub use Rattle.grok.specs.Locations.{IsLocationIn, AreLocationsIn, located_texts}
 pub use Rattle.regex.specs.Strings
 -- patterns and matches
 pub use Rattle.grok.specs.KeyTable.{Entries, IsKeyTable, group_in}
 pub use Rattle.grok.specs.Answers.{PatternValue, MatchesValue, value_of, walk}
-pub use Rattle.grok.specs.BorrowedMatches.{borrowed_keys, borrowed_captures}
+pub use Rattle.grok.specs.BorrowedMatches.{borrowed_line, borrowed_keys, borrowed_captures}

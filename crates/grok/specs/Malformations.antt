@@ -5,14 +5,23 @@ use Rattle.std.specs.List.{position_or_len, before_first}
 use Rattle.std.specs.Str.{chars}
 use Rattle.grok.specs.Ascii.{close_brace, colon, equals_sign, open_brace}
 use Rattle.grok.specs.Pieces.{is_terminator, is_brace, is_empty}
-use Rattle.grok.specs.Grammar.{WordKind, NameWord, AliasWord, ExtractWord, FourthWord, next_word, word_of, after_word, HasNoWordFault, IsFaultFrom, IsOpenAt}
+use Rattle.grok.specs.Grammar.{WordKind, NameWord, AliasWord, ExtractWord, FourthWord, next_word, word_of, after_word, HasNoWordFault}
 use Rattle.grok.specs.declared.parser.GrokPatternError.{GrokPatternError}
+use Rattle.grok.specs.declared.parser.GrokPatternError.TheVariants.{InvalidCharacter, InvalidPattern, InvalidPatternDefinition}
 use Rattle.grok.specs.declared.malformed.MalformedReason.{MalformedReason}
-use Rattle.grok.specs.declared.malformed.WordKind as code
-use Rattle.grok.specs.declared.malformed.WordKind.TheVariants as code_kind
-use Rattle.grok.specs.declared.malformed.AfterWord.{AfterWord}
-use Rattle.grok.specs.declared.malformed.AfterWord.TheVariants as after
 use Rattle.grok.specs.declared.malformed.MalformedReason.TheVariants as reason
+
+-- the fault that the splitter reports for this reason
+abbrev pub fault_of : MalformedReason → GrokPatternError
+fault_of reason.Unclosed = InvalidPattern
+fault_of (reason.InvalidCharacter c) = InvalidCharacter c
+fault_of reason.NoName = InvalidPattern
+fault_of reason.NoAlias = InvalidPatternDefinition
+fault_of reason.NoExtract = InvalidPatternDefinition
+fault_of reason.FourthWord = InvalidPattern
+fault_of reason.UnclosedDefinition = InvalidPatternDefinition
+fault_of reason.NoDefinition = InvalidPatternDefinition
+fault_of reason.BraceInDefinition = InvalidPatternDefinition
 
 -- Why a word of this kind is malformed, given whether it is empty, and the byte that ends it: the name or the extract is
 -- empty, or the alias is empty and no extract follows, or it is a fourth word.
@@ -37,7 +46,7 @@ pub data IsWordMalformed (kind : WordKind) (text : List ℕ) : MalformedReason �
 -- The definition at the start of the text is malformed for this reason, from `rest` on, which is what follows the bytes
 -- other than braces.
 pub data IsDefinitionMalformed (text : List ℕ) : MalformedReason → (rest : List ℕ) → Type 0 where
-  Stops : drop (position_or_len is_brace text) text ≡ [] → IsDefinitionMalformed text reason.Unclosed []
+  Stops : drop (position_or_len is_brace text) text ≡ [] → IsDefinitionMalformed text reason.UnclosedDefinition []
   Brace : (more : List ℕ) → drop (position_or_len is_brace text) text ≡ open_brace ∷ more
       → IsDefinitionMalformed text reason.BraceInDefinition (open_brace ∷ more)
   Nothing : (more : List ℕ) → drop (position_or_len is_brace text) text ≡ close_brace ∷ more
@@ -60,27 +69,3 @@ pub data IsMalformedFrom : WordKind → (text : List ℕ) → MalformedReason �
 pub record IsMalformedAt (text : List ℕ) (from : ℕ) (why : MalformedReason) (byte : ℕ) : Type 0 where
   pub within : byte ≤ length text
   pub is : IsMalformedFrom NameWord (drop (from + 2) text) why (drop byte text)
-
--- ---- what private functions find
-
--- the kind of word that a value of the code stands for
-abbrev pub kind_view : code.WordKind → WordKind
-kind_view code_kind.Name = NameWord
-kind_view code_kind.Alias = AliasWord
-kind_view code_kind.Extract = ExtractWord
-kind_view code_kind.Fourth = FourthWord
-
--- what follows the word of this kind at the start of the text
-abbrev pub IsAfterWord : WordKind → List ℕ → AfterWord → Type 0
-IsAfterWord kind text (after.Malformed found) = IsWordMalformed kind text found.reason found.rest.now
-IsAfterWord kind text (after.Word next) = HasNoWordFault kind text × (after_word kind text ≡ colon ∷ next.now)
-IsAfterWord kind text (after.Definition next) = HasNoWordFault kind text × (after_word kind text ≡ equals_sign ∷ next.now)
-IsAfterWord kind text after.Close = HasNoWordFault kind text × ((more : List ℕ) × (after_word kind text ≡ close_brace ∷ more))
-
--- the rest of a placeholder, from the word of this kind on, has some fault
-abbrev pub HasFault : WordKind → List ℕ → Type 0
-HasFault kind text = (fault : GrokPatternError) × IsFaultFrom kind text fault
-
--- a malformed placeholder begins at the byte position `from` of the text
-abbrev pub HasMalformedAt : List ℕ → ℕ → Type 0
-HasMalformedAt text from = IsOpenAt text from × HasFault NameWord (drop (from + 2) text)

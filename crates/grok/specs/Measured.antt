@@ -6,6 +6,9 @@ use Rattle.grok.specs.Pieces.{pieces}
 use Rattle.grok.specs.Maps.{Texts}
 use Rattle.grok.specs.Tree.{Fault, Inline, Stored, Event, Text, Open, Close, FaultEvent, tree, first_structural, reached}
 use Rattle.grok.specs.Expanded.{expanded, groups, nesting}
+use Rattle.grok.specs.Items.{fault_view}
+use Rattle.grok.specs.declared.measure.Measure.{Measure}
+use Rattle.grok.specs.declared.measure.Measure.TheVariants as measure
 
 -- the tree of a pattern with these definitions
 abbrev pub tree_of : Texts → List ℕ → List Event
@@ -38,6 +41,12 @@ fault_or None size = size
 abbrev pub measured_tree : Bool → List Event → Measured
 measured_tree alias_only tree = fault_or (first_structural tree)
     (size_within (length (expanded alias_only tree)) (groups alias_only tree) (nesting tree))
+
+-- what contracts see of the public result
+abbrev pub measure_view : Measure → Measured
+measure_view (measure.Fault fault) = Faulty (fault_view fault)
+measure_view (measure.Size length groups nesting) = Sized length groups nesting
+measure_view measure.TooLong = TooLong
 
 -- ---- what is read
 

@@ -6,12 +6,13 @@ ghost use Rattle.std.specs.FinMap as finite;
 ghost use Rattle.std.specs.String.{string_bytes};
 ghost use Rattle.std.specs.BTreeMap.{get_by_text};
 ghost use Rattle.grok.specs.Tree.{tree as tree_of, first_structural, reached};
-ghost use Rattle.grok.specs.Keys.{Structural, first_fault};
-ghost use Rattle.grok.specs.NumberedBases.{opens_numbered_from, is_base_in};
+ghost use Rattle.grok.specs.Keys.{Structural, first_fault, has_numbered_alias};
 ghost use Rattle.grok.specs.Expanded.{expanded};
+ghost use Rattle.grok.specs.KeyNumbers.{key_text};
+ghost use Rattle.grok.specs.PlaceholderKeys.{AreKeysOf};
 ghost use Rattle.grok.specs.Errors.{error_value, Memory as memory};
-ghost use Rattle.grok.specs.Compiled.{IsFirstError, IsBuilt, IsRefusal, Compiles, expansion_of};
-ghost use Rattle.grok.specs.Expansions.{Expands, IsExpansionOf};
+ghost use Rattle.grok.specs.Compiled.{IsExpansionError, IsFirstError, IsBuilt, IsRefusal, Compiles, expansion_of};
+ghost use Rattle.grok.specs.steps.Expansions.{Expands, IsExpansionOf};
 ghost use Rattle.grok.specs.RegexFinds.{IsReadByDefault, MayRefuse};
 ghost use Rattle.grok.specs.Engines.{engine_regex};
 ghost use Rattle.regex.specs.Strings.{regex_source, regex_names};
@@ -21,9 +22,11 @@ use crate::defs::Grok;
 use crate::engine::Engine;
 use crate::engine::regex_engine::RegexEngine;
 use crate::errors::Error;
-use crate::expand::counted_definitions::{CompileSettings, CountedDefinitions};
-use crate::expand::first_fault::find_first_fault;
-use crate::expand::key_assigner::KeyAssigner;
+use crate::errors::error::clash_error;
+use crate::expand::first_clash::find_first_clash;
+use crate::expand::key_assigner::{KeyAssigner, numbered_key};
+use crate::expand::known_parts::{CompileSettings, KnownParts};
+use crate::expand::placeholder_key::PlaceholderKey;
 use crate::expand::write::{ExpandedPattern, write};
 use crate::key_table::KeyTable;
 use crate::matches::PatternOf;
@@ -34,7 +37,7 @@ use std::alloc::{AllocError, Global};
 /// Builds an engine from `text`, and returns the pattern with the keys and extracts in `given`.
 fn build<E: Engine>(alloc: Global, text: &str, given: KeyAssigner) -> Result<PatternOf<E>, Error>
     ensures { MatchResult result
-        (IsBuilt E.source_of E.group_names text.now (map string_bytes given.keys.items)
+        (IsBuilt E.source_of E.group_names text.now (map key_text given.keys.items)
         (λ key. option_map string_bytes (get_by_text given.extracts key)))
         (λ error. (error_value error ≡ memory) ⊎ IsRefusal E.may_refuse text.now
         (error_value error)) }
@@ -48,43 +51,44 @@ fn build<E: Engine>(alloc: Global, text: &str, given: KeyAssigner) -> Result<Pat
 }
 
 impl Grok {
-    /// Returns the error of the first fault of a pattern, given what measuring it `found`. Returns
-    /// `None` if the pattern has no fault, or if no alias that it reaches ends in a number in
-    /// brackets: then nothing can clash, so the first fault is the structural fault that measuring
-    /// found, if any.
+    /// Returns the error of the first clash of a pattern, given what measuring it `found`. Returns
+    /// `None` if its first fault isn't a clash. Then that is the structural fault that measuring
+    /// found, if any. If no alias that the pattern reaches ends in a number in brackets, nothing can
+    /// clash, and nothing is searched.
     ///
     /// # Errors
     ///
-    /// If an allocation fails, or if a base key that can clash is used more than `usize::MAX` times
-    /// before a fault.
-    fn first_error<'a, 'f>(
+    /// If an allocation fails, or if before a fault a base key `x` is used 2^64 times or more and the
+    /// least number `n` of an alias `x[n]` is `usize::MAX` or more.
+    fn error_of_clash<'a>(
         &'a self,
         pattern: &'a str,
         with_alias_only: bool,
-        found: &'f FullMeasure<'a>,
+        found: &FullMeasure<'a>,
     ) -> Result<Option<Error>, AllocError>
-        requires { (base : List ℕ) → is_base_in found.now.numbered base ≡ opens_numbered_from base
-            (reached (tree_of (finite.get self.now) pattern.now)) }
+        requires { found.now.has_numbered ≡ has_numbered_alias (reached
+            (tree_of (finite.get self.now) pattern.now)) }
         ensures { IfOk result (λ error. MatchOption error
             (first_fault with_alias_only (tree_of (finite.get self.now) pattern.now)
             ≡ option_map Structural (first_structural (tree_of (finite.get self.now) pattern.now)))
             (λ error. IsFirstError with_alias_only (tree_of (finite.get self.now) pattern.now)
             (error_value error))) }
     {
-        if found.numbered.is_empty() {
+        if !found.has_numbered {
             return Ok(None);
         }
+        let alloc = self.alloc();
         let settings = CompileSettings {
             grok: self,
             with_alias_only,
-            numbered: &found.numbered,
         };
-        let names = found.read_names(self.alloc())?;
-        let definitions = CountedDefinitions::of_names(settings, &names)?;
-        match find_first_fault(settings, &definitions, pattern)? {
-            None => Ok(None),
-            Some(tree_fault) => Ok(Some(tree_fault.to_error(self.alloc())?)),
-        }
+        let names = found.read_names(alloc)?;
+        let parts = KnownParts::of_names(settings, &names)?;
+        let Some(clash) = find_first_clash(settings, &parts, pattern)? else {
+            return Ok(None);
+        };
+        let key = numbered_key(alloc, clash.base, clash.number)?;
+        Ok(Some(clash_error(alloc, key.as_str())?))
     }
 
     /// Expands a pattern that has no fault. Its expanded text has `length` bytes.
@@ -125,12 +129,12 @@ impl Grok {
             // own error: the text of the pattern would be longer than `usize::MAX` bytes, so no
             // allocation could hold it.
             Measure::TooLong => Err(Error::Memory),
-            Measure::Fault(fault) => match self.first_error(pattern, with_alias_only, &found)? {
+            Measure::Fault(fault) => match self.error_of_clash(pattern, with_alias_only, &found)? {
                 Some(error) => Err(error),
                 None => Err(fault.to_error(self.alloc())?),
             },
             Measure::Size { length, .. } => {
-                if let Some(error) = self.first_error(pattern, with_alias_only, &found)? {
+                if let Some(error) = self.error_of_clash(pattern, with_alias_only, &found)? {
                     return Err(error);
                 }
                 // Frees what measuring remembers before the text is allocated.
@@ -138,6 +142,21 @@ impl Grok {
                 Ok(self.expand_clean(pattern, with_alias_only, length)?)
             }
         }
+    }
+
+    /// Returns the keys of the placeholders of a pattern that capture, in reading order. In alias-only
+    /// mode these are the placeholders with an alias.
+    ///
+    /// # Errors
+    ///
+    /// Those of [`Grok::compile_with`], but for the refusal of the engine.
+    pub fn keys(&self, pattern: &str, with_alias_only: bool) -> Result<Vec<PlaceholderKey>, Error>
+        ensures { MatchResult result
+            (λ keys. AreKeysOf (expansion_of self.now with_alias_only pattern.now) keys.items)
+            (IsExpansionError (expansion_of self.now with_alias_only pattern.now)) }
+    {
+        let ExpandedPattern { keys, .. } = self.expand(pattern, with_alias_only)?;
+        Ok(keys.keys)
     }
 
     /// Compiles a pattern for an engine. Each placeholder is replaced by its definition, in a group
@@ -156,8 +175,8 @@ impl Grok {
     ///   clash of keys, and that before the depth.
     /// - `RegexCompilationFailed` if the engine refuses the expanded text.
     /// - `Memory` if an allocation fails, if the expanded text of a pattern without a structural
-    ///   fault is longer than the greatest `usize`, or if a key is used more often than that before
-    ///   a fault.
+    ///   fault is longer than the greatest `usize`, or if before a fault a base key `x` is used
+    ///   2^64 times or more and the least number `n` of an alias `x[n]` is `usize::MAX` or more.
     pub fn compile_with<E: Engine>(
         &self,
         pattern: &str,

@@ -4,11 +4,11 @@ ghost use Rattle.std.specs.Prelude.{◌≡◌, ◌<◌, ◌^◌, ℕ, List, [], 
 ghost use Rattle.std.specs.FinMap as finite;
 ghost use Rattle.grok.specs.Tree.{PlaceholderItem, events, inside, items_of, meaning_text};
 ghost use Rattle.grok.specs.Items.{item_view, label_view, meaning_view};
-ghost use Rattle.grok.specs.Events.{event_view};
-ghost use Rattle.grok.specs.PlacedItems.{IsOfLibrary, HasRead, left_in};
+ghost use Rattle.grok.specs.steps.Events.{event_view};
+ghost use Rattle.grok.specs.steps.PlacedItems.{IsOfLibrary, HasRead, left_in};
 ghost use Rattle.grok.specs.FaultLocations.{path_view};
-ghost use Rattle.grok.specs.Searches.{PassesMore, StopsAt};
-ghost use Rattle.grok.specs.Descents.{IsEventStep, IsStep, path_of, FindsPlace};
+ghost use Rattle.grok.specs.steps.Searches.{PassesMore, StopsAt};
+ghost use Rattle.grok.specs.steps.Descents.{IsEventStep, IsStep, path_of, FindsPlace};
 
 use crate::defs::Grok;
 use crate::defs::definition::Definition;
@@ -24,8 +24,8 @@ use std::mem;
 pub(crate) trait Search<'a> {
     ghost use Rattle.std.specs.Prelude.{◌≡◌, ◌<◌, ◌^◌, List, [], ◌∷◌, Some, IfOk, IsTrue, IsFalse, if◌then◌else◌};
     ghost use Rattle.grok.specs.Tree.{Definitions, Event as EventView, items_of, events, inside};
-    ghost use Rattle.grok.specs.Events.{event_view};
-    ghost use Rattle.grok.specs.Searches.{PassesMore, StopsAt};
+    ghost use Rattle.grok.specs.steps.Events.{event_view};
+    ghost use Rattle.grok.specs.steps.Searches.{PassesMore, StopsAt};
 
     // the definitions that resolve the tree
     ghost definitions: { Self → Definitions };

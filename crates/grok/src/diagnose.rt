@@ -13,8 +13,9 @@ use crate::expand::write::ExpandedPattern;
 use crate::locate_byte::WrittenByte;
 use crate::locate_clash::Clash;
 use crate::location::Location;
-use crate::malformed::{MalformedReason, malformation_at};
+use crate::malformed::MalformedReason;
 use crate::measure::Measure;
+use crate::parser::malformation_at;
 use crate::why_refused::{RefusalReason, reason_for};
 use std::alloc::AllocError;
 use std::ops::Range;
@@ -181,8 +182,8 @@ impl Grok {
     ///
     /// # Errors
     ///
-    /// If an allocation fails, or if a base key that can clash is used more than `usize::MAX` times
-    /// before a fault.
+    /// If an allocation fails, or if before a fault a base key `x` is used 2^64 times or more and the
+    /// least number `n` of an alias `x[n]` is `usize::MAX` or more.
     pub fn diagnose<'a>(
         &'a self,
         pattern: &'a str,

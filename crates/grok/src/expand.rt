@@ -1,10 +1,13 @@
-//! Expands a pattern: finds its first fault, or computes its keys, its extracts and its text.
+//! Expands a pattern: finds its first clash, or computes its keys, its extracts and its text.
 
-pub(crate) mod counted_definitions;
+pub(crate) mod clash_search;
 pub(crate) mod events;
-pub(crate) mod first_fault;
+pub(crate) mod first_clash;
 pub(crate) mod key_assigner;
-pub(crate) mod key_uses;
+pub(crate) mod known_parts;
 pub(crate) mod numbered;
-pub(crate) mod numbered_bases;
+pub(crate) mod placeholder_key;
+pub(crate) mod read_rows;
+pub(crate) mod rows;
+pub(crate) mod uses;
 pub(crate) mod write;

@@ -8,8 +8,10 @@ ghost use Rattle.std.specs.Cmp.Lexicographic.{slice_cmp};
 ghost use Rattle.std.specs.Ordering.{nat_cmp};
 ghost use Rattle.grok.specs.Captures.{name_texts};
 ghost use Rattle.grok.specs.GeneratedNames.{generated};
+ghost use Rattle.grok.specs.KeyNumbers.{key_text};
 ghost use Rattle.grok.specs.KeyTable.{meant_key, group_of, group_in, IsKeyTable};
 
+use crate::expand::placeholder_key::PlaceholderKey;
 use crate::generated_name::NAME_START;
 use crate::numeral::number_of_numeral;
 use std::alloc::{AllocError, Global};
@@ -26,11 +28,11 @@ fn number_of(name: &str) -> Option<usize>
 }
 
 /// Returns the key that a group's name means.
-fn meant<'a>(name: &'a str, keys: &'a [String]) -> &'a str
-    ensures { result.now ≡ meant_key (map string_bytes keys.now) name.now }
+fn meant<'a>(name: &'a str, keys: &'a [PlaceholderKey]) -> &'a str
+    ensures { result.now ≡ meant_key (map key_text keys.now) name.now }
 {
     match number_of(name) {
-        Some(number) if number < keys.len() => keys[number].as_str(),
+        Some(number) if number < keys.len() => keys[number].key.as_str(),
         _ => name,
     }
 }
@@ -39,11 +41,11 @@ fn meant<'a>(name: &'a str, keys: &'a [String]) -> &'a str
 fn groups_by_key<'a>(
     alloc: Global,
     names: &'a [Option<String>],
-    keys: &'a [String],
+    keys: &'a [PlaceholderKey],
 ) -> Result<BTreeMap<&'a str, usize>, AllocError>
     ensures { IfOk result
         (λ groups. (key : List ℕ) → get_by (λ k. slice_cmp nat_cmp key k.now) groups
-        ≡ group_of (map string_bytes keys.now) (name_texts names.now) key) }
+        ≡ group_of (map key_text keys.now) (name_texts names.now) key) }
 {
     let mut groups = BTreeMap::new(alloc);
     'names: for (group, name) in names.iter().enumerate() {
@@ -73,7 +75,7 @@ pub(crate) struct KeyTable {
 impl Model for KeyTable {
     ghost use Rattle.std.specs.String.{string_bytes};
     ghost use Rattle.grok.specs.KeyTable.{Entries};
-    ghost use Rattle.grok.specs.KeyRanges.{entries_at, IsTable};
+    ghost use Rattle.grok.specs.steps.KeyRanges.{entries_at, IsTable};
 
     ghost Value = { Entries };
 
@@ -82,7 +84,7 @@ impl Model for KeyTable {
     ghost invariant = { λ table. IsTable (string_bytes table.text) table.ranges.items };
 }
 
-ghost use Rattle.grok.specs.KeyRanges.{key_at, key_or_none, entry_of, IsExtended, IsKeyRange};
+ghost use Rattle.grok.specs.steps.KeyRanges.{key_at, key_or_none, entry_of, IsExtended, IsKeyRange};
 
 /// Returns the bytes of a key, or no bytes if the text has no such range.
 fn bytes_at(text: &str, range: KeyRange) -> &[u8]
@@ -145,9 +147,9 @@ impl KeyTable {
     pub(crate) fn for_names(
         alloc: Global,
         names: &[Option<String>],
-        keys: &[String],
+        keys: &[PlaceholderKey],
     ) -> Result<KeyTable, AllocError>
-        ensures { IfOk result (IsKeyTable (map string_bytes keys.now) (name_texts names.now)) }
+        ensures { IfOk result (IsKeyTable (map key_text keys.now) (name_texts names.now)) }
     {
         let groups = groups_by_key(alloc, names, keys)?;
         KeyTable::new(alloc, &groups)
@@ -190,7 +192,7 @@ pub(crate) struct KeyEntries<'a> {
 impl<'a> Model for KeyEntries<'a> {
     ghost use Rattle.std.specs.List.{AllByRecursion};
     ghost use Rattle.grok.specs.KeyTable.{Entries};
-    ghost use Rattle.grok.specs.KeyRanges.{entries_at, IsKeyRange};
+    ghost use Rattle.grok.specs.steps.KeyRanges.{entries_at, IsKeyRange};
 
     ghost Value = { Entries };
 

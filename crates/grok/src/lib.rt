@@ -63,6 +63,7 @@ pub use engine::regex_engine::RegexEngine;
 pub use engine::regex_matcher::RegexMatcher;
 pub use engine::{Engine, Refusal};
 pub use errors::{Error, Fault, MAX_NESTING};
+pub use expand::placeholder_key::PlaceholderKey;
 pub use locate_byte::{ByteLocation, WrittenByte};
 pub use locate_clash::Clash;
 pub use location::{Location, PathStep};
@@ -73,11 +74,12 @@ pub use matches::{CaptureNames, MatchesIter, MatchesOf, PatternOf};
 pub use measure::{Looks, Measure};
 pub use why_refused::RefusalReason;
 
-/// A pattern over `regex`.
+/// A compiled pattern, with `regex` as its engine.
 pub type Pattern = PatternOf<RegexEngine>;
 
-/// A match of a pattern over `regex`.
+/// A match of a compiled pattern in a line, with `regex` as its engine.
 pub type Matches<'a> = MatchesOf<'a, RegexEngine>;
 
-/// A matcher of a pattern over `regex`, which keeps its caches from line to line.
+/// Searches line after line for a compiled pattern, and keeps the caches of its engine, `regex`,
+/// from one line to the next.
 pub type Matcher<'p> = MatcherOf<'p, RegexEngine>;

@@ -3,10 +3,10 @@ ghost use Rattle.std.specs.Prelude.{◌≡◌, IfOk, IfSome, option_map, None, t
 ghost use Rattle.std.specs.FinMap as finite;
 ghost use Rattle.grok.specs.Tree.{tree, first_structural};
 ghost use Rattle.grok.specs.Items.{fault_view, item_view};
-ghost use Rattle.grok.specs.MeasureCache.{IsIdle, HasCorrectCache};
-ghost use Rattle.grok.specs.Events.{event_view};
+ghost use Rattle.grok.specs.steps.MeasureCache.{HasCorrectCache};
+ghost use Rattle.grok.specs.steps.Events.{event_view};
 ghost use Rattle.grok.specs.FaultLocations.{IsFaultOf};
-ghost use Rattle.grok.specs.FaultSearches.{is_fault, fault_of_item};
+ghost use Rattle.grok.specs.steps.FaultSearches.{is_fault, fault_of_item};
 
 use crate::defs::Grok;
 use crate::defs::definition::Definition;
@@ -49,7 +49,7 @@ struct FaultSearch<'a> {
 impl<'a> Search<'a> for FaultSearch<'a> {
     ghost definitions = { λ search. finite.get search.measurer.settings.grok.now };
 
-    ghost IsReady = { λ search. IsIdle search.measurer × HasCorrectCache search.measurer };
+    ghost IsReady = { λ search. HasCorrectCache search.measurer };
 
     ghost HasPassed = { λ start es now. first_structural es ≡ None };
 

@@ -3,12 +3,12 @@ ghost use Rattle.std.specs.Prelude.{◌≡◌, ◌<◌, ◌+◌, ◌≤◌, ℕ,
 ghost use Rattle.std.specs.FinMap as finite;
 ghost use Rattle.grok.specs.Tree.{Event as EventView};
 ghost use Rattle.grok.specs.Items.{item_view};
-ghost use Rattle.grok.specs.Events.{event_view};
+ghost use Rattle.grok.specs.steps.Events.{event_view};
 ghost use Rattle.grok.specs.Expanded.{expanded};
-ghost use Rattle.grok.specs.MeasureCache.{IsIdle, HasCorrectCache};
+ghost use Rattle.grok.specs.steps.MeasureCache.{HasCorrectCache};
 ghost use Rattle.grok.specs.ByteLocations.{LocatesByte};
-ghost use Rattle.grok.specs.Searches.{PassesMore, StopsAt};
-ghost use Rattle.grok.specs.ByteSearches.{IsSizeOf, IsPartOfItem, HasPassedBytes, WritesByte};
+ghost use Rattle.grok.specs.steps.Searches.{PassesMore, StopsAt};
+ghost use Rattle.grok.specs.steps.ByteSearches.{IsSizeOf, IsPartOfItem, HasPassedBytes, WritesByte};
 
 use crate::defs::Grok;
 use crate::defs::definition::Definition;
@@ -25,13 +25,14 @@ use crate::measure::partial_size::{
 use crate::measure::settings::MeasureSettings;
 use std::alloc::AllocError;
 
-/// What a piece writes of an expanded text, at one byte of it.
+/// How a byte got into an expanded text: it was copied from regular text, or belongs to the group
+/// that is written for a placeholder.
 #[derive(Clone, Copy, PartialEq, Eq, Debug)]
 pub enum WrittenByte {
-    /// A byte of regular text. It is this many bytes after the first byte of the piece.
+    /// It was copied from a piece of regular text. The number is how many bytes after the first
+    /// byte of that piece it stands.
     Copied(usize),
-    /// A byte of the group of a placeholder: of the start of the group, such as `(?<_n_0>`, or its
-    /// `)`.
+    /// It belongs to the group of a placeholder: to its start, such as `(?<_n_0>`, or to its `)`.
     OfGroup,
 }
 
@@ -91,7 +92,7 @@ impl<'a> ByteSearch<'a> {
 impl<'a> Search<'a> for ByteSearch<'a> {
     ghost definitions = { λ search. finite.get search.measurer.settings.grok.now };
 
-    ghost IsReady = { λ search. IsIdle search.measurer × HasCorrectCache search.measurer };
+    ghost IsReady = { λ search. HasCorrectCache search.measurer };
 
     ghost HasPassed = { HasPassedBytes };
 

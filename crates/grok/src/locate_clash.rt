@@ -1,28 +1,27 @@
 //! Finds where the two placeholders of a clash stand, without expanding the pattern.
-ghost use Rattle.std.specs.Prelude.{◌≡◌, ◌<◌, ℕ, List, [], ◌∷◌, Some, None, IfOk, IfSome, IsTrue, true, false, if◌then◌else◌};
-ghost use Rattle.std.specs.FinMap as finite;
+ghost use Rattle.std.specs.Prelude.{◌≡◌, ◌+◌, ◌-◌, ◌^◌, ◌<◌, ◌≤◌, ℕ, List, [], ◌∷◌, Some, None, IfOk, IfSome, IsTrue, false, if◌then◌else◌};
 ghost use Rattle.std.specs.Str.{bytes_eq};
+ghost use Rattle.std.specs.FinMap as finite;
 ghost use Rattle.std.specs.String.{string_bytes};
 ghost use Rattle.grok.specs.Tree as tree;
 ghost use Rattle.grok.specs.Tree.{tree as tree_of, reached};
-ghost use Rattle.grok.specs.Keys.{Clash as KeyClash, first_fault, base_key as base_key_of};
-ghost use Rattle.grok.specs.NumberedBases.{opens_numbered_from, is_base_in};
+ghost use Rattle.grok.specs.Keys.{first_fault, is_capturing, base_key as base_key_of, has_numbered_alias, numbered as numbered_of};
 ghost use Rattle.grok.specs.Items.{label_view};
-ghost use Rattle.grok.specs.CountedDefinitions.{AreCounted, opened_events, is_counted};
-ghost use Rattle.grok.specs.FirstFaultSteps.{HasFittingNumber};
 ghost use Rattle.grok.specs.ClashLocations.{IsClashAt, IsFirstClash};
-ghost use Rattle.grok.specs.UseSearches.{HasPassed, HasPassedEvents, HasPassedUses, IsSoughtUse, FindsUse};
+ghost use Rattle.grok.specs.steps.KnownParts.{AreKnown};
+ghost use Rattle.grok.specs.steps.TreeClashes.{IsClashIn};
+ghost use Rattle.grok.specs.steps.UseSearches.{CanSearch, HasPassedUses, IsSoughtUse, FindsUse};
 
 use crate::defs::Grok;
 use crate::defs::definition::Definition;
 use crate::defs::items::Label;
 use crate::descend::{Search, descend};
-use crate::errors::fault::TreeFault;
-use crate::expand::counted_definitions::{CompileSettings, CountedDefinitions};
+use crate::expand::clash_search::FoundClash;
 use crate::expand::events::Event;
-use crate::expand::first_fault::find_first_fault;
-use crate::expand::key_assigner::base_key;
-use crate::expand::numbered::parts_of_numbered;
+use crate::expand::first_clash::find_first_clash;
+use crate::expand::key_assigner::{base_key, numbered_key};
+use crate::expand::known_parts::{CompileSettings, KnownParts};
+use crate::expand::uses::{Uses, count_parts};
 use crate::location::Location;
 use crate::measure::full_measure::FullMeasure;
 use std::alloc::AllocError;
@@ -45,110 +44,48 @@ pub struct Clash<'a> {
     pub second: Location<'a>,
 }
 
-/// The base key whose use is sought, and another one. Both can take part in a clash.
+/// The search for a use of a base key: the one before which `left` other uses of it come. It passes
+/// over each definition that is wholly known and doesn't have the sought use.
 #[derive(Clone, Copy)]
-struct SoughtKeys<'k> {
+struct UseSearch<'a, 'd, 'k> {
+    settings: CompileSettings<'a>,
+    parts: &'d KnownParts<'a>,
+    /// How the known part of each definition uses the base key.
+    counts: &'d [Uses],
     base: &'k str,
-    other: &'k str,
+    left: u128,
 }
 
-/// How far the search for a use has come.
-#[derive(Clone, Copy)]
-struct UsesSoFar {
-    /// How many more uses of the base key come before the one that is sought.
-    left: usize,
-    /// Whether the other base key was used.
-    is_other_used: bool,
-}
-
-/// The search for a use of a base key: the one before which `so_far.left` other uses of it come. It
-/// passes over each definition that was counted to its end.
-#[derive(Clone, Copy)]
-struct UseSearch<'a, 'f, 'd, 'k> {
-    settings: CompileSettings<'a, 'f>,
-    definitions: &'d CountedDefinitions<'a>,
-    keys: SoughtKeys<'k>,
-    so_far: UsesSoFar,
-}
-
-/// Returns 1 if a placeholder with this base key uses the key, or else 0.
-fn uses_by(base: &str, key: &str) -> usize
-    ensures { result ≡ (if bytes_eq base.now key.now then 1 else 0) }
+/// Returns 1 if the placeholder with this label uses the base key, or else 0.
+fn uses_by<'a>(settings: CompileSettings<'a>, label: Label<'a>, base: &str) -> u128
+    ensures { result ≡ (if is_capturing settings.entry.with_alias_only (label_view label.entry)
+        then (if bytes_eq (base_key_of (label_view label.entry)) base.now then 1 else 0) else 0) }
 {
-    if base == key { 1 } else { 0 }
-}
-
-impl UsesSoFar {
-    /// Passes over these uses of the base key and of the other one, unless the use that is sought is
-    /// among them. Returns whether it passed over them.
-    fn pass(&mut self, uses: usize, others: usize) -> bool
-        ensures passed { IsTrue result → HasPassed uses others self.old self.new }
-        ensures stopped { result ≡ false → (self.old.left < uses) × (self.new ≡ self.old) }
-    {
-        let Some(left) = self.left.checked_sub(uses) else {
-            return false;
-        };
-        let is_other_used = self.is_other_used || others > 0;
-        *self = UsesSoFar {
-            left,
-            is_other_used,
-        };
-        true
+    if label.is_capturing(settings.with_alias_only) && base_key(label) == base {
+        1
+    } else {
+        0
     }
 }
 
-/// Passes over a placeholder's own use of its base key, if that use is counted. Returns `false` and
-/// passes over nothing if it is the use that is sought.
-fn pass_label<'a>(
-    settings: CompileSettings<'a, '_>,
-    keys: SoughtKeys<'_>,
-    label: Label<'a>,
-    so_far: &mut UsesSoFar,
-) -> bool
-    ensures passed { IsTrue result → (meaning : tree.Meaning) → HasPassedEvents settings.entry keys.entry
-        (tree.Open (label_view label.entry) meaning ∷ []) so_far.old so_far.new }
-    ensures stopped { result ≡ false → (is_counted settings.entry (label_view label.entry) ≡ true)
-        × (base_key_of (label_view label.entry) ≡ keys.entry.base.now) × (so_far.old.left ≡ 0)
-        × (so_far.new ≡ so_far.old) }
+/// Passes over this many uses of a base key, of which `left` come before the sought one. Returns
+/// `false` and changes nothing if that is among them.
+fn pass_uses(left: &mut u128, uses: u128) -> bool
+    ensures passed { IsTrue result → uses + left.new ≡ left.old }
+    ensures stopped { result ≡ false → (left.old < uses) × (left.new ≡ left.old) }
+    ensures less { left.new ≤ left.old }
 {
-    if !settings.is_counted(label) {
-        return true;
-    }
-    let base = base_key(label);
-    so_far.pass(uses_by(base, keys.base), uses_by(base, keys.other))
+    let Some(fewer) = left.checked_sub(uses) else {
+        return false;
+    };
+    *left = fewer;
+    true
 }
 
-/// Skips a stored definition without reading it, and returns `true`: adds the uses that were counted
-/// of it to what `so_far` has passed. Returns `false` and changes nothing if the definition isn't
-/// counted to its end, if it needs more than `levels` levels (its placeholder's among them), or if
-/// the use that is sought is in it.
-fn pass_counted<'a>(
-    definitions: &CountedDefinitions<'a>,
-    keys: SoughtKeys<'_>,
-    name: &'a str,
-    levels: usize,
-    so_far: &mut UsesSoFar,
-) -> bool
-    ensures passed { IsTrue result → (settings : CompileSettings) (text : List ℕ) → AreCounted settings definitions.now
-        → finite.get settings.grok.now name.now ≡ Some text →
-        HasPassedEvents settings keys.entry (opened_events settings levels text) so_far.old so_far.new }
-    ensures stopped { result ≡ false → so_far.new ≡ so_far.old }
-{
-    match definitions.of_name(name) {
-        Some(part) if part.uncounted.is_none() && part.counted.height < levels => {
-            let uses = &part.counted.uses;
-            let own = uses.times_of(keys.base);
-            let others = uses.times_of(keys.other);
-            so_far.pass(own, others)
-        }
-        _ => false,
-    }
-}
-
-impl<'a> Search<'a> for UseSearch<'a, '_, '_, '_> {
+impl<'a> Search<'a> for UseSearch<'a, '_, '_> {
     ghost definitions = { λ search. finite.get search.settings.grok.now };
 
-    ghost IsReady = { λ search. AreCounted search.settings search.definitions.now };
+    ghost IsReady = { CanSearch };
 
     ghost HasPassed = { HasPassedUses };
 
@@ -156,7 +93,10 @@ impl<'a> Search<'a> for UseSearch<'a, '_, '_, '_> {
 
     fn pass_event(&mut self, event: Event<'a>) -> bool {
         match event {
-            Event::Open(label, _) => pass_label(self.settings, self.keys, label, &mut self.so_far),
+            Event::Open(label, _) => {
+                let uses = uses_by(self.settings, label, self.base);
+                pass_uses(&mut self.left, uses)
+            }
             Event::Text(_) => true,
             Event::Close => true,
             Event::Fault(_) => true,
@@ -169,88 +109,78 @@ impl<'a> Search<'a> for UseSearch<'a, '_, '_, '_> {
         _definition: &'a Definition,
         levels: usize,
     ) -> Result<bool, AllocError> {
-        Ok(pass_counted(
-            self.definitions,
-            self.keys,
-            name,
-            levels + 1,
-            &mut self.so_far,
-        ))
+        match self.parts.of_name(name) {
+            Some(part) if part.stop.is_none() && part.height <= levels => {
+                let counted = self.counts.get(part.index).copied();
+                let uses = counted.unwrap_or(Uses::none());
+                Ok(pass_uses(&mut self.left, uses.times))
+            }
+            _ => Ok(false),
+        }
     }
 }
 
-/// Finds a use of a base key: the one before which `so_far.left` other uses of it come.
+/// Finds a use of a base key: the one before which `number` other uses of it come.
+///
+/// # Errors
+///
+/// If an allocation fails.
 fn find_use<'a>(
-    settings: CompileSettings<'a, '_>,
-    definitions: &CountedDefinitions<'a>,
-    keys: SoughtKeys<'_>,
+    settings: CompileSettings<'a>,
+    parts: &KnownParts<'a>,
+    base: &str,
+    number: usize,
     pattern: &'a str,
-    so_far: &mut UsesSoFar,
 ) -> Result<Option<Location<'a>>, AllocError>
-    requires { AreCounted settings definitions.now }
-    ensures { IfOk result (λ found.
-        FindsUse settings.entry keys.entry pattern.now found so_far.old so_far.new) }
+    requires known { AreKnown settings parts.now }
+    requires low { number < 2 ^ 64 - 1 }
+    ensures { IfOk result (FindsUse (finite.get settings.entry.grok.now) settings.entry.with_alias_only pattern.now base.now number) }
 {
+    let counts = count_parts(settings.grok.alloc(), &parts.rows, base)?;
     let mut search = UseSearch {
         settings,
-        definitions,
-        keys,
-        so_far: *so_far,
+        parts,
+        counts: &counts,
+        base,
+        left: number as u128,
     };
-    let found = descend(settings.grok, &mut search, pattern)?;
-    *so_far = search.so_far;
-    match found {
+    match descend(settings.grok, &mut search, pattern)? {
         None => Ok(None),
         Some(place) => Ok(Some(place.location)),
     }
 }
 
 /// Finds both placeholders of a clash.
+///
+/// # Errors
+///
+/// If an allocation fails.
 fn locate_both<'a>(
-    settings: CompileSettings<'a, '_>,
-    definitions: &CountedDefinitions<'a>,
+    settings: CompileSettings<'a>,
+    parts: &KnownParts<'a>,
     pattern: &'a str,
-    key: String,
+    clash: FoundClash<'a>,
 ) -> Result<Option<Clash<'a>>, AllocError>
-    requires counted { AreCounted settings definitions.now }
-    requires known { (base : List ℕ) → is_base_in settings.numbered.now base ≡ opens_numbered_from base
-        (reached (tree_of (finite.get settings.grok.now) pattern.now)) }
-    requires clash { first_fault settings.with_alias_only
-        (tree_of (finite.get settings.grok.now) pattern.now) ≡ Some (KeyClash (string_bytes key)) }
-    requires number { HasFittingNumber (string_bytes key) }
+    requires known { AreKnown settings parts.now }
+    requires clash { IsClashIn settings.with_alias_only (tree_of (finite.get settings.grok.now) pattern.now) clash }
     ensures found { IfOk result (λ found. found ≡ None → ⊥) }
     ensures location { IfOk result (λ found. IfSome found (λ clash. IsClashAt
         (finite.get settings.entry.grok.now) settings.entry.with_alias_only pattern.now clash)) }
-    ensures key { IfOk result (λ found. IfSome found
-        (λ clash. string_bytes clash.key ≡ string_bytes key)) }
+    ensures key { IfOk result (λ found. IfSome found (λ located.
+        string_bytes located.key ≡ numbered_of clash.entry.base.now clash.entry.number)) }
 {
-    let text = key.as_str();
+    let alloc = settings.grok.alloc();
+    let FoundClash { base, number, .. } = clash;
+    let key = numbered_key(alloc, base, number)?;
     // One has the key as its base key, and the other one gets it by its number.
-    let Some((base, number)) = parts_of_numbered(text) else {
+    let Some(own) = find_use(settings, parts, key.as_str(), 0, pattern)? else {
         return Ok(None);
     };
-    let own_keys = SoughtKeys {
-        base: text,
-        other: base,
-    };
-    let numbered_keys = SoughtKeys { base, other: text };
-    let mut none = UsesSoFar {
-        left: 0,
-        is_other_used: false,
-    };
-    let mut so_far = UsesSoFar {
-        left: number,
-        is_other_used: false,
-    };
-    let Some(own) = find_use(settings, definitions, own_keys, pattern, &mut none)? else {
+    let Some(numbered) = find_use(settings, parts, base, number, pattern)? else {
         return Ok(None);
     };
-    let Some(numbered) = find_use(settings, definitions, numbered_keys, pattern, &mut so_far)?
-    else {
-        return Ok(None);
-    };
-    let base = String::from_str(settings.grok.alloc(), base)?;
-    if so_far.is_other_used {
+    let base = String::from_str(alloc, base)?;
+    if clash.is_alias_first {
         Ok(Some(Clash {
             key,
             base,
@@ -276,39 +206,38 @@ impl Grok {
     /// Otherwise returns `None`: the pattern has no fault, or its first one is a structural fault.
     /// `found` is what measuring the pattern found.
     ///
-    /// Each definition is counted once. Then only the definitions on the two paths are read again, at
+    /// Each definition is read once. Then only the definitions on the two paths are read again, at
     /// most 1,023 on each.
     ///
     /// # Errors
     ///
-    /// If an allocation fails, or if a base key that can clash is used more than `usize::MAX` times
-    /// before a fault.
+    /// If an allocation fails, or if before a fault a base key `x` is used 2^64 times or more and the
+    /// least number `n` of an alias `x[n]` is `usize::MAX` or more.
     pub(crate) fn locate_clash<'a>(
         &'a self,
         pattern: &'a str,
         with_alias_only: bool,
         found: &FullMeasure<'a>,
     ) -> Result<Option<Clash<'a>>, AllocError>
-        requires { (base : List ℕ) → is_base_in found.now.numbered base ≡ opens_numbered_from base
-            (reached (tree_of (finite.get self.now) pattern.now)) }
+        requires { found.now.has_numbered ≡ has_numbered_alias (reached
+            (tree_of (finite.get self.now) pattern.now)) }
         ensures first { IfOk result (λ found. IsFirstClash (first_fault with_alias_only
             (tree_of (finite.get self.now) pattern.now)) found) }
         ensures location { IfOk result (λ found. IfSome found (λ clash.
             IsClashAt (finite.get self.now) with_alias_only pattern.now clash)) }
     {
-        if found.numbered.is_empty() {
+        if !found.has_numbered {
             return Ok(None);
         }
         let settings = CompileSettings {
             grok: self,
             with_alias_only,
-            numbered: &found.numbered,
         };
         let names = found.read_names(self.alloc())?;
-        let definitions = CountedDefinitions::of_names(settings, &names)?;
-        match find_first_fault(settings, &definitions, pattern)? {
-            Some(TreeFault::Clash(key)) => locate_both(settings, &definitions, pattern, key),
-            _ => Ok(None),
+        let parts = KnownParts::of_names(settings, &names)?;
+        match find_first_clash(settings, &parts, pattern)? {
+            None => Ok(None),
+            Some(clash) => locate_both(settings, &parts, pattern, clash),
         }
     }
 }

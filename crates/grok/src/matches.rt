@@ -8,7 +8,7 @@ ghost use Rattle.std.specs.List.Sorted.{IsStrictlySortedBy};
 ghost use Rattle.std.specs.Map.{keys_of};
 ghost use Rattle.std.specs.Cmp.Lexicographic.{slice_cmp};
 ghost use Rattle.std.specs.Ordering.{nat_cmp};
-ghost use Rattle.grok.specs.Captures.{text_of, capture_texts, IsMatchIn};
+ghost use Rattle.grok.specs.Captures.{text_of, name_texts, capture_texts, IsMatchIn};
 ghost use Rattle.std.specs.Fmt.{DisplaysOnOk};
 ghost use Rattle.grok.specs.Maps.{pair_texts};
 ghost use Rattle.grok.specs.Debugs.{debug_pairs};
@@ -158,6 +158,15 @@ impl<E: Engine> PatternOf<E> {
         ensures { result ≡ group_in self.now.keys key.now }
     {
         self.keys.get(key)
+    }
+
+    /// Returns the names of the engine's groups, in the order of their numbers. The first one is the
+    /// whole match, and has none. The group of a placeholder that captures has a generated name, and
+    /// a group that was written by hand as `(?<x>..)` has the name `x`.
+    pub fn group_names(&self) -> &[Option<String>]
+        ensures { name_texts result.now ≡ E.group_names self.now.engine }
+    {
+        self.engine.names()
     }
 
     /// Returns the extract of a key, or `None` if it has none. This doesn't depend on whether a

@@ -1,7 +1,6 @@
 //! Measures the expanded text of a pattern, without expanding it.
 ghost use Rattle.std.specs.Prelude.{◌≡◌, IfOk, map};
-ghost use Rattle.grok.specs.Measured.{tree_of, measured_tree};
-ghost use Rattle.grok.specs.MeasureCache.{measure_view};
+ghost use Rattle.grok.specs.Measured.{tree_of, measured_tree, measure_view};
 ghost use Rattle.grok.specs.CountedMeasures.{IsCountedMeasure};
 
 mod cache;
@@ -95,7 +94,6 @@ impl Grok {
     ///
     /// Each piece of the pattern and of each stored definition that it reaches is read at most
     /// once, and so is the end of each of these texts. Without a fault, each is read exactly once.
-    /// With a fault, the pieces are those up to the faulty one, and the ends are those before it.
     ///
     /// # Errors
     ///

@@ -4,7 +4,8 @@ ghost use Rattle.grok.specs.Numeral.{numeral};
 
 use itoa::Buffer;
 
-/// Returns the number that the text is the decimal numeral of, if it fits.
+/// Reads a number in decimal digits without leading zeros. Returns `None` if the text isn't one, or
+/// if the number doesn't fit into a `usize`.
 pub(crate) fn number_of_numeral(text: &str) -> Option<usize>
     ensures { MatchOption result ((number : ℕ) → number < 2 ^ 64 → text.now ≡ numeral number → ⊥)
         (λ number. text.now ≡ numeral number) }

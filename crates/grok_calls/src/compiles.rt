@@ -24,9 +24,17 @@ pub(crate) fn call(rt: &HostRuntime, name: &str) -> Result<()> {
         "refused" => compile::<Refuser>(rt, &TWO_LEVELS, "%{A}", false),
         "bare_short" => compile_repeated(rt, 1),
         "bare_long" => compile_repeated(rt, 5000),
+        "keys" => keys(rt),
         "mac" => compile::<RegexEngine>(rt, &grok::patterns(), "%{MAC}", false),
         _ => bail!("no call has this name"),
     }
+}
+
+/// Prints what the keys of a pattern are, twice.
+fn keys(rt: &HostRuntime) -> Result<()> {
+    let grok = Grok::from_iter(rt.alloc(), &TWO_LEVELS)?;
+    twice!(rt, grok.keys("%{B:x}%{A}%{A:x}", true));
+    Ok(())
 }
 
 fn show_key(rt: &HostRuntime, name: &str, extract: Option<&str>) -> Result<()> {

@@ -55,6 +55,8 @@ fn call_on_pattern(rt: &HostRuntime, name: &str, pattern: &Pattern) -> Result<()
         "capture_names" => capture_names(rt, pattern),
         "get_extract" => get_extract(rt, pattern),
         "group_of" => group_of(rt, pattern),
+        "group_names" => group_names(rt, pattern),
+        "range" => ranges(rt, pattern),
         _ => match pattern.match_against(LINE)? {
             Some(matches) => call_on_matches(rt, name, &matches),
             None => bail!("the line should match"),
@@ -199,6 +201,22 @@ fn find_twice(rt: &HostRuntime, matcher: &mut Matcher<'_>, line: &str) -> Result
     Ok(())
 }
 
+fn ranges(rt: &HostRuntime, pattern: &Pattern) -> Result<()> {
+    let mut matcher = pattern.matcher()?;
+    let Some(found) = matcher.find(LINE)? else {
+        bail!("the line should match");
+    };
+    twice!(
+        rt,
+        (
+            found.range("MAC"),
+            found.range("CISCOMAC"),
+            found.range("nobody")
+        )
+    );
+    Ok(())
+}
+
 fn text(rt: &HostRuntime, pattern: &Pattern) -> Result<()> {
     twice!(rt, pattern.text());
     Ok(())
@@ -231,6 +249,11 @@ fn group_of(rt: &HostRuntime, pattern: &Pattern) -> Result<()> {
         rt,
         (pattern.group_of("COMMONMAC"), pattern.group_of("nobody"))
     );
+    Ok(())
+}
+
+fn group_names(rt: &HostRuntime, pattern: &Pattern) -> Result<()> {
+    twice!(rt, pattern.group_names());
     Ok(())
 }
 

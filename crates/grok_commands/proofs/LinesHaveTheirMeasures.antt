@@ -2,8 +2,7 @@
 use Rattle.std.proofs.Common.{◌≡◌, ℕ, ◌<◌, List, [], ◌∷◌, Bor, length, map, get_or, refl, sym, ◌∙◌, ap, subst, arith}
 use Rattle.std.proofs.lemmas.List.{length-map, get_or-map}
 use Rattle.grok.specs.declared.measure.Measure.{Measure}
-use Rattle.grok.specs.Measured.{Measured}
-use Rattle.grok.specs.MeasureCache.{measure_view}
+use Rattle.grok.specs.Measured.{Measured, measure_view}
 use Rattle.grok_commands.specs.Commands.{texts}
 use Rattle.grok_commands.specs.SizeTexts.{placeholder_of, IsMeasuredLine}
 

@@ -4,7 +4,7 @@ ghost use Rattle.std.specs.FinMap as finite;
 ghost use Rattle.std.specs.Io.KnownBytes.{append_known};
 ghost use Rattle.grok_lines.specs.Errors.{IsWriteError};
 ghost use Rattle.grok_commands.specs.Answers.{HasAnswered, HasAnsweredFirst};
-ghost use Rattle.grok.specs.MeasureCache.{measure_view};
+ghost use Rattle.grok.specs.Measured.{measure_view};
 ghost use Rattle.grok_commands.specs.Library.{library_of};
 ghost use Rattle.grok_commands.specs.Commands.{texts};
 ghost use Rattle.grok_commands.specs.SizeTexts.{placeholder_of, IsMeasuredText, IsMeasuredLine, IsCheckLine};

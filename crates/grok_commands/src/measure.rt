@@ -3,8 +3,7 @@ ghost use Rattle.std.specs.Prelude.{◌≡◌, ◌≢◌, ◌++◌, Some, None, 
 ghost use Rattle.std.specs.Io.KnownBytes.{Appends, Keeps};
 ghost use Rattle.grok.specs.Errors.{error_value};
 ghost use Rattle.grok.specs.Items.{fault_view};
-ghost use Rattle.grok.specs.Measured.{Faulty};
-ghost use Rattle.grok.specs.MeasureCache.{measure_view};
+ghost use Rattle.grok.specs.Measured.{Faulty, measure_view};
 ghost use Rattle.grok_commands.specs.Views.{request_view};
 ghost use Rattle.grok_commands.specs.SizeTexts.{text_of_size, measure_of, IsFaulty};
 ghost use Rattle.grok.specs.declared.errors.error.Error.{Error};

@@ -5,5 +5,9 @@ pub mod LinesOfTwoParts
 pub mod LineLaws
 pub mod HeldBytesAreKept
 pub mod AnswersAreNumberedOn
+pub mod HandlersGoOn
+pub mod InputsAreEnded
+pub mod EventsGoOn
+pub mod EventsAreAnswered
 pub mod AnswersHaveGoneOut
 pub mod Utf8IsDecided

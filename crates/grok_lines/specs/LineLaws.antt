@@ -1,8 +1,9 @@
--- The laws of the lines of an input, and of the answers to them.
-use Rattle.std.specs.Prelude.{◌≡◌, ℕ, List, ◌++◌, codes, flat_map, length}
+-- The laws of the lines of an input, of the answers to them, and of their events.
+use Rattle.std.specs.Prelude.{◌≡◌, ℕ, Bool, List, ◌++◌, codes, flat_map, length}
 use Rattle.std.specs.List.{AllByRecursion}
 use Rattle.grok_lines.specs.Lines.{lines_of, ended_lines_of, unended_of, last_line, IsLine}
 use Rattle.grok_lines.specs.Streams.{answers_of, AreAnswersAfter}
+use Rattle.grok_lines.specs.Events.{AreEventsOf}
 
 -- the lines, each with its line feed, one after another
 abbrev pub joined_lines : List (List ℕ) → List ℕ
@@ -43,3 +44,10 @@ abbrev pub AnswersGoOn : Type 0
 AnswersGoOn = (answer later : ℕ → List ℕ → List ℕ) (lines more : List (List ℕ))
     → AreAnswersAfter (length lines) answer later
     → answers_of answer (lines ++ more) ≡ answers_of answer lines ++ answers_of later more
+
+-- ---- events
+
+-- Lines have no other events than these.
+abbrev pub NoOtherEvents : Type 0
+NoOtherEvents = (starts : List ℕ → Bool) (most : ℕ) (lines : List (List ℕ)) (events others : List (List (List ℕ)))
+    → AreEventsOf starts most lines events → AreEventsOf starts most lines others → others ≡ events

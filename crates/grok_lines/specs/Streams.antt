@@ -17,6 +17,17 @@ answers_of answer (line ∷ lines) = answer 0 line ++ answers_of (λ n. answer (
 abbrev pub AreAnswersAfter : ℕ → (ℕ → List ℕ → List ℕ) → (ℕ → List ℕ → List ℕ) → Type 0
 AreAnswersAfter count answer later = (n : ℕ) → later n ≡ answer (count + n)
 
+-- ---- handlers of lines, which may wait for later lines before they write
+
+-- A handler that was `old` is `new` after these lines. `answers`, `first_answers` and `is_next` are what the trait
+-- `LineHandler` says of a handler. More lines, and the end of the input, are to `old` after the lines what they are to
+-- `new`.
+pub record GoesOn {H : Type 0} (answers first_answers : H → List (List ℕ) → List ℕ) (is_next : H → List (List ℕ) → H → Type 0)
+    (old : H) (lines : List (List ℕ)) (new : H) : Type 0 where
+  pub first : (more : List (List ℕ)) → first_answers old (lines ++ more) ≡ first_answers old lines ++ first_answers new more
+  pub all : (more : List (List ℕ)) → answers old (lines ++ more) ≡ first_answers old lines ++ answers new more
+  pub next : (more : List (List ℕ)) (later : H) → is_next new more later → is_next old (lines ++ more) later
+
 -- ---- which answers were written
 
 -- The answers to the first of the lines (none, some or all) were written, each as a whole, and nothing else. `old`
@@ -37,10 +48,23 @@ HasAnsweredInputThen answer later t = (bytes : List ℕ) × Consumes t.unread_ol
     × Appends t.written_old t.written_new (answers_of answer (lines_of bytes))
     × AreAnswersAfter (length (lines_of bytes)) answer later
 
+-- The whole input was read, and the answers to its lines were written, and nothing else. Of its lines, `Holds` is true.
+abbrev pub HasAnsweredInputAnd : (List (List ℕ) → List ℕ) → (List (List ℕ) → Type 0) → Traffic → Type 0
+HasAnsweredInputAnd answers Holds t = (bytes : List ℕ) × Consumes t.unread_old t.unread_new bytes × IsAtEnd t.unread_new
+    × Appends t.written_old t.written_new (answers (lines_of bytes))
+    × Holds (lines_of bytes)
+
 -- the answers to those lines of what was read that end in a line feed were written, and nothing else
 abbrev pub HasAnsweredEnded : (List (List ℕ) → List ℕ) → Traffic → Type 0
 HasAnsweredEnded answers t = (bytes : List ℕ) × Consumes t.unread_old t.unread_new bytes
     × Appends t.written_old t.written_new (answers (ended_lines_of bytes))
+
+-- The answers to those lines of what was read that end in a line feed were written, and nothing else. Of these lines,
+-- `Holds` is true.
+abbrev pub HasAnsweredEndedAnd : (List (List ℕ) → List ℕ) → (List (List ℕ) → Type 0) → Traffic → Type 0
+HasAnsweredEndedAnd answers Holds t = (bytes : List ℕ) × Consumes t.unread_old t.unread_new bytes
+    × Appends t.written_old t.written_new (answers (ended_lines_of bytes))
+    × Holds (ended_lines_of bytes)
 
 -- The answers to the first lines of what was read (none, some or all) were written, each as a whole, and nothing
 -- else.

@@ -1,6 +1,7 @@
-//! Laws of the definition of lines, and of the answers to them. The functions do nothing: the laws
+//! Laws of the definition of lines, of the answers to them, and of events. The functions do nothing: the laws
 //! are their contracts, and that is proved.
-ghost use Rattle.grok_lines.specs.LineLaws.{AnswersByLinesAlone, AnswersGoOn, InputsAreTheirLines, NoLineHoldsALineFeed, OnlyTheLastMayLackItsLineFeed, NoOtherLinesMakeUpAnInput};
+ghost use Rattle.grok_lines.specs.LineLaws.{AnswersByLinesAlone, AnswersGoOn, InputsAreTheirLines, NoLineHoldsALineFeed, OnlyTheLastMayLackItsLineFeed, NoOtherLinesMakeUpAnInput, NoOtherEvents};
+ghost use Rattle.grok_lines.specs.steps.EventStates.{StatesAnswerEvents};
 
 /// Laws of the lines of an input.
 ///
@@ -23,4 +24,14 @@ pub fn lines()
 pub fn answers()
     ensures alone { AnswersByLinesAlone }
     ensures more { AnswersGoOn }
+{}
+
+/// Laws of events.
+///
+/// What `EventAnswers` writes, if it has no event yet, are the answers to the events of the lines of the input. No other
+/// events have these lines.
+#[tactic(auto, using(crate::proofs::EventsAreAnswered::states_answer_events, crate::proofs::EventsAreAnswered::no_other_events))]
+pub fn events()
+    ensures answered { StatesAnswerEvents }
+    ensures only { NoOtherEvents }
 {}

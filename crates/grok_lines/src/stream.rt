@@ -1,4 +1,4 @@
-//! Reads lines and answers each.
+//! Reads lines and has each handled.
 ghost use Rattle.std.specs.Prelude.{◌≡◌, ◌≢◌, ◌≤◌, ◌<◌, ◌++◌, ◌∷◌, [], ◌⊎◌, length, take, true, false, MatchOption, OnOk, OnErr, IfOk, IfErr, IfSome, IfNone, IsErrOf, vec_len};
 ghost use Rattle.std.specs.Str.{is_utf8};
 ghost use Rattle.std.specs.IoError.{error_kind};
@@ -6,70 +6,18 @@ ghost use Rattle.std.specs.Io.KnownBytes.{Appends, Consumes, IsAtEnd, Keeps, app
 ghost use Rattle.grok_lines.specs.Lines.{IsLine, ended_lines_of, unended_of, last_line};
 ghost use Rattle.grok_lines.specs.Traffic.{traffic};
 ghost use Rattle.grok_lines.specs.Errors.{IsWriteError, UnlessWriteFailed};
-ghost use Rattle.grok_lines.specs.Streams.{answers_of, AreAnswersAfter, HasBegunLines, HasAnsweredInputThen, HasAnsweredEnded, HasAnsweredSome};
+ghost use Rattle.grok_lines.specs.Streams.{answers_of, HasBegunLines, HasAnsweredInputThen, HasAnsweredInputAnd, HasAnsweredEnded, HasAnsweredEndedAnd, HasAnsweredSome, GoesOn};
 
 use crate::error::LinesError;
+use crate::handler::LineHandler;
+use crate::line_answers::{LineAnswers, utf8_text};
 use crate::output::{finish, send, send_long};
 use memchr::{memchr, memchr_iter, memrchr};
-use simdutf8::basic::from_utf8;
 use std::alloc::{AllocError, Global};
 use std::io::{self, ErrorKind, Read, Write};
 
 /// How many bytes are read at once.
 const READ_SIZE: usize = 64 * 1024;
-
-/// Answers lines, one after another. An answer may depend on how many lines came before.
-///
-/// [`answer_lines`] decides whether a line is UTF-8, and calls `answer_str` or `answer_broken`.
-pub trait LineAnswers {
-    ghost use Rattle.std.specs.Prelude.{ℕ, List};
-
-    // `answer self n line` is the answer to `line` if it is the n-th line from now on, counted from 0.
-    ghost answer: { Self → ℕ → List ℕ → List ℕ };
-
-    /// Appends to `text` the answer to the next line, which is `line`. If an allocation fails, appends nothing, and
-    /// doesn't count the line as answered.
-    fn answer_str(&mut self, text: &mut Vec<u8>, line: &str) -> Result<(), AllocError>
-        requires { is_utf8 line.now ≡ true }
-        ensures ok { OnOk result (text.new.items ≡ text.old.items ++ answer self.old 0 line.now) }
-        ensures memory { OnErr result (text.new.items ≡ text.old.items) }
-        ensures next { OnOk result (AreAnswersAfter 1 (answer self.old) (answer self.new)) }
-        ensures same { OnErr result (answer self.new ≡ answer self.old) };
-
-    /// Does the same as `answer_str`, for a line that isn't UTF-8.
-    fn answer_broken(&mut self, text: &mut Vec<u8>, line: &[u8]) -> Result<(), AllocError>
-        requires { is_utf8 line.now ≡ false }
-        ensures ok { OnOk result (text.new.items ≡ text.old.items ++ answer self.old 0 line.now) }
-        ensures memory { OnErr result (text.new.items ≡ text.old.items) }
-        ensures next { OnOk result (AreAnswersAfter 1 (answer self.old) (answer self.new)) }
-        ensures same { OnErr result (answer self.new ≡ answer self.old) };
-
-    /// Does the same as `answer_str`, for any line.
-    #[inline(never)]
-    final fn answer_line(&mut self, text: &mut Vec<u8>, line: &[u8]) -> Result<(), AllocError>
-        ensures ok { OnOk result (text.new.items ≡ text.old.items ++ answer self.old 0 line.now) }
-        ensures memory { OnErr result (text.new.items ≡ text.old.items) }
-        ensures next { OnOk result (AreAnswersAfter 1 (answer self.old) (answer self.new)) }
-        ensures same { OnErr result (answer self.new ≡ answer self.old) }
-    {
-        match utf8_text(line) {
-            Some(line) => self.answer_str(text, line),
-            None => self.answer_broken(text, line),
-        }
-    }
-}
-
-/// Returns the bytes as a text, or `None` if they aren't UTF-8.
-#[tactic(auto, using(crate::proofs::Utf8IsDecided::text_of_line, crate::proofs::Utf8IsDecided::no_text_of_line))]
-fn utf8_text(bytes: &[u8]) -> Option<&str>
-    ensures { MatchOption result (is_utf8 bytes.now ≡ false)
-        (λ text. (text.now ≡ bytes.now) × (is_utf8 bytes.now ≡ true)) }
-{
-    match from_utf8(bytes) {
-        Ok(text) => Some(text),
-        Err(_) => None,
-    }
-}
 
 /// Returns what comes before the first line feed, and what comes after it. Returns `None` if there is no line feed.
 #[tactic(auto, using(crate::proofs::LineEndsAtLineFeed::line_none, crate::proofs::LineEndsAtLineFeed::line_cut))]
@@ -85,21 +33,21 @@ fn first_line(bytes: &[u8]) -> Option<(&[u8], &[u8])>
 
 /// Answers each line of `lines` that ends in a line feed. Answers that aren't sent yet are in `held`.
 #[tactic(auto, using(crate::proofs::Utf8IsDecided::text_of_line))]
-fn answer_ended<A: LineAnswers, W: Write>(
-    answers: &mut A,
+fn answer_ended<H: LineHandler, W: Write>(
+    handler: &mut H,
     held: &mut Vec<u8>,
     output: &mut W,
     lines: &[u8],
 ) -> Result<(), LinesError>
     ensures ok { OnOk result (Appends (append_known (W.contents output.old) held.old.items)
         (append_known (W.contents output.new) held.new.items)
-        (answers_of (A.answer answers.old) (ended_lines_of lines.now))) }
+        (H.first_answers handler.old (ended_lines_of lines.now))) }
     ensures memory { IsErrOf result LinesError.Memory
-        → HasBegunLines (answers_of (A.answer answers.old))
+        → HasBegunLines (H.first_answers handler.old)
         (ended_lines_of lines.now) (append_known (W.contents output.old) held.old.items)
         (append_known (W.contents output.new) held.new.items) }
-    ensures next { OnOk result (AreAnswersAfter (length (ended_lines_of lines.now))
-        (A.answer answers.old) (A.answer answers.new)) }
+    ensures next { OnOk result (GoesOn H.answers H.first_answers H.is_next
+        handler.old (ended_lines_of lines.now) handler.new) }
     ensures kind { IfErr result (λ error. (error ≡ LinesError.Memory) ⊎ IsWriteError error) }
 {
     // If all the lines together are UTF-8, so is each of them.
@@ -107,8 +55,8 @@ fn answer_ended<A: LineAnswers, W: Write>(
     let mut start = 0;
     'lines: for end in memchr_iter(b'\n', lines) {
         match utf8 {
-            Some(utf8) => answers.answer_str(held, &utf8[start..end])?,
-            None => answers.answer_line(held, &lines[start..end])?,
+            Some(utf8) => handler.handle_str(held, &utf8[start..end])?,
+            None => handler.handle_line(held, &lines[start..end])?,
         }
         send_long(held, output)?;
         start = end + 1;
@@ -129,8 +77,8 @@ fn split_ended(bytes: &[u8]) -> (&[u8], &[u8])
 
 /// Answers the lines that end in this block. `partial_line` has the bytes that were read since the last line feed,
 /// with which the next line begins, both before the call and after it.
-fn feed<A: LineAnswers, W: Write>(
-    answers: &mut A,
+fn feed<H: LineHandler, W: Write>(
+    handler: &mut H,
     held: &mut Vec<u8>,
     output: &mut W,
     partial_line: &mut Vec<u8>,
@@ -139,18 +87,17 @@ fn feed<A: LineAnswers, W: Write>(
     requires { IsLine partial_line.old.items }
     ensures ok { OnOk result (Appends (append_known (W.contents output.old) held.old.items)
         (append_known (W.contents output.new) held.new.items)
-        (answers_of (A.answer answers.old) (ended_lines_of (partial_line.old.items ++ block.now)))) }
+        (H.first_answers handler.old (ended_lines_of (partial_line.old.items ++ block.now)))) }
     ensures partial_line { OnOk result (partial_line.new.items
         ≡ unended_of (partial_line.old.items ++ block.now)) }
     ensures is_line { OnOk result (IsLine partial_line.new.items) }
     ensures memory { IsErrOf result LinesError.Memory
-        → HasBegunLines (answers_of (A.answer answers.old))
+        → HasBegunLines (H.first_answers handler.old)
         (ended_lines_of (partial_line.old.items ++ block.now))
         (append_known (W.contents output.old) held.old.items)
         (append_known (W.contents output.new) held.new.items) }
-    ensures next { OnOk result (AreAnswersAfter
-        (length (ended_lines_of (partial_line.old.items ++ block.now)))
-        (A.answer answers.old) (A.answer answers.new)) }
+    ensures next { OnOk result (GoesOn H.answers H.first_answers H.is_next
+        handler.old (ended_lines_of (partial_line.old.items ++ block.now)) handler.new) }
     ensures kind { IfErr result (λ error. (error ≡ LinesError.Memory) ⊎ IsWriteError error) }
 {
     let Some((line, after)) = first_line(block) else {
@@ -158,31 +105,31 @@ fn feed<A: LineAnswers, W: Write>(
         return Ok(());
     };
     partial_line.extend_from_slice(line)?;
-    answers.answer_line(held, partial_line)?;
+    handler.handle_line(held, partial_line)?;
     partial_line.clear();
     let (ended, rest) = split_ended(after);
-    answer_ended(answers, held, output, ended)?;
+    answer_ended(handler, held, output, ended)?;
     partial_line.extend_from_slice(rest)?;
     Ok(())
 }
 
 /// Answers `partial_line`, the rest of the input after its last line feed, as the last line. Does nothing if it is
 /// empty.
-fn answer_last<A: LineAnswers>(
-    answers: &mut A,
+fn answer_last<H: LineHandler>(
+    handler: &mut H,
     held: &mut Vec<u8>,
     partial_line: &[u8],
 ) -> Result<(), AllocError>
     ensures ok { OnOk result (held.new.items ≡ held.old.items
-        ++ answers_of (A.answer answers.old) (last_line partial_line.now)) }
+        ++ H.first_answers handler.old (last_line partial_line.now)) }
     ensures memory { OnErr result (held.new.items ≡ held.old.items) }
-    ensures next { OnOk result (AreAnswersAfter (length (last_line partial_line.now))
-        (A.answer answers.old) (A.answer answers.new)) }
+    ensures next { OnOk result (GoesOn H.answers H.first_answers H.is_next
+        handler.old (last_line partial_line.now) handler.new) }
 {
     if partial_line.is_empty() {
         return Ok(());
     }
-    answers.answer_line(held, partial_line)
+    handler.handle_line(held, partial_line)
 }
 
 /// Decides how a read ended. Returns how many bytes were read, or `None` if the read was interrupted, so that it has to
@@ -242,23 +189,25 @@ fn zeros(alloc: Global, count: usize) -> Result<Vec<u8>, AllocError>
     vec![in alloc; 0u8; count]
 }
 
-/// Answers each line of the input, to the end of the input. Answers that aren't sent yet are in `held`.
-fn answer_blocks<A: LineAnswers, R: Read, W: Write>(
+/// Handles each line of the input. Answers that aren't sent yet are in `held`.
+fn answer_blocks<H: LineHandler, R: Read, W: Write>(
     alloc: Global,
-    answers: &mut A,
+    handler: &mut H,
     input: &mut R,
     held: &mut Vec<u8>,
     output: &mut W,
 ) -> Result<(), LinesError>
-    ensures ok { OnOk result (HasAnsweredInputThen (A.answer answers.old) (A.answer answers.new)
+    ensures ok { OnOk result (HasAnsweredInputAnd (H.first_answers handler.old)
+        (λ lines. GoesOn H.answers H.first_answers H.is_next handler.old lines handler.new)
         (traffic (R.remaining input.old) (R.remaining input.new)
         (append_known (W.contents output.old) held.old.items)
         (append_known (W.contents output.new) held.new.items))) }
-    ensures read { IsErrOf result LinesError.Read → HasAnsweredEnded (answers_of (A.answer answers.old))
+    ensures read { IsErrOf result LinesError.Read → HasAnsweredEndedAnd (H.first_answers handler.old)
+        (λ lines. GoesOn H.answers H.first_answers H.is_next handler.old lines handler.new)
         (traffic (R.remaining input.old) (R.remaining input.new)
         (append_known (W.contents output.old) held.old.items)
         (append_known (W.contents output.new) held.new.items)) }
-    ensures memory { IsErrOf result LinesError.Memory → HasAnsweredSome (answers_of (A.answer answers.old))
+    ensures memory { IsErrOf result LinesError.Memory → HasAnsweredSome (H.first_answers handler.old)
         (traffic (R.remaining input.old) (R.remaining input.new)
         (append_known (W.contents output.old) held.old.items)
         (append_known (W.contents output.new) held.new.items)) }
@@ -273,12 +222,68 @@ fn answer_blocks<A: LineAnswers, R: Read, W: Write>(
     'reads: for _ in 0..u64::MAX {
         match send_and_read(held, output, input, block)? {
             None => {}
-            Some(0) => return Ok(answer_last(answers, held, &partial_line)?),
-            Some(n) => feed(answers, held, output, &mut partial_line, &block[..n])?,
+            Some(0) => return Ok(answer_last(handler, held, &partial_line)?),
+            Some(n) => feed(handler, held, output, &mut partial_line, &block[..n])?,
         }
     }
     // own error: there were 2^64 - 1 reads, which no run makes. The bound is there for the proof that the loop ends.
     Err(LinesError::Read)
+}
+
+/// Ends the input, if it was read to its end or as far as it can be read, as `ran` says.
+fn end_after<H: LineHandler>(
+    ran: Result<(), LinesError>,
+    handler: &mut H,
+    held: &mut Vec<u8>,
+) -> Result<(), LinesError>
+    ensures same { (result ≡ ran) ⊎ (result ≡ Err LinesError.Memory) }
+    ensures ended { (OnOk result (held.new.items ≡ held.old.items ++ H.answers handler.old []))
+        × (IsErrOf result LinesError.Read → held.new.items ≡ held.old.items ++ H.answers handler.old []) }
+    ensures next { (OnOk result (H.is_next handler.old [] handler.new))
+        × (IsErrOf result LinesError.Read → H.is_next handler.old [] handler.new) }
+    ensures memory { IsErrOf result LinesError.Memory → held.new.items ≡ held.old.items }
+    ensures write { IfErr ran (λ error. IsWriteError error → result ≡ ran) }
+{
+    if matches!(ran, Ok(()) | Err(LinesError::Read)) {
+        handler.end_input(held)?;
+    }
+    ran
+}
+
+/// Handles each line of the input and then its end. What is written for what was read is sent before more is read.
+///
+/// If a read fails, the input ends before the line that it cuts.
+///
+/// # Errors
+///
+/// - `Memory` if an allocation fails.
+/// - `Read` if the input fails.
+/// - `Write` if the output fails.
+pub fn handle_lines<H: LineHandler, R: Read, W: Write>(
+    alloc: Global,
+    handler: &mut H,
+    input: &mut R,
+    output: &mut W,
+) -> Result<(), LinesError>
+    ensures ok { OnOk result (HasAnsweredInputAnd (H.answers handler.old)
+        (λ lines. H.is_next handler.old lines handler.new)
+        (traffic (R.remaining input.old) (R.remaining input.new)
+        (W.contents output.old) (W.contents output.new))) }
+    ensures read { IsErrOf result LinesError.Read → HasAnsweredEndedAnd (H.answers handler.old)
+        (λ lines. H.is_next handler.old lines handler.new)
+        (traffic (R.remaining input.old) (R.remaining input.new)
+        (W.contents output.old) (W.contents output.new)) }
+    ensures memory { IsErrOf result LinesError.Memory → HasAnsweredSome (H.first_answers handler.old)
+        (traffic (R.remaining input.old) (R.remaining input.new)
+        (W.contents output.old) (W.contents output.new)) }
+    ensures kind { IfErr result
+        (λ error. (error ≡ LinesError.Memory) ⊎ ((error ≡ LinesError.Read)
+        ⊎ IsWriteError error)) }
+{
+    let mut held = Vec::new(alloc);
+    let ran = answer_blocks(alloc, handler, input, &mut held, output);
+    let ended = end_after(ran, handler, &mut held);
+    finish(ended, &mut held, output)
 }
 
 /// Answers each line of the input, to the end of the input. The answers to what was read are sent before more is read.
@@ -301,7 +306,5 @@ pub fn answer_lines<A: LineAnswers, R: Read, W: Write>(
         (λ error. (error ≡ LinesError.Memory) ⊎ ((error ≡ LinesError.Read)
         ⊎ IsWriteError error)) }
 {
-    let mut held = Vec::new(alloc);
-    let ran = answer_blocks(alloc, answers, input, &mut held, output);
-    finish(ran, &mut held, output)
+    handle_lines(alloc, answers, input, output)
 }

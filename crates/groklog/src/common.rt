@@ -23,6 +23,21 @@ pub fn add_common_definitions(found: &mut Vec<Definition<'_>>) -> Result<(), All
     Ok(())
 }
 
+/// Returns whether there is a common definition of this name.
+pub fn has_common_definition(name: &str) -> bool {
+    COMMON_DEFINITIONS
+        .iter()
+        .any(|group| group.split('\n').any(|line| names(line, name)))
+}
+
+/// Returns whether a line has the definition of this name.
+fn names(line: &str, name: &str) -> bool {
+    match read_definition(line) {
+        Some((found, _)) => found == name,
+        None => false,
+    }
+}
+
 /// Returns the common definitions whose names contain `text`, in upper or lower case, as the lines
 /// of a file of definitions.
 ///

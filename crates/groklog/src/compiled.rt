@@ -4,11 +4,16 @@ use crate::diagnosis::report_of;
 use crate::library::Library;
 use crate::pattern_text::PatternText;
 use grok::{Error, Pattern};
+use groklog_answers::Plan;
 use groklog_input::{Fault, Report};
 use std::alloc::{AllocError, Global};
 
 /// Compiles one pattern.
-fn compile(
+///
+/// # Errors
+///
+/// Returns its fault if it can't be compiled, or an error if an allocation fails.
+pub fn compile(
     alloc: Global,
     library: &Library<'_>,
     pattern: &PatternText,
@@ -46,12 +51,12 @@ pub fn compile_all(
 }
 
 /// Returns whether a pattern has this key.
-fn has_key(pattern: &Pattern, key: &str) -> bool {
-    pattern.capture_names().any(|name| name == key)
+pub fn has_key(pattern: &Pattern, key: &str) -> bool {
+    pattern.group_of(key).is_some()
 }
 
-/// Returns a fault if the key that an option names is also a key of a pattern, and otherwise
-/// `None`.
+/// Returns a fault if the key that an option names is also a key of a pattern, or of the object that a
+/// plan describes, and otherwise `None`.
 ///
 /// # Errors
 ///
@@ -59,13 +64,16 @@ fn has_key(pattern: &Pattern, key: &str) -> bool {
 pub fn taken_key(
     alloc: Global,
     patterns: &[Pattern],
+    plans: &[Plan<'_>],
     option: &str,
     key: Option<&str>,
 ) -> Result<Option<Fault>, AllocError> {
     let Some(key) = key else {
         return Ok(None);
     };
-    if !patterns.iter().any(|pattern| has_key(pattern, key)) {
+    if !patterns.iter().any(|pattern| has_key(pattern, key))
+        && !plans.iter().any(|plan| plan.has_member(key))
+    {
         return Ok(None);
     }
     let what = format!(in alloc; "{option} has the key {key}, which a pattern has too")?;

@@ -1,7 +1,7 @@
 //! Reads the files and folders of definitions that are named after `-d`.
 
 use crate::library::DefinitionFile;
-use groklog_input::{Fault, Report, file_fault};
+use groklog_input::{Failure, Fault, Report, file_fault};
 use std::alloc::{AllocError, Global};
 use std::{fs, io};
 
@@ -9,7 +9,7 @@ use std::{fs, io};
 fn or_file_fault<T>(alloc: Global, name: &str, outcome: io::Result<T>) -> Result<T, Fault> {
     match outcome {
         Ok(value) => Ok(value),
-        Err(error) => Err(file_fault(alloc, name, error.kind())?),
+        Err(error) => Err(file_fault(alloc, name, Failure::of(&error))?),
     }
 }
 

@@ -1,14 +1,15 @@
 //! Reports what is wrong with a pattern that can't be compiled, where, and what to do.
 
 use crate::excerpt::add_excerpt;
-use crate::expansion::definitions_in;
 use crate::library::Library;
 use crate::pattern_text::{PatternText, ordinal};
+use crate::placeholder_definitions::definitions_in;
 use grok::{
     Clash, Diagnosis, Grok, Location, MAX_NESTING, MalformedReason, PathStep, RefusalReason,
     Refused,
 };
-use groklog_input::{ChangeKind, Report, rewrite};
+use groklog_input::Report;
+use oniguruma_syntax::has_own_forms;
 use regex_syntax::ErrorKind;
 use std::alloc::{AllocError, Global};
 use std::ops::Range;
@@ -23,7 +24,7 @@ const PLACEHOLDERS: &str =
 
 /// The advice for a form that only Logstash's engine knows.
 const FROM_LOGSTASH: &str =
-    "use --from-logstash, which rewrites lookarounds, atomic groups and \\h, and reports each change";
+    "use --from-logstash, which rewrites what was made for Logstash, and reports what changes";
 
 /// Returns a name with its ASCII letters in upper case.
 fn in_upper_case(alloc: Global, name: &str) -> Result<String, AllocError> {
@@ -142,7 +143,9 @@ fn malformed_words(alloc: Global, reason: MalformedReason) -> Result<String, All
         MalformedReason::InvalidCharacter(c) => {
             return format!(in alloc; "a placeholder can't have {c:?} here");
         }
-        MalformedReason::Unclosed => "this placeholder isn't closed by }",
+        MalformedReason::Unclosed | MalformedReason::UnclosedDefinition => {
+            "this placeholder isn't closed by }"
+        }
         MalformedReason::NoName => "this placeholder has no name",
         MalformedReason::NoAlias => "the alias of this placeholder is empty",
         MalformedReason::NoExtract => "the extract of this placeholder is empty",
@@ -199,8 +202,13 @@ fn repeated<'a>(path: &[PathStep<'a>]) -> Option<&'a str> {
 /// them. The report doesn't say yet where that is.
 fn too_deep_report(alloc: Global, path: &[PathStep<'_>]) -> Result<Report, AllocError> {
     let Some(name) = repeated(path) else {
-        let what = "placeholders are nested more than 1,023 levels deep";
-        return Report::new(alloc, what, "use fewer definitions that use one another");
+        let what = format!(in alloc;
+            "placeholders are nested more than {},{:03} levels deep",
+            MAX_NESTING / 1000,
+            MAX_NESTING % 1000
+        )?;
+        let advice = "use fewer definitions that use one another";
+        return Report::new(alloc, what.as_str(), advice);
     };
     let what = format!(in alloc; "the definition {name} uses itself")?;
     let advice = format!(in alloc;
@@ -234,20 +242,9 @@ fn clash_report(
     Ok(report)
 }
 
-/// Returns whether a text has a form that the engine refuses: an atomic group, a lookaround, or `\h`.
-fn is_from_logstash(alloc: Global, text: &str) -> Result<bool, AllocError> {
-    let rewritten = rewrite(alloc, text)?;
-    Ok(
-        rewritten
-            .changes
-            .iter()
-            .any(|change| !matches!(change.kind, ChangeKind::Possessive)),
-    )
-}
-
 /// Returns the advice for a text that the engine refuses.
 fn advice_for_refusal(alloc: Global, text: &str) -> Result<&'static str, AllocError> {
-    Ok(if is_from_logstash(alloc, text)? {
+    Ok(if has_own_forms(alloc, text)? {
         FROM_LOGSTASH
     } else {
         "write it in the syntax of Rust's regex crate, which https://docs.rs/regex/#syntax shows"

@@ -1,6 +1,7 @@
 //! Hints at what an input is, for a user whose lines have no fields. They are shown after its lines
 //! were answered.
 
+use crate::unit::Unit;
 use groklog_input::{Encoding, LineForm, Signs};
 use std::alloc::{AllocError, Global};
 
@@ -9,6 +10,8 @@ use std::alloc::{AllocError, Global};
 #[derive(Drop)]
 pub struct Hints {
     form: LineForm,
+    /// What has one answer.
+    unit: Unit,
     /// Whether there was the hint at lines that aren't UTF-8.
     was_broken: bool,
     /// Whether the first line of an input ended in a carriage return.
@@ -16,10 +19,11 @@ pub struct Hints {
 }
 
 impl Hints {
-    /// Makes the `Hints` of a run that reads lines in this form.
-    pub fn new(form: LineForm) -> Hints {
+    /// Makes the `Hints` of a run that reads lines in this form, and answers each `unit`.
+    pub fn new(form: LineForm, unit: Unit) -> Hints {
         Hints {
             form,
+            unit,
             was_broken: false,
             has_return: false,
         }
@@ -47,8 +51,12 @@ impl Hints {
             )?)),
             (Encoding::Other, Some(number)) if !self.form.is_lossy && !self.was_broken => {
                 self.was_broken = true;
+                let what = match self.unit {
+                    Unit::Line => "it",
+                    Unit::Event => "its event",
+                };
                 Ok(Some(format!(in alloc;
-                    "line {number} of {name} isn't UTF-8, so it has no fields: use --lossy, or for another encoding iconv -f LATIN1 -t UTF-8 FILE | groklog .."
+                    "line {number} of {name} isn't UTF-8, so {what} has no fields: use --lossy, or for another encoding iconv -f LATIN1 -t UTF-8 FILE | groklog .."
                 )?))
             }
             (Encoding::Other, _) => Ok(None),
@@ -58,10 +66,12 @@ impl Hints {
     /// Returns the hint at the end of a run, or `None` if there is none. `has_matched` says whether a
     /// pattern matched a line.
     pub fn at_end(&self, has_matched: bool) -> Option<&'static str> {
-        if self.has_return && !self.form.drops_return && !has_matched {
-            Some("no line matches, and lines end in a carriage return: use --crlf")
-        } else {
-            None
+        if !self.has_return || self.form.drops_return || has_matched {
+            return None;
         }
+        Some(match self.unit {
+            Unit::Line => "no line matches, and lines end in a carriage return: use --crlf",
+            Unit::Event => "no event matches, and lines end in a carriage return: use --crlf",
+        })
     }
 }

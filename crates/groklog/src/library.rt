@@ -5,9 +5,10 @@ use crate::common::add_common_definitions;
 use crate::definitions::{Definition, Origin, read_file, read_word};
 use crate::excerpt::add_excerpt;
 use grok::{Grok, patterns};
-use groklog_input::{Fault, Report, Rewritten, name_of_spaced, rewrite};
+use groklog_input::{Fault, Report, name_of_spaced};
 use std::alloc::{AllocError, Global};
 use std::collections::BTreeMap;
+use std::collections::btree_map::Values;
 
 /// The name and the text of a file of definitions.
 #[derive(Drop)]
@@ -16,22 +17,20 @@ pub struct DefinitionFile {
     pub text: String,
 }
 
-/// A stored definition, and where it was given.
-#[derive(Drop)]
+/// Where a stored definition was given.
+#[derive(Clone, Copy)]
 pub struct Source<'a> {
-    pub text: String,
+    pub name: &'a str,
     pub origin: Origin<'a>,
+    /// Whether it is no longer as it was given, because it was made for Logstash.
+    pub is_rewritten: bool,
 }
 
-/// Definitions, and where each of them was given.
+/// Definitions, which `grok` has, and where each of them was given.
 #[derive(Drop)]
 pub struct Library<'a> {
     pub grok: Grok,
     sources: BTreeMap<&'a str, Source<'a>>,
-    /// Whether definitions and patterns are rewritten, because they were made for Logstash.
-    is_from_logstash: bool,
-    /// The notes on what was rewritten, and where, ready to be shown.
-    pub changes: Vec<String>,
 }
 
 /// Returns the fault that reports that a line or a word isn't a definition.
@@ -102,21 +101,19 @@ fn collect<'a>(
 
 impl<'a> Library<'a> {
     /// Makes a library of the default definitions.
-    fn with_default_definitions(
-        alloc: Global,
-        is_from_logstash: bool,
-    ) -> Result<Library<'a>, AllocError> {
+    fn with_default_definitions(alloc: Global) -> Result<Library<'a>, AllocError> {
         let mut sources = BTreeMap::new(alloc);
-        for (name, text) in patterns() {
-            let text = String::from_str(alloc, text)?;
-            let origin = Origin::Default;
-            sources.insert(*name, Source { text, origin })?;
+        for (name, _) in patterns() {
+            let source = Source {
+                name,
+                origin: Origin::Default,
+                is_rewritten: false,
+            };
+            sources.insert(*name, source)?;
         }
         Ok(Library {
             grok: Grok::default(alloc)?,
             sources,
-            is_from_logstash,
-            changes: Vec::new(alloc),
         })
     }
 
@@ -132,67 +129,38 @@ impl<'a> Library<'a> {
         with_common: bool,
         files: &'a [DefinitionFile],
         words: &[&'a str],
-        is_from_logstash: bool,
     ) -> Result<Library<'a>, Fault> {
-        let definitions = collect(alloc, with_common, files, words)?;
-        let mut last = BTreeMap::new(alloc);
-        for (number, definition) in definitions.iter().enumerate() {
-            last.insert(definition.name, number)?;
-        }
-        let mut library = Library::with_default_definitions(alloc, is_from_logstash)?;
-        for (number, definition) in definitions.iter().enumerate() {
-            // A definition that a later one replaces isn't used, so what would be rewritten in it
-            // isn't reported either.
-            if last.get(definition.name).copied() == Some(number) {
-                library.set(alloc, *definition)?;
-            }
+        let mut library = Library::with_default_definitions(alloc)?;
+        for definition in &collect(alloc, with_common, files, words)? {
+            let Definition { name, text, origin } = *definition;
+            let source = Source {
+                name,
+                origin,
+                is_rewritten: false,
+            };
+            library.store(source, text)?;
         }
         Ok(library)
     }
 
-    /// Stores a definition.
-    fn set(&mut self, alloc: Global, definition: Definition<'a>) -> Result<(), AllocError> {
-        let Definition { name, text, origin } = definition;
-        let location = format!(in alloc; "the definition {name} ({origin})")?;
-        let text = match origin {
-            // A common definition isn't made for Logstash.
-            Origin::Common => String::from_str(alloc, text)?,
-            _ => self.adapt(alloc, text, location.as_str())?,
-        };
-        self.grok.add_pattern(name, text.as_str())?;
-        self.sources.insert(name, Source { text, origin })?;
-        Ok(())
-    }
-
-    /// Returns the text that is compiled: rewritten if it was made for Logstash, and otherwise as
-    /// it is. Each change is noted together with `location`, which says where the text is. If the
-    /// same change occurs several times in a text, it is noted once.
+    /// Stores a definition with this text.
     ///
     /// # Errors
     ///
     /// If an allocation fails.
-    pub fn adapt(
-        &mut self,
-        alloc: Global,
-        text: &str,
-        location: &str,
-    ) -> Result<String, AllocError> {
-        if !self.is_from_logstash {
-            return String::from_str(alloc, text);
-        }
-        let Rewritten { text, changes } = rewrite(alloc, text)?;
-        for change in &changes {
-            let note = format!(in alloc; "in {location}, {change}")?;
-            if !self.changes.iter().any(|noted| *noted == note) {
-                self.changes.push(note)?;
-            }
-        }
-        Ok(text)
+    pub fn store(&mut self, source: Source<'a>, text: &str) -> Result<(), AllocError> {
+        self.grok.add_pattern(source.name, text)?;
+        self.sources.insert(source.name, source)?;
+        Ok(())
     }
 
-    /// Returns the definition of a name, and where it was given, or `None` if the name has no
-    /// definition.
-    pub fn source(&self, name: &str) -> Option<&Source<'a>> {
-        self.sources.get(name)
+    /// Returns an iterator over where the definitions were given, in the byte order of their names.
+    pub fn sources(&self) -> Values<'_, &'a str, Source<'a>> {
+        self.sources.values()
+    }
+
+    /// Returns where the definition of a name was given, or `None` if the name has no definition.
+    pub fn source(&self, name: &str) -> Option<Source<'a>> {
+        self.sources.get(name).copied()
     }
 }

@@ -3,23 +3,35 @@
 
 mod common;
 mod compiled;
+mod count;
 mod definition_files;
 mod definitions;
 mod diagnosis;
+mod direct_output;
 mod excerpt;
-mod expansion;
 mod explain;
+mod fields;
+mod from_logstash;
 mod hints;
+mod key_titles;
 mod library;
+mod located_fields;
 mod log_lines;
 mod notes;
 mod options;
+mod page;
+mod page_html;
 mod pattern_text;
+mod placeholder_definitions;
+mod plans;
 mod run;
+mod show;
 mod stop_report;
 mod stops;
+mod suggest;
 mod summary;
 mod terminal;
+mod unit;
 mod why;
 
 use crate::run::Outcome;

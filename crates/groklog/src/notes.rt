@@ -1,106 +1,85 @@
 //! Notes on what is allowed, but hardly what the user meant. They are shown before any line is read.
 
-use crate::explain::keys_of;
 use crate::library::Library;
 use crate::options::Options;
 use crate::pattern_text::PatternText;
-use grok::Pattern;
-use groklog_input::meant_key;
-use regex::Regex;
+use grok::{Pattern, PlaceholderKey};
 use std::alloc::{AllocError, Global};
 use std::collections::BTreeMap;
 use std::fs;
 
-/// Adds a note for each key of a placeholder that no group of the engine has. That is so inside a
-/// character class, where the engine reads the placeholder's group as characters.
-fn note_lost_keys(
-    alloc: Global,
-    notes: &mut Vec<String>,
-    words: &str,
-    pattern: &Pattern,
-    keys: &[String],
-) -> Result<(), AllocError> {
-    let mut known = BTreeMap::new(alloc);
-    for key in pattern.capture_names() {
-        known.insert(key, true)?;
-    }
-    for key in keys {
-        if known.get(key.as_str()).is_none() {
-            notes.push(format!(in alloc;
-                "in {words}, the key {key} never has a value: its placeholder is inside a character class [..], where it means its characters; write \\[ for the bracket itself"
-            )?)?;
-        }
-    }
-    Ok(())
+/// A pattern, the words by which notes refer to it, and the keys of its placeholders.
+#[derive(Clone, Copy)]
+struct Noted<'p> {
+    words: &'p str,
+    pattern: &'p Pattern,
+    keys: &'p [PlaceholderKey],
 }
 
-/// Returns whether a text may have a group that was written by hand, such as `(?<user>..)`, whose
-/// name is also the key of a placeholder.
-fn may_share_keys(alloc: Global, text: &str, keys: &[String]) -> Result<bool, AllocError> {
-    let mut known = BTreeMap::new(alloc);
-    for key in keys {
-        known.insert(key.as_str(), true)?;
-    }
-    for rest in text.split("(?").skip(1) {
-        let rest = rest.strip_prefix('P').unwrap_or(rest);
-        if let Some(name) = rest.strip_prefix('<')
-            && known.get(name.split('>').next().unwrap_or("")).is_some()
-        {
-            return Ok(true);
+impl<'p> Noted<'p> {
+    /// Adds a note for each key of a placeholder that no group of the engine has. That is so inside a
+    /// character class, where the engine reads the placeholder's group as characters.
+    fn note_lost_keys(self, alloc: Global, notes: &mut Vec<String>) -> Result<(), AllocError> {
+        let words = self.words;
+        for PlaceholderKey { key, .. } in self.keys {
+            if self.pattern.group_of(key.as_str()).is_none() {
+                notes.push(format!(in alloc;
+                    "in {words}, the key {key} never has a value: its placeholder is inside a character class [..], where it means its characters; write \\[ for the bracket itself"
+                )?)?;
+            }
         }
+        Ok(())
     }
-    Ok(false)
-}
 
-/// Adds a note for each key that two groups of the engine have, one of which was written by hand.
-fn note_shared_keys(
-    alloc: Global,
-    notes: &mut Vec<String>,
-    words: &str,
-    pattern: &Pattern,
-    keys: &[String],
-) -> Result<(), AllocError> {
-    if !may_share_keys(alloc, pattern.text(), keys)? {
-        return Ok(());
+    /// Returns the names of groups that are also the keys of placeholders. They were written by hand, as
+    /// `(?<user>..)` was.
+    fn shared_names(self, alloc: Global) -> Result<Vec<&'p str>, AllocError> {
+        let mut shared = Vec::new(alloc);
+        // If each group with a name has a key of its own, nothing is shared.
+        let named = self.pattern.group_names().iter().flatten().count();
+        if named == self.pattern.capture_names().count() {
+            return Ok(shared);
+        }
+        let mut of_placeholders = BTreeMap::new(alloc);
+        for PlaceholderKey { key, .. } in self.keys {
+            of_placeholders.insert(key.as_str(), ())?;
+        }
+        for name in self.pattern.group_names().iter().flatten() {
+            if of_placeholders.contains_key(&name.as_str()) {
+                shared.push(name.as_str())?;
+            }
+        }
+        Ok(shared)
     }
-    let Ok(regex) = Regex::new(alloc, pattern.text()) else {
-        // own error: `regex` has built this text before, so only an allocation can fail.
-        return Err(AllocError);
-    };
-    let mut groups = BTreeMap::new(alloc);
-    for name in regex.capture_names().iter() {
-        let Some(name) = name else {
-            continue;
-        };
-        let key = meant_key(name.as_str(), keys);
-        let before = groups.get(key).copied().unwrap_or(0u64);
-        if before == 1 {
+
+    /// Adds a note for each key that two groups of the engine have, one of which was written by hand.
+    fn note_shared_keys(self, alloc: Global, notes: &mut Vec<String>) -> Result<(), AllocError> {
+        let words = self.words;
+        for key in &self.shared_names(alloc)? {
             notes.push(format!(in alloc;
                 "in {words}, two groups have the key {key}, and only one of their values is written; give one of them another name"
             )?)?;
         }
-        groups.insert(key, before.saturating_add(1))?;
+        Ok(())
     }
-    Ok(())
-}
 
-/// Adds a note for each key that is the name of an extract, as that of `%{IP:int}`.
-fn note_extracts_as_keys(
-    alloc: Global,
-    notes: &mut Vec<String>,
-    words: &str,
-    pattern: &Pattern,
-    keys: &[String],
-) -> Result<(), AllocError> {
-    for key in keys {
-        let name = key.as_str();
-        if (name == "int" || name == "float") && pattern.get_extract(name).is_none() {
-            notes.push(format!(in alloc;
-                "in {words}, {name} is the key of a placeholder and not its extract; for the extract write %{{NAME:KEY:{name}}}"
-            )?)?;
+    /// Adds a note for each key that is the name of an extract, as that of `%{IP:int}`.
+    fn note_extracts_as_keys(
+        self,
+        alloc: Global,
+        notes: &mut Vec<String>,
+    ) -> Result<(), AllocError> {
+        let words = self.words;
+        for PlaceholderKey { key, .. } in self.keys {
+            let name = key.as_str();
+            if (name == "int" || name == "float") && self.pattern.get_extract(name).is_none() {
+                notes.push(format!(in alloc;
+                    "in {words}, {name} is the key of a placeholder and not its extract; for the extract write %{{NAME:KEY:{name}}}"
+                )?)?;
+            }
         }
+        Ok(())
     }
-    Ok(())
 }
 
 /// Returns notes on a pattern: on keys that never have a value, that share one, or that are named
@@ -114,13 +93,21 @@ pub fn notes_of_pattern(
     library: &Library<'_>,
     text: &PatternText,
     pattern: &Pattern,
+    with_alias_only: bool,
 ) -> Result<Vec<String>, AllocError> {
     let mut notes = Vec::new(alloc);
-    let keys = keys_of(alloc, library, text.text.as_str(), pattern.text())?;
-    let words = text.words.as_str();
-    note_lost_keys(alloc, &mut notes, words, pattern, &keys)?;
-    note_shared_keys(alloc, &mut notes, words, pattern, &keys)?;
-    note_extracts_as_keys(alloc, &mut notes, words, pattern, &keys)?;
+    let Ok(keys) = library.grok.keys(text.text.as_str(), with_alias_only) else {
+        // own error: the pattern was compiled before, so only an allocation can fail.
+        return Err(AllocError);
+    };
+    let noted = Noted {
+        words: text.words.as_str(),
+        pattern,
+        keys: &keys,
+    };
+    noted.note_lost_keys(alloc, &mut notes)?;
+    noted.note_shared_keys(alloc, &mut notes)?;
+    noted.note_extracts_as_keys(alloc, &mut notes)?;
     Ok(notes)
 }
 

@@ -1,6 +1,5 @@
 //! The patterns of a run, as they are compiled, and the words by which reports refer to them.
 
-use crate::library::Library;
 use std::alloc::{AllocError, Global};
 
 /// A pattern of the command line.
@@ -31,7 +30,11 @@ pub fn ordinal(alloc: Global, number: usize) -> Result<String, AllocError> {
 
 /// Returns the words by which reports refer to the pattern with this number, counted from 1, of
 /// `count` patterns.
-fn words_for(alloc: Global, number: usize, count: usize) -> Result<String, AllocError> {
+///
+/// # Errors
+///
+/// If an allocation fails.
+pub fn words_for(alloc: Global, number: usize, count: usize) -> Result<String, AllocError> {
     if count == 1 {
         return String::from_str(alloc, "the pattern");
     }
@@ -39,21 +42,32 @@ fn words_for(alloc: Global, number: usize, count: usize) -> Result<String, Alloc
     format!(in alloc; "the {nth} pattern")
 }
 
-/// Returns the patterns with these texts, rewritten if they were made for Logstash.
+/// The words by which reports refer to the pattern of `--start`.
+const START_WORDS: &str = "the pattern of --start";
+
+/// Returns the pattern of `--start`, which has this text.
 ///
 /// # Errors
 ///
 /// If an allocation fails.
-pub fn adapt_patterns(
-    alloc: Global,
-    library: &mut Library<'_>,
-    texts: &[&str],
-) -> Result<Vec<PatternText>, AllocError> {
-    let mut adapted = Vec::new(alloc);
+pub fn start_pattern(alloc: Global, text: &str) -> Result<PatternText, AllocError> {
+    Ok(PatternText {
+        text: String::from_str(alloc, text)?,
+        words: String::from_str(alloc, START_WORDS)?,
+    })
+}
+
+/// Returns the patterns with these texts.
+///
+/// # Errors
+///
+/// If an allocation fails.
+pub fn patterns_of(alloc: Global, texts: &[&str]) -> Result<Vec<PatternText>, AllocError> {
+    let mut patterns = Vec::new(alloc);
     for (index, text) in texts.iter().enumerate() {
         let words = words_for(alloc, index.saturating_add(1), texts.len())?;
-        let text = library.adapt(alloc, text, words.as_str())?;
-        adapted.push(PatternText { text, words })?;
+        let text = String::from_str(alloc, text)?;
+        patterns.push(PatternText { text, words })?;
     }
-    Ok(adapted)
+    Ok(patterns)
 }

@@ -138,14 +138,15 @@ impl<'p, 'd> Explainer<'p, 'd> {
         })
     }
 
-    /// Reports where the pattern stops that comes furthest in a line that doesn't match.
+    /// Reports where the pattern stops that comes furthest in a line or an event that doesn't match.
+    /// `place` are words for it, such as `line 3`.
     ///
     /// # Errors
     ///
     /// If an allocation fails.
-    pub fn report(&mut self, number: u64, line: &str) -> Result<String, AllocError> {
+    pub fn report(&mut self, place: &str, line: &str) -> Result<String, AllocError> {
         let (alloc, several) = (self.alloc, self.all.len() > 1);
-        let mut report = format!(in alloc; "line {number} doesn't match: ")?;
+        let mut report = format!(in alloc; "{place} doesn't match: ")?;
         let Some(stop) = furthest_stop(self.all.as_mut_slice(), line)? else {
             return Ok(report);
         };

@@ -65,8 +65,8 @@ fn stop_of(
     })
 }
 
-/// Returns where the pattern stops that comes furthest in the line: the first such pattern if there
-/// are several. Returns `None` if there is no pattern.
+/// Finds out which of the patterns comes furthest in the line, and returns where it stops. If
+/// several come equally far, the first of them counts. Returns `None` if there is no pattern.
 ///
 /// # Errors
 ///
@@ -143,7 +143,8 @@ impl<'p, 'd> Searched<'p, 'd> {
         })
     }
 
-    /// Returns what the beginning of `count` pieces finds, or `None` if it finds nothing or is empty.
+    /// Returns what the first `count` pieces of the pattern find in the line, or `None` if they
+    /// find nothing or `count` is 0.
     ///
     /// # Errors
     ///
@@ -155,7 +156,8 @@ impl<'p, 'd> Searched<'p, 'd> {
         self.beginnings.find(count, line)
     }
 
-    /// Returns the key whose values come from the group with this number, if there is one.
+    /// Returns the key that has its values from the group with this number, or `None` if no key
+    /// has.
     pub fn key(&self, group: usize) -> Option<&'p str> {
         self.keys.get(&group).copied()
     }

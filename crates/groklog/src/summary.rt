@@ -1,23 +1,34 @@
 //! Counts for `--summary`.
 
 use crate::pattern_text::ordinal;
+use crate::unit::Unit;
 use groklog_answers::LogAnswers;
+use groklog_input::visible;
 use std::alloc::{AllocError, Global};
 
-/// Returns how many lines were read, how many each pattern was the first to match, how many no
-/// pattern matched, and how many weren't UTF-8.
+/// Returns how many lines or events were read, how many each pattern was the first to match, how many
+/// no pattern matched, and how many weren't UTF-8. `names` has the name of each pattern, if it has one.
 ///
 /// # Errors
 ///
 /// If an allocation fails.
-pub fn summary_of(alloc: Global, answers: &LogAnswers<'_>) -> Result<String, AllocError> {
+pub fn summary_of(
+    alloc: Global,
+    answers: &LogAnswers<'_>,
+    names: &[Option<&str>],
+    unit: Unit,
+) -> Result<String, AllocError> {
     let (unmatched, broken) = (answers.unmatched(), answers.broken());
     let matched = answers.matched()?;
     let mut lines = unmatched.saturating_add(broken);
     let mut parts = String::new(alloc);
     for (number, count) in (1usize..).zip(&matched) {
         lines = lines.saturating_add(*count);
-        let part = if matched.len() == 1 {
+        let name = names.get(number.saturating_sub(1)).copied().flatten();
+        let part = if let Some(name) = name {
+            let name = visible(alloc, name)?;
+            format!(in alloc; "{count} matched by {name}, ")?
+        } else if matched.len() == 1 {
             format!(in alloc; "{count} matched, ")?
         } else {
             let nth = ordinal(alloc, number)?;
@@ -25,6 +36,6 @@ pub fn summary_of(alloc: Global, answers: &LogAnswers<'_>) -> Result<String, All
         };
         parts.push_str(part.as_str())?;
     }
-    let word = if lines == 1 { "line" } else { "lines" };
+    let word = unit.word(lines);
     format!(in alloc; "{lines} {word}, {parts}{unmatched} not matched, {broken} not UTF-8")
 }

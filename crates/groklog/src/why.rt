@@ -1,19 +1,22 @@
 //! Explains the lines that don't match, for `--why`.
 ghost use Rattle.std.specs.Prelude.{[]};
 
+use crate::direct_output::DirectOutput;
 use crate::stop_report::Explainer;
-use grok_lines::LineAnswers;
+use crate::unit::Unit;
+use grok_lines::{LineAnswers, SkipLines};
 use groklog_answers::LogAnswers;
 use std::alloc::{AllocError, Global};
-use std::io::{self, Write};
 
 /// Counts the lines, and writes to standard output where the patterns stop in the first of them that
 /// don't match. It has no answers.
 #[derive(Drop)]
 pub struct Why<'r, 'a, 'p, 'd> {
-    rt: &'r HostRuntime,
+    pub output: DirectOutput<'r>,
     pub answers: LogAnswers<'a>,
     explainer: Explainer<'p, 'd>,
+    /// What has one answer.
+    unit: Unit,
     /// The buffer for an answer, which isn't written.
     answer: Vec<u8>,
     /// How many lines were read.
@@ -22,8 +25,6 @@ pub struct Why<'r, 'a, 'p, 'd> {
     left: u64,
     /// How many more lines don't match.
     more: u64,
-    /// Why standard output failed, if it did.
-    pub failure: Option<io::Error>,
 }
 
 impl<'r, 'a, 'p, 'd> Why<'r, 'a, 'p, 'd> {
@@ -32,27 +33,29 @@ impl<'r, 'a, 'p, 'd> Why<'r, 'a, 'p, 'd> {
         rt: &'r HostRuntime,
         answers: LogAnswers<'a>,
         explainer: Explainer<'p, 'd>,
+        unit: Unit,
         most: u64,
     ) -> Why<'r, 'a, 'p, 'd> {
         Why {
-            rt,
+            output: DirectOutput::new(rt),
             answers,
             explainer,
+            unit,
             answer: Vec::new(rt.alloc()),
             lines: 0,
             left: most,
             more: 0,
-            failure: None,
         }
     }
 
     /// Returns how many lines didn't match beyond those that were explained, as a line, or the empty
     /// text if there were none.
     pub fn rest(&self, alloc: Global) -> Result<String, AllocError> {
+        let word = self.unit.word(self.more);
         match self.more {
             0 => Ok(String::new(alloc)),
-            1 => format!(in alloc; "1 more line doesn't match\n"),
-            more => format!(in alloc; "{more} more lines don't match\n"),
+            1 => format!(in alloc; "1 more {word} doesn't match\n"),
+            more => format!(in alloc; "{more} more {word} don't match\n"),
         }
     }
 
@@ -64,19 +67,6 @@ impl<'r, 'a, 'p, 'd> Why<'r, 'a, 'p, 'd> {
         }
         self.left = self.left.saturating_sub(1);
         true
-    }
-
-    /// Writes a report. If that fails, notes why, and fails too.
-    fn write(&mut self, report: &str) -> Result<(), AllocError> {
-        let mut output = io::writer(self.rt);
-        match output.write_all(report.as_bytes()) {
-            Ok(()) => Ok(()),
-            Err(error) => {
-                self.failure = Some(error);
-                // own error: the output failed, as `failure` says, and no more lines are read.
-                Err(AllocError)
-            }
-        }
     }
 }
 
@@ -92,8 +82,9 @@ impl LineAnswers for Why<'_, '_, '_, '_> {
         if self.answers.unmatched() == before || !self.takes_line() {
             return Ok(());
         }
-        let report = self.explainer.report(self.lines, line)?;
-        self.write(report.as_str())
+        let place = self.unit.at(*self.answer.allocator(), self.lines)?;
+        let report = self.explainer.report(place.as_str(), line)?;
+        self.output.write(report.as_str())
     }
 
     fn answer_broken(&mut self, text: &mut Vec<u8>, line: &[u8]) -> Result<(), AllocError> {
@@ -104,10 +95,17 @@ impl LineAnswers for Why<'_, '_, '_, '_> {
         if !self.takes_line() {
             return Ok(());
         }
-        let number = self.lines;
-        let report = format!(in *self.answer.allocator();
-            "line {number} doesn't match: it isn't UTF-8\n"
-        )?;
-        self.write(report.as_str())
+        let alloc = *self.answer.allocator();
+        let place = self.unit.at(alloc, self.lines)?;
+        let report = format!(in alloc; "{place} doesn't match: it isn't UTF-8\n")?;
+        self.output.write(report.as_str())
+    }
+}
+
+impl SkipLines for Why<'_, '_, '_, '_> {
+    fn skip_lines(&mut self, count: u64) -> Result<(), AllocError> {
+        self.answers.skip_lines(count)?;
+        self.lines = self.lines.saturating_add(count);
+        Ok(())
     }
 }

@@ -5,7 +5,9 @@ use Rattle.std.specs.Str.Lossy.{utf8_lossy}
 use Rattle.groklog_answers.specs.Layouts.{LayoutValue, failure_words}
 use Rattle.groklog_answers.specs.Patterns.{MatchText, first_match}
 use Rattle.groklog_answers.specs.Objects.{match_members, unmatched_members, object_text}
-use Rattle.groklog_answers.specs.PairTexts.{optional_line, field_line, place_lines}
+use Rattle.groklog_answers.specs.PairTexts.{optional_line, field_line, chosen_pairs, place_lines}
+use Rattle.csv.specs.Writing.{default_writer, quote_mark, is_blank, row_body, row_text}
+use Rattle.groklog_answers.specs.Records.{values_of}
 use Rattle.groklog_answers.specs.LogAnswers.{match_text, unmatched_text, unmatched_answer, answer_by}
 use Rattle.groklog_answers.specs.AnswerLaws.{FirstThatMatchesAnswers, NoneThatMatchesIsNoMatch, with_lines, Share, EachLineIsAnswered, EachAnswerIsOfOneKind}
 use Rattle.groklog_answers.specs.declared.layout.Lines.{Lines}
@@ -13,7 +15,7 @@ use Rattle.groklog_answers.specs.declared.layout.Lines.TheVariants.{All, Matched
 use Rattle.groklog_answers.specs.declared.layout.Failure.{Failure}
 use Rattle.groklog_answers.specs.declared.layout.Failure.TheVariants.{NoMatch, NotUtf8}
 use Rattle.groklog_answers.specs.declared.layout.OutputFormat.{OutputFormat}
-use Rattle.groklog_answers.specs.declared.layout.OutputFormat.TheVariants.{Json, Pairs}
+use Rattle.groklog_answers.specs.declared.layout.OutputFormat.TheVariants.{Json, Pairs, Csv}
 
 pub first_that_matches_answers : FirstThatMatchesAnswers
 first_that_matches_answers [] after pattern line found none is = rw is refl
@@ -31,11 +33,13 @@ match_is_same : (format : OutputFormat) (a b : Lines) (layout : LayoutValue) (fo
     → match_text format (with_lines a layout) found n line ≡ match_text format (with_lines b layout) found n line
 match_is_same Json a b layout found n line = refl
 match_is_same Pairs a b layout found n line = refl
+match_is_same Csv a b layout found n line = refl
 
 unmatched_is_same : (format : OutputFormat) (a b : Lines) (layout : LayoutValue) (n : ℕ) (why : Failure) (line : List ℕ)
     → unmatched_text format (with_lines a layout) n why line ≡ unmatched_text format (with_lines b layout) n why line
 unmatched_is_same Json a b layout n why line = refl
 unmatched_is_same Pairs a b layout n why line = refl
+unmatched_is_same Csv a b layout n why line = refl
 
 shared_by : (layout : LayoutValue) (found : Option MatchText) (n : ℕ) (line : List ℕ)
     → Share (answer_by (with_lines Matched layout) found n line) (answer_by (with_lines Unmatched layout) found n line) (answer_by (with_lines All layout) found n line)
@@ -62,18 +66,26 @@ filled (x ∷ a) b h e = cc
 feed : codes "\n" ≢ []
 feed e = cc
 
+-- A record isn't empty: it ends in a line feed.
+row_is_written : (values : List (List ℕ)) → row_text default_writer values ≢ []
+row_is_written values =
+    filled (row_body default_writer values) _
+    (filled (if is_blank default_writer values then quote_mark ∷ quote_mark ∷ [] else []) (codes "\n") feed)
+
 match_is_written : (format : OutputFormat) (layout : LayoutValue) (found : MatchText) (n : ℕ) (line : List ℕ) → match_text format layout found n line ≢ []
 match_is_written Json layout found n line = filled (object_text (match_members layout found n line)) (codes "\n") feed
 match_is_written Pairs layout found n line =
     filled (place_lines layout n) _
     (filled (optional_line layout.tag found.tag) _
-    (filled (flat_map (field_line layout) found.pairs) _ (filled (optional_line layout.keep line) (codes "\n") feed)))
+    (filled (flat_map (field_line layout) (chosen_pairs layout.fields found.pairs)) _ (filled (optional_line layout.keep line) (codes "\n") feed)))
+match_is_written Csv layout found n line = row_is_written (values_of layout n [] found.tag found.pairs line)
 
 unmatched_is_written : (format : OutputFormat) (layout : LayoutValue) (n : ℕ) (why : Failure) (line : List ℕ) → unmatched_text format layout n why line ≢ []
 unmatched_is_written Json layout n why line = filled (object_text (unmatched_members layout n why line)) (codes "\n") feed
 unmatched_is_written Pairs layout n why line =
     filled (place_lines layout n) _
     (filled (optional_line layout.failed (failure_words why)) _ (filled (optional_line layout.keep line) (codes "\n") feed))
+unmatched_is_written Csv layout n why line = row_is_written (values_of layout n (failure_words why) [] [] line)
 
 written_by : (layout : LayoutValue) (found : Option MatchText) (n : ℕ) (line : List ℕ) → answer_by (with_lines All layout) found n line ≢ []
 written_by layout None n line = unmatched_is_written layout.format (with_lines All layout) n NoMatch line

@@ -2,8 +2,15 @@ mod NumbersAreJson
 mod NumeralsAreJson
 mod FirstMatchIsOfFirstPattern
 mod TokensOfMembers
+mod FirstBytes
+mod PlannedTokens
+mod PlansAreMade
+mod ValuesAreInPlace
 mod ObjectsReadBack
 mod AnswerLaws
 mod LinesAreNumbered
 mod NumbersHoldNoLineFeed
 mod ObjectsAreLines
+mod ChosenKeys
+mod ValuesAreByCount
+mod EmptyObjects

@@ -13,14 +13,14 @@ use Rattle.groklog_answers.specs.declared.layout.Lines.TheVariants.{All, Matched
 use Rattle.groklog_answers.specs.declared.layout.Failure.{Failure}
 use Rattle.groklog_answers.specs.declared.layout.Failure.TheVariants.{NoMatch, NotUtf8}
 use Rattle.groklog_answers.specs.declared.layout.OutputFormat.{OutputFormat}
-use Rattle.groklog_answers.specs.declared.layout.OutputFormat.TheVariants.{Json, Pairs}
+use Rattle.groklog_answers.specs.declared.layout.OutputFormat.TheVariants.{Json, Pairs, Csv}
 
 -- ---- the count
 
-pub counts_on : (layout later : LayoutValue) (patterns more : List PatternText) (first next : ℕ)
-    → later ≡ layout → more ≡ patterns → next ≡ first + 1
-    → AreAnswersAfter 1 (log_answers_from layout patterns first) (log_answers_from later more next)
-counts_on layout later patterns more first next l p e n =
+pub counts_on : (layout later : LayoutValue) (patterns more : List PatternText) (first count next : ℕ)
+    → later ≡ layout → more ≡ patterns → next ≡ first + count
+    → AreAnswersAfter count (log_answers_from layout patterns first) (log_answers_from later more next)
+counts_on layout later patterns more first count next l p e n =
     ap (λ v. log_answer v more (next + n)) l ∙ ap (λ v. log_answer layout v (next + n)) p
     ∙ ap (log_answer layout patterns) (omega (arith, e))
 
@@ -39,11 +39,13 @@ match_stands_alone : (format : OutputFormat) (layout : LayoutValue) (found : Mat
     → match_text format layout found m line ≡ match_text format layout found n line
 match_stands_alone Json layout found m n line none = rw none refl
 match_stands_alone Pairs layout found m n line none = rw none refl
+match_stands_alone Csv layout found m n line none = rw none refl
 
 unmatched_stands_alone : (format : OutputFormat) (layout : LayoutValue) (m n : ℕ) (why : Failure) (line : List ℕ) → layout.number ≡ None
     → unmatched_text format layout m why line ≡ unmatched_text format layout n why line
 unmatched_stands_alone Json layout m n why line none = rw none refl
 unmatched_stands_alone Pairs layout m n why line none = rw none refl
+unmatched_stands_alone Csv layout m n why line none = rw none refl
 
 by_match : (lines : Lines) (layout : LayoutValue) (found : MatchText) (m n : ℕ) (line : List ℕ) → layout.number ≡ None
     → match_answer lines layout found m line ≡ match_answer lines layout found n line

@@ -2,11 +2,11 @@
 use Rattle.std.proofs.Common.{◌≡◌, ◌⊎◌, inl, inr, ℕ, zero, suc, ◌<◌, ◌≤◌, not, ◌&&◌, subst, Bool, true, false, ◌==◌, cond, List, [], ◌∷◌, ◌++◌, Option, Some, None, if◌then◌else◌, codes, refl, sym, arith}
 use Rattle.std.proofs.lemmas.Bool.{cases_eq, cases_lt}
 use Rattle.std.proofs.lemmas.Bool.Decides.{nat_tests}
-use Rattle.std.specs.List.{AllByRecursion}
 use Rattle.std.specs.Str.{is_utf8}
 use Rattle.std.specs.Str.Lossy.{utf8_lossy}
 use Rattle.json.specs.Token.{Token, begin_object, end_object, begin_array, end_array, key, string, number, boolean, null, bad}
 use Rattle.json.specs.Json.{object}
+use Rattle.json.specs.Tree.{MembersHaveNumbers}
 use Rattle.json.specs.Print.{escape_byte, escape, quoted, token_text, separator, begins, ends, print_from, IsPrintable, ArePrintable}
 use Rattle.json.proofs.Printed.Strings.{escape_byte_plain}
 use Rattle.json.proofs.Printed.Trees.{ArePrintable-json_tokens}
@@ -22,9 +22,9 @@ use Rattle.groklog_answers.specs.declared.layout.Lines.TheVariants.{All, Matched
 use Rattle.groklog_answers.specs.declared.layout.Failure.{Failure}
 use Rattle.groklog_answers.specs.declared.layout.Failure.TheVariants.{NoMatch, NotUtf8}
 use Rattle.groklog_answers.specs.declared.layout.OutputFormat.{OutputFormat}
-use Rattle.groklog_answers.specs.declared.layout.OutputFormat.TheVariants.{Json, Pairs}
+use Rattle.groklog_answers.specs.declared.layout.OutputFormat.TheVariants.{Json, Pairs, Csv}
 use Rattle.groklog_answers.proofs.NumbersHoldNoLineFeed.{number_is_line}
-use Rattle.groklog_answers.proofs.ObjectsReadBack.{IsFlat, match_is_flat, unmatched_is_flat, have_numbers}
+use Rattle.groklog_answers.proofs.ObjectsReadBack.{match_has_numbers, unmatched_has_numbers}
 
 -- ---- the escape of a byte
 
@@ -110,9 +110,9 @@ printed_line after_value (t ∷ ts) are =
     line-append (separator after_value t) _ (comma_line (after_value && begins t))
     (line-append (token_text t) _ (token_line t are.0) (printed_line (ends t) ts are.1))
 
-object_line : (members : KeyValues) → AllByRecursion IsFlat members → IsLine (object_text members)
-object_line members flat =
-    printed_line false _ (ArePrintable-json_tokens (object (members_of members)) (have_numbers members flat))
+object_line : (members : KeyValues) → MembersHaveNumbers (members_of members) → IsLine (object_text members)
+object_line members numbers =
+    printed_line false _ (ArePrintable-json_tokens (object (members_of members)) numbers)
 
 -- ---- answers
 
@@ -120,12 +120,14 @@ abbrev IsLineOrNone : List ℕ → Type 0
 IsLineOrNone answer = (answer ≡ []) ⊎ ((object : List ℕ) × IsLine object × (answer ≡ object ++ codes "\n"))
 
 match_lines_up : (format : OutputFormat) (layout : LayoutValue) (found : MatchText) (n : ℕ) (line : List ℕ) → format ≡ Json → IsLineOrNone (match_text format layout found n line)
-match_lines_up Json layout found n line is = inr (object_text (match_members layout found n line), object_line _ (match_is_flat layout found n line), refl)
+match_lines_up Json layout found n line is = inr (object_text (match_members layout found n line), object_line _ (match_has_numbers layout found n line), refl)
 match_lines_up Pairs layout found n line is = cc
+match_lines_up Csv layout found n line is = cc
 
 unmatched_lines_up : (format : OutputFormat) (layout : LayoutValue) (n : ℕ) (why : Failure) (line : List ℕ) → format ≡ Json → IsLineOrNone (unmatched_text format layout n why line)
-unmatched_lines_up Json layout n why line is = inr (object_text (unmatched_members layout n why line), object_line _ (unmatched_is_flat layout n why line), refl)
+unmatched_lines_up Json layout n why line is = inr (object_text (unmatched_members layout n why line), object_line _ (unmatched_has_numbers layout n why line), refl)
 unmatched_lines_up Pairs layout n why line is = cc
+unmatched_lines_up Csv layout n why line is = cc
 
 by_match : (lines : Lines) (layout : LayoutValue) (found : MatchText) (n : ℕ) (line : List ℕ) → layout.format ≡ Json → IsLineOrNone (match_answer lines layout found n line)
 by_match All layout found n line is = match_lines_up layout.format layout found n line is

@@ -1,92 +1,314 @@
 -- The object of a line reads back as its members.
-use Rattle.std.proofs.Common.{◌≡◌, ℕ, ◌==◌, List, [], ◌∷◌, ◌++◌, Bool, true, false, ◌&&◌, Option, Some, None, if◌then◌else◌, refl, flat_map, length, arith}
+use Rattle.std.proofs.Common.{◌≡◌, ℕ, zero, suc, ◌+◌, ◌≤◌, max, ◌==◌, List, [], ◌∷◌, ◌++◌, Bool, true, false, not, ◌&&◌, ◌||◌, Option, Some, None, if◌then◌else◌, refl, flat_map, length, arith}
 use Rattle.std.specs.List.{AllByRecursion}
+use Rattle.std.specs.Str.{bytes_eq}
 use Rattle.grok.specs.Maps.{Texts}
-use Rattle.json.specs.Json.{Json, number, string, object, document}
-use Rattle.json.specs.Tree.{HasNumbers, MembersHaveNumbers, depth, members_depth}
+use Rattle.grok.specs.Numeral.{numeral}
+use Rattle.json.specs.Json.{Json, null, boolean, number, string, array, object, Members, no_members, member, document}
+use Rattle.json.specs.Print.{IsNumber}
+use Rattle.json.specs.Tree.{HasNumbers, ItemsHaveNumbers, MembersHaveNumbers, depth, items_depth, members_depth}
 use Rattle.json.proofs.Printed.Trees.{document-print}
-use Rattle.groklog_answers.specs.Layouts.{LayoutValue, failure_words}
+use Rattle.groklog_answers.specs.Layouts.{LayoutValue, is_chosen, failure_words}
 use Rattle.groklog_answers.specs.Patterns.{MatchText}
+use Rattle.groklog_answers.specs.Plans.{FieldText, IsShallow}
 use Rattle.groklog_answers.specs.declared.layout.Failure.{Failure}
-use Rattle.groklog_answers.specs.Values.{is_written_as_number}
-use Rattle.groklog_answers.specs.Objects.{KeyValues, members_of, typed_pair, field_members, extract_for, optional_member, number_member, place_members, match_members, unmatched_members, object_text}
-use Rattle.groklog_answers.specs.AnswerLaws.{MatchesReadBack, UnmatchedLinesReadBack}
+use Rattle.groklog_answers.specs.Values.{is_written_as_number, number_form, json_value}
+use Rattle.groklog_answers.specs.PlannedFields.{kept_value, written_value, key_values, extract_for, items_of, one_or_array, members_in, is_object, inside, after, put, put_field, field_value, planned_members}
+use Rattle.groklog_answers.specs.Objects.{KeyValues, members_of, pairs_of, typed_pair, field_members, fields_by, optional_member, number_member, failure_tag, place_members, match_members, unmatched_members, object_text}
+use Rattle.groklog_answers.specs.AnswerLaws.{HasShallowPlan, MatchesReadBack, UnmatchedLinesReadBack}
 use Rattle.groklog_answers.proofs.NumbersAreJson.{written_is_number}
 use Rattle.groklog_answers.proofs.NumeralsAreJson.{numeral_is_number}
 
--- The value of the member is a string, or a number whose text is a JSON number.
-abbrev pub IsFlat : List ℕ × Json → Type 0
-IsFlat pair = HasNumbers pair.1 × (depth pair.1 ≡ 0)
+-- ---- values
 
-value_is_flat : (b : Bool) (key value : List ℕ) → (b ≡ true → HasNumbers (number value)) → IsFlat (key, (if b then number value else string value))
-value_is_flat true key value h = (h refl, refl)
-value_is_flat false key value h = (tt, refl)
+value_has_numbers : (b : Bool) (form value : List ℕ) → (b ≡ true → IsNumber form) → HasNumbers (if b then number form else string value)
+value_has_numbers true form value h = h refl
+value_has_numbers false form value h = tt
 
-pair_is_flat : (typed : Bool) (extracts : Texts) (pair : List ℕ × List ℕ) → IsFlat (typed_pair typed extracts pair)
-pair_is_flat typed extracts pair =
-    let extract = extract_for typed extracts pair.0 in
-    value_is_flat (is_written_as_number extract pair.1) pair.0 pair.1 (written_is_number extract pair.1)
+json_value_has_numbers : (extract : Option (List ℕ)) (value : List ℕ) → HasNumbers (json_value extract value)
+json_value_has_numbers extract value =
+    value_has_numbers (is_written_as_number extract (number_form value)) (number_form value) value
+    (written_is_number extract (number_form value))
 
-written_is_flat : (is_dropped : Bool) (pair : List ℕ × Json) → IsFlat pair
-    → AllByRecursion IsFlat (if is_dropped then [] else pair ∷ [])
-written_is_flat true pair flat = tt
-written_is_flat false pair flat = (flat, tt)
+value_has_no_depth : (b : Bool) (form value : List ℕ) → depth (if b then number form else string value) ≡ 0
+value_has_no_depth true form value = refl
+value_has_no_depth false form value = refl
 
-field_is_flat : (layout : LayoutValue) (extracts : Texts) (pair : List ℕ × List ℕ)
-    → AllByRecursion IsFlat (field_members layout extracts pair)
-field_is_flat layout extracts pair =
-    written_is_flat (layout.drops_empty && (length pair.1 == 0)) (typed_pair layout.typed extracts pair)
-    (pair_is_flat layout.typed extracts pair)
+json_value_has_no_depth : (extract : Option (List ℕ)) (value : List ℕ) → depth (json_value extract value) ≡ 0
+json_value_has_no_depth extract value =
+    value_has_no_depth (is_written_as_number extract (number_form value)) (number_form value) value
 
-optional_is_flat : (name : Option (List ℕ)) (text : List ℕ) → AllByRecursion IsFlat (optional_member name text)
-optional_is_flat None text = tt
-optional_is_flat (Some name) text = ((tt, refl), tt)
+-- ---- properties of the members of an answer
 
-number_is_flat : (name : Option (List ℕ)) (n : ℕ) → AllByRecursion IsFlat (number_member name n)
-number_is_flat None n = tt
-number_is_flat (Some name) n = ((numeral_is_number n, refl), tt)
+-- The property holds of the value of each member.
+abbrev pub AllValues : (Json → Type 0) → KeyValues → Type 0
+AllValues P members = AllByRecursion (λ pair. P pair.1) members
 
-both_are_flat : (a b : KeyValues) → AllByRecursion IsFlat a → AllByRecursion IsFlat b → AllByRecursion IsFlat (a ++ b)
+-- The property holds of the values that an answer is made of.
+pub record HoldsOfParts (P : Json → Type 0) : Type 0 where
+  strings : (text : List ℕ) → P (string text)
+  numbers : (n : ℕ) → P (number (numeral n))
+  values : (extract : Option (List ℕ)) (value : List ℕ) → P (json_value extract value)
+  tags : AllValues P (failure_tag true)
+
+both_hold : (P : Json → Type 0) (a b : KeyValues) → AllValues P a → AllValues P b → AllValues P (a ++ b)
+both_hold P [] b h k = k
+both_hold P (pair ∷ a) b h k = (h.0, both_hold P a b h.1 k)
+
+optional_holds : (P : Json → Type 0) → HoldsOfParts P → (name : Option (List ℕ)) (text : List ℕ) → AllValues P (optional_member name text)
+optional_holds P parts None text = tt
+optional_holds P parts (Some name) text = (parts.strings text, tt)
+
+number_holds : (P : Json → Type 0) → HoldsOfParts P → (name : Option (List ℕ)) (n : ℕ) → AllValues P (number_member name n)
+number_holds P parts None n = tt
+number_holds P parts (Some name) n = (parts.numbers n, tt)
+
+tag_holds : (P : Json → Type 0) → HoldsOfParts P → (tags_failures : Bool) → AllValues P (failure_tag tags_failures)
+tag_holds P parts true = parts.tags
+tag_holds P parts false = tt
+
+written_holds : (P : Json → Type 0) (is_dropped : Bool) (pair : List ℕ × Json) → P pair.1
+    → AllValues P (if is_dropped then [] else pair ∷ [])
+written_holds P true pair h = tt
+written_holds P false pair h = (h, tt)
+
+pairs_hold : (P : Json → Type 0) → HoldsOfParts P → (layout : LayoutValue) (extracts : Texts) (pairs : List (List ℕ × List ℕ))
+    → AllValues P (flat_map (field_members layout extracts) pairs)
+pairs_hold P parts layout extracts [] = tt
+pairs_hold P parts layout extracts (pair ∷ pairs) =
+    both_hold P _ _
+    (written_holds P (not (is_chosen layout.fields pair.0) || (layout.drops_empty && (length pair.1 == 0))) (typed_pair layout.typed extracts pair)
+    (parts.values (extract_for layout.typed extracts pair.0) pair.1))
+    (pairs_hold P parts layout extracts pairs)
+
+place_holds : (P : Json → Type 0) → HoldsOfParts P → (layout : LayoutValue) (n : ℕ) → AllValues P (place_members layout n)
+place_holds P parts layout n =
+    both_hold P _ _ (number_holds P parts layout.number n) (optional_holds P parts layout.file layout.file_name)
+
+match_holds : (P : Json → Type 0) → HoldsOfParts P → (layout : LayoutValue) (found : MatchText) (n : ℕ) (line : List ℕ)
+    → AllValues P (fields_by layout found found.plan) → AllValues P (match_members layout found n line)
+match_holds P parts layout found n line fields =
+    both_hold P _ _ (place_holds P parts layout n)
+    (both_hold P _ _ (optional_holds P parts layout.tag found.tag)
+    (both_hold P _ _ fields (optional_holds P parts layout.keep line)))
+
+unmatched_holds : (P : Json → Type 0) → HoldsOfParts P → (layout : LayoutValue) (n : ℕ) (why : Failure) (line : List ℕ)
+    → AllValues P (unmatched_members layout n why line)
+unmatched_holds P parts layout n why line =
+    both_hold P _ _ (place_holds P parts layout n)
+    (both_hold P _ _ (optional_holds P parts layout.failed (failure_words why))
+    (both_hold P _ _ (tag_holds P parts layout.tags_failures) (optional_holds P parts layout.keep line)))
+
+-- ---- numbers
+
+number_parts : HoldsOfParts HasNumbers
+number_parts = record {
+  strings = λ text. tt;
+  numbers = numeral_is_number;
+  values = json_value_has_numbers;
+  tags = ((tt, tt), tt);
+}
+
+items_have_numbers : (values : List Json) → AllByRecursion HasNumbers values → ItemsHaveNumbers (items_of values)
+items_have_numbers [] h = tt
+items_have_numbers (value ∷ more) h = (h.0, items_have_numbers more h.1)
+
+both_have_numbers : (a b : List Json) → AllByRecursion HasNumbers a → AllByRecursion HasNumbers b → AllByRecursion HasNumbers (a ++ b)
+both_have_numbers [] b h k = k
+both_have_numbers (value ∷ a) b h k = (h.0, both_have_numbers a b h.1 k)
+
+written_have_numbers : (extract value : Option (List ℕ)) → AllByRecursion HasNumbers (written_value extract value)
+written_have_numbers extract None = tt
+written_have_numbers extract (Some value) = (json_value_has_numbers extract value, tt)
+
+keys_have_numbers : (layout : LayoutValue) (found : MatchText) (keys : List (List ℕ))
+    → AllByRecursion HasNumbers (flat_map (key_values layout found) keys)
+keys_have_numbers layout found [] = tt
+keys_have_numbers layout found (key ∷ keys) =
+    both_have_numbers _ _
+    (written_have_numbers (extract_for layout.typed found.extracts key) (kept_value layout.drops_empty (found.value key)))
+    (keys_have_numbers layout found keys)
+
+inner_have_numbers : (value : Json) → HasNumbers value → MembersHaveNumbers (members_in value)
+inner_have_numbers null h = tt
+inner_have_numbers (boolean b) h = tt
+inner_have_numbers (number text) h = tt
+inner_have_numbers (string text) h = tt
+inner_have_numbers (array items) h = tt
+inner_have_numbers (object inner) h = h
+
+chosen_have_numbers : (b : Bool) (a c : Members) → MembersHaveNumbers a → MembersHaveNumbers c → MembersHaveNumbers (if b then a else c)
+chosen_have_numbers true a c h k = h
+chosen_have_numbers false a c h k = k
+
+inside_have_numbers : (name : List ℕ) (members : Members) → MembersHaveNumbers members → MembersHaveNumbers (inside name members)
+inside_have_numbers name no_members h = tt
+inside_have_numbers name (member other value more) h =
+    chosen_have_numbers (bytes_eq name other) (members_in value) no_members (inner_have_numbers value h.0) tt
+
+after_have_numbers : (name : List ℕ) (members : Members) → MembersHaveNumbers members → MembersHaveNumbers (after name members)
+after_have_numbers name no_members h = tt
+after_have_numbers name (member other value more) h =
+    chosen_have_numbers (bytes_eq name other && is_object value) more (member other value more) h.1 h
+
+put_has_numbers : (parents : List (List ℕ)) (name : List ℕ) (value : Json) (members : Members)
+    → HasNumbers value → MembersHaveNumbers members → MembersHaveNumbers (put parents name value members)
+put_has_numbers [] name value members h k = (h, k)
+put_has_numbers (parent ∷ parents) name value members h k =
+    (put_has_numbers parents name value (inside parent members) h (inside_have_numbers parent members k), after_have_numbers parent members k)
+
+field_has_numbers : (field : FieldText) (values : List Json) (members : Members)
+    → AllByRecursion HasNumbers values → MembersHaveNumbers members → MembersHaveNumbers (put_field field (one_or_array values) members)
+field_has_numbers field [] members h k = k
+field_has_numbers field (value ∷ []) members h k = put_has_numbers field.parents field.name value members h.0 k
+field_has_numbers field (value ∷ (other ∷ more)) members h k =
+    put_has_numbers field.parents field.name (array (items_of (value ∷ (other ∷ more)))) members
+    (items_have_numbers (value ∷ (other ∷ more)) h) k
+
+plan_has_numbers : (layout : LayoutValue) (found : MatchText) (fields : List FieldText)
+    → MembersHaveNumbers (planned_members layout found fields)
+plan_has_numbers layout found [] = tt
+plan_has_numbers layout found (field ∷ fields) =
+    field_has_numbers field (flat_map (key_values layout found) field.keys) (planned_members layout found fields)
+    (keys_have_numbers layout found field.keys) (plan_has_numbers layout found fields)
+
+pairs_have_numbers : (members : Members) → MembersHaveNumbers members → AllValues HasNumbers (pairs_of members)
+pairs_have_numbers no_members h = tt
+pairs_have_numbers (member name value more) h = (h.0, pairs_have_numbers more h.1)
+
+fields_have_numbers : (layout : LayoutValue) (found : MatchText) (plan : Option (List FieldText))
+    → AllValues HasNumbers (fields_by layout found plan)
+fields_have_numbers layout found None = pairs_hold HasNumbers number_parts layout found.extracts found.pairs
+fields_have_numbers layout found (Some fields) = pairs_have_numbers _ (plan_has_numbers layout found fields)
+
+members_have_numbers : (members : KeyValues) → AllValues HasNumbers members → MembersHaveNumbers (members_of members)
+members_have_numbers [] h = tt
+members_have_numbers (pair ∷ members) h = (h.0, members_have_numbers members h.1)
+
+-- The numbers in an answer with a match are JSON numbers.
+pub match_has_numbers : (layout : LayoutValue) (found : MatchText) (n : ℕ) (line : List ℕ)
+    → MembersHaveNumbers (members_of (match_members layout found n line))
+match_has_numbers layout found n line =
+    members_have_numbers _ (match_holds HasNumbers number_parts layout found n line (fields_have_numbers layout found found.plan))
+
+-- The numbers in an answer to a line without fields are JSON numbers.
+pub unmatched_has_numbers : (layout : LayoutValue) (n : ℕ) (why : Failure) (line : List ℕ)
+    → MembersHaveNumbers (members_of (unmatched_members layout n why line))
+unmatched_has_numbers layout n why line =
+    members_have_numbers _ (unmatched_holds HasNumbers number_parts layout n why line)
+
+-- ---- how deep objects are nested
+
+-- Objects and arrays nest so deep in the value, and no deeper.
+abbrev IsWithin : ℕ → Json → Type 0
+IsWithin most value = depth value ≤ most
+
+depth_parts : (most : ℕ) → 1 ≤ most → HoldsOfParts (IsWithin most)
+depth_parts most some = record {
+  strings = λ text. omega arith;
+  numbers = λ n. omega arith;
+  values = λ extract value. omega (arith, json_value_has_no_depth extract value);
+  tags = (some, tt);
+}
+
+-- No value has an object or an array in it.
+abbrev AreFlat : List Json → Type 0
+AreFlat = AllByRecursion (λ value. depth value ≡ 0)
+
+both_are_flat : (a b : List Json) → AreFlat a → AreFlat b → AreFlat (a ++ b)
 both_are_flat [] b h k = k
-both_are_flat (pair ∷ a) b h k = (h.0, both_are_flat a b h.1 k)
+both_are_flat (value ∷ a) b h k = (h.0, both_are_flat a b h.1 k)
 
-pairs_are_flat : (layout : LayoutValue) (extracts : Texts) (pairs : List (List ℕ × List ℕ))
-    → AllByRecursion IsFlat (flat_map (field_members layout extracts) pairs)
-pairs_are_flat layout extracts [] = tt
-pairs_are_flat layout extracts (pair ∷ pairs) =
-    both_are_flat _ _ (field_is_flat layout extracts pair) (pairs_are_flat layout extracts pairs)
+written_are_flat : (extract value : Option (List ℕ)) → AreFlat (written_value extract value)
+written_are_flat extract None = tt
+written_are_flat extract (Some value) = (json_value_has_no_depth extract value, tt)
 
-place_is_flat : (layout : LayoutValue) (n : ℕ) → AllByRecursion IsFlat (place_members layout n)
-place_is_flat layout n =
-    both_are_flat _ _ (number_is_flat layout.number n) (optional_is_flat layout.file layout.file_name)
+keys_are_flat : (layout : LayoutValue) (found : MatchText) (keys : List (List ℕ)) → AreFlat (flat_map (key_values layout found) keys)
+keys_are_flat layout found [] = tt
+keys_are_flat layout found (key ∷ keys) =
+    both_are_flat _ _
+    (written_are_flat (extract_for layout.typed found.extracts key) (kept_value layout.drops_empty (found.value key)))
+    (keys_are_flat layout found keys)
 
-pub match_is_flat : (layout : LayoutValue) (found : MatchText) (n : ℕ) (line : List ℕ) → AllByRecursion IsFlat (match_members layout found n line)
-match_is_flat layout found n line =
-    both_are_flat _ _ (place_is_flat layout n)
-    (both_are_flat _ _ (optional_is_flat layout.tag found.tag)
-    (both_are_flat _ _ (pairs_are_flat layout found.extracts found.pairs) (optional_is_flat layout.keep line)))
+items_are_flat : (values : List Json) → AreFlat values → items_depth (items_of values) ≡ 0
+items_are_flat [] h = refl
+items_are_flat (value ∷ more) h = rw (h.0, items_are_flat more h.1) refl
 
-pub unmatched_is_flat : (layout : LayoutValue) (n : ℕ) (why : Failure) (line : List ℕ)
-    → AllByRecursion IsFlat (unmatched_members layout n why line)
-unmatched_is_flat layout n why line =
-    both_are_flat _ _ (place_is_flat layout n)
-    (both_are_flat _ _ (optional_is_flat layout.failed (failure_words why)) (optional_is_flat layout.keep line))
+inner_within : (value : Json) (most : ℕ) → depth value ≤ suc most → members_depth (members_in value) ≤ most
+inner_within null most h = omega arith
+inner_within (boolean b) most h = omega arith
+inner_within (number text) most h = omega arith
+inner_within (string text) most h = omega arith
+inner_within (array items) most h = omega arith
+inner_within (object inner) most h = omega arith
 
-pub have_numbers : (members : KeyValues) → AllByRecursion IsFlat members → MembersHaveNumbers (members_of members)
-have_numbers [] h = tt
-have_numbers (pair ∷ members) h = (h.0.0, have_numbers members h.1)
+chosen_within : (b : Bool) (a c : Members) (most : ℕ) → members_depth a ≤ most → members_depth c ≤ most → members_depth (if b then a else c) ≤ most
+chosen_within true a c most h k = h
+chosen_within false a c most h k = k
 
-have_no_depth : (members : KeyValues) → AllByRecursion IsFlat members → members_depth (members_of members) ≡ 0
-have_no_depth [] h = refl
-have_no_depth (pair ∷ members) h = rw (h.0.1, have_no_depth members h.1) refl
+inside_within : (name : List ℕ) (members : Members) (most : ℕ) → members_depth members ≤ suc most → members_depth (inside name members) ≤ most
+inside_within name no_members most h = omega arith
+inside_within name (member other value more) most h =
+    chosen_within (bytes_eq name other) (members_in value) no_members most (inner_within value most (omega arith)) (omega arith)
 
-reads_back : (members : KeyValues) → AllByRecursion IsFlat members → document (object_text members) ≡ Some (object (members_of members))
-reads_back members h =
-    let flat = have_no_depth members h in
-    document-print (object (members_of members)) (have_numbers members h) (omega (arith, flat))
+after_within : (name : List ℕ) (members : Members) (most : ℕ) → members_depth members ≤ most → members_depth (after name members) ≤ most
+after_within name no_members most h = h
+after_within name (member other value more) most h =
+    chosen_within (bytes_eq name other && is_object value) more (member other value more) most (omega arith) h
+
+put_within : (parents : List (List ℕ)) (name : List ℕ) (value : Json) (members : Members) (most : ℕ)
+    → length parents + depth value ≤ most → members_depth members ≤ most → members_depth (put parents name value members) ≤ most
+put_within [] name value members most h k = omega arith
+put_within (parent ∷ parents) name value members zero h k = absurd (omega arith)
+put_within (parent ∷ parents) name value members (suc most) h k =
+    let put_in = put_within parents name value (inside parent members) most (omega arith) (inside_within parent members most k) in
+    let rest = after_within parent members (suc most) k in
+    omega (arith, put_in, rest)
+
+field_within : (field : FieldText) (values : List Json) (members : Members) (most : ℕ)
+    → AreFlat values → length field.parents + 1 ≤ most → members_depth members ≤ most
+    → members_depth (put_field field (one_or_array values) members) ≤ most
+field_within field [] members most flat h k = k
+field_within field (value ∷ []) members most flat h k =
+    put_within field.parents field.name value members most (omega (arith, flat.0)) k
+field_within field (value ∷ (other ∷ more)) members most flat h k =
+    put_within field.parents field.name (array (items_of (value ∷ (other ∷ more)))) members most
+    (omega (arith, items_are_flat (value ∷ (other ∷ more)) flat)) k
+
+plan_within : (layout : LayoutValue) (found : MatchText) (fields : List FieldText) → IsShallow fields
+    → members_depth (planned_members layout found fields) ≤ 101
+plan_within layout found [] h = omega arith
+plan_within layout found (field ∷ fields) h =
+    field_within field (flat_map (key_values layout found) field.keys) (planned_members layout found fields) 101
+    (keys_are_flat layout found field.keys) (omega (arith, h.0)) (plan_within layout found fields h.1)
+
+pairs_within : (members : Members) (most : ℕ) → members_depth members ≤ most → AllValues (IsWithin most) (pairs_of members)
+pairs_within no_members most h = tt
+pairs_within (member name value more) most h = (omega arith, pairs_within more most (omega arith))
+
+fields_within : (layout : LayoutValue) (found : MatchText) (plan : Option (List FieldText)) → HasShallowPlan plan
+    → AllValues (IsWithin 101) (fields_by layout found plan)
+fields_within layout found None h = pairs_hold (IsWithin 101) (depth_parts 101 (omega arith)) layout found.extracts found.pairs
+fields_within layout found (Some fields) h = pairs_within _ 101 (plan_within layout found fields h)
+
+members_within : (members : KeyValues) (most : ℕ) → AllValues (IsWithin most) members → members_depth (members_of members) ≤ most
+members_within [] most h = omega arith
+members_within (pair ∷ members) most h = let rest = members_within members most h.1 in omega (arith, h.0, rest)
+
+-- ---- the laws
+
+reads_back : (members : KeyValues) → MembersHaveNumbers (members_of members) → AllValues (IsWithin 101) members
+    → document (object_text members) ≡ Some (object (members_of members))
+reads_back members numbers within =
+    let shallow = members_within members 101 within in
+    document-print (object (members_of members)) numbers (omega (arith, shallow))
 
 pub matches_read_back : MatchesReadBack
-matches_read_back layout found n line = reads_back _ (match_is_flat layout found n line)
+matches_read_back layout found n line shallow =
+    reads_back _ (match_has_numbers layout found n line)
+    (match_holds (IsWithin 101) (depth_parts 101 (omega arith)) layout found n line (fields_within layout found found.plan shallow))
 
 pub unmatched_lines_read_back : UnmatchedLinesReadBack
-unmatched_lines_read_back layout n why line = reads_back _ (unmatched_is_flat layout n why line)
+unmatched_lines_read_back layout n why line =
+    reads_back _ (unmatched_has_numbers layout n why line)
+    (unmatched_holds (IsWithin 101) (depth_parts 101 (omega arith)) layout n why line)

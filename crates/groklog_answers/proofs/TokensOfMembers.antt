@@ -1,5 +1,5 @@
 -- The tokens of an object are those of its members, between its braces.
-use Rattle.std.proofs.Common.{◌≡◌, [], ◌∷◌, ◌++◌, refl, sym, ap, ◌∙◌, append_assoc, flat_map}
+use Rattle.std.proofs.Common.{◌≡◌, List, [], ◌∷◌, ◌++◌, refl, sym, ap, ◌∙◌, append_assoc, flat_map}
 use Rattle.json.specs.Token.{Token}
 use Rattle.json.specs.Json.{object}
 use Rattle.json.specs.Tree.{json_tokens, members_tokens}
@@ -21,20 +21,8 @@ tokens_append (pair ∷ more) b =
     ap (λ ts. member_tokens pair ++ ts) (tokens_append more b)
     ∙ sym (append_assoc (member_tokens pair) (flat_map member_tokens more) (flat_map member_tokens b))
 
--- The members for a line that has no fields are written in three parts: which line it is, why it has
--- none, and the line itself.
-pub object_in_three_parts : (a b c : KeyValues)
-    → json_tokens (object (members_of (a ++ (b ++ c))))
-    ≡ Token.begin_object ∷ (((flat_map member_tokens a ++ flat_map member_tokens b) ++ flat_map member_tokens c)
-    ++ Token.end_object ∷ [])
-object_in_three_parts a b c =
-    object_is (a ++ (b ++ c))
-    ∙ ap (λ ts. Token.begin_object ∷ (ts ++ Token.end_object ∷ []))
-    (tokens_append a (b ++ c) ∙ ap (λ ts. flat_map member_tokens a ++ ts) (tokens_append b c)
-    ∙ sym (append_assoc (flat_map member_tokens a) (flat_map member_tokens b) (flat_map member_tokens c)))
-
--- Those of a match are written in four parts: which line it is, the tag, the pairs, and the line
--- itself.
+-- The members are written in four parts: which line it is, the tag or why the line has no fields, the
+-- fields or the tag of Logstash, and the line itself.
 pub object_in_four_parts : (a b c d : KeyValues)
     → json_tokens (object (members_of (a ++ (b ++ (c ++ d)))))
     ≡ Token.begin_object ∷ ((((flat_map member_tokens a ++ flat_map member_tokens b) ++ flat_map member_tokens c)
@@ -46,3 +34,14 @@ object_in_four_parts a b c d =
     ∙ ap (λ ts. flat_map member_tokens a ++ (flat_map member_tokens b ++ ts)) (tokens_append c d)
     ∙ sym (append_assoc (flat_map member_tokens a) (flat_map member_tokens b) (flat_map member_tokens c ++ flat_map member_tokens d))
     ∙ sym (append_assoc (flat_map member_tokens a ++ flat_map member_tokens b) (flat_map member_tokens c) (flat_map member_tokens d)))
+
+pub four_tokens : (before : List Token) (a b c d : Token)
+    → (((before ++ a ∷ []) ++ b ∷ []) ++ c ∷ []) ++ d ∷ [] ≡ before ++ (a ∷ (b ∷ (c ∷ (d ∷ []))))
+four_tokens before a b c d = simp append_assoc
+
+-- The members are written in two parts.
+pub object_in_two_parts : (a b : KeyValues)
+    → json_tokens (object (members_of (a ++ b)))
+    ≡ Token.begin_object ∷ ((flat_map member_tokens a ++ flat_map member_tokens b) ++ Token.end_object ∷ [])
+object_in_two_parts a b = object_is (a ++ b)
+    ∙ ap (λ ts. Token.begin_object ∷ (ts ++ Token.end_object ∷ [])) (tokens_append a b)

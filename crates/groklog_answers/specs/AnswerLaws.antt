@@ -1,11 +1,13 @@
 -- THE LAWS of the answers.
-use Rattle.std.specs.Prelude.{◌≡◌, ◌≢◌, ◌⊎◌, ℕ, ◌+◌, List, [], ◌∷◌, ◌++◌, Some, None, length, codes}
+use Rattle.std.specs.Prelude.{◌≡◌, ◌≢◌, ◌⊎◌, ℕ, ◌+◌, List, [], ◌∷◌, ◌++◌, Option, Some, None, length, map, codes}
 use Rattle.std.specs.List.{AllByRecursion}
-use Rattle.json.specs.Json.{document, object}
+use Rattle.json.specs.Json.{Json as JsonValue, null, boolean, number, string, array, object, Members, no_members, member, document}
 use Rattle.grok_lines.specs.Lines.{IsLine}
 use Rattle.grok_lines.specs.Streams.{answers_of}
 use Rattle.groklog_answers.specs.Layouts.{LayoutValue}
+use Rattle.groklog_answers.specs.Plans.{FieldText, IsShallow}
 use Rattle.groklog_answers.specs.Patterns.{PatternText, MatchText, match_of, first_match}
+use Rattle.groklog_answers.specs.PlannedFields.{field_value, planned_members}
 use Rattle.groklog_answers.specs.Objects.{members_of, match_members, unmatched_members, object_text}
 use Rattle.groklog_answers.specs.LogAnswers.{log_answer, log_answers_from}
 use Rattle.groklog_answers.specs.declared.layout.Lines.{Lines}
@@ -46,6 +48,8 @@ with_lines lines layout = record {
   failed = layout.failed;
   typed = layout.typed;
   drops_empty = layout.drops_empty;
+  fields = layout.fields;
+  tags_failures = layout.tags_failures;
 }
 
 -- With `All` each line has an answer, which isn't empty.
@@ -81,12 +85,59 @@ abbrev pub WithoutNumbersLinesStandAlone : Type 0
 WithoutNumbersLinesStandAlone = (layout : LayoutValue) (patterns : List PatternText) (m n : ℕ) (line : List ℕ)
     → layout.number ≡ None → log_answer layout patterns m line ≡ log_answer layout patterns n line
 
+-- ---- plans
+
+-- A value in nested objects, with the names that lead to it.
+abbrev pub PlacedValue : Type 0
+PlacedValue = List (List ℕ) × JsonValue
+
+-- The value is in the object that is the member `name`.
+abbrev pub inside_name : List ℕ → PlacedValue → PlacedValue
+inside_name name placed = (name ∷ placed.0, placed.1)
+
+abbrev mutual
+  -- The values of these members that aren't objects, and those in their objects.
+  pub values_in : Members → List PlacedValue
+  values_in no_members = []
+  values_in (member name value more) = values_at value name ++ values_in more
+
+  -- The values of the member with this value and the name `name`.
+  pub values_at : JsonValue → List ℕ → List PlacedValue
+  values_at null name = (name ∷ [], null) ∷ []
+  values_at (boolean b) name = (name ∷ [], boolean b) ∷ []
+  values_at (number text) name = (name ∷ [], number text) ∷ []
+  values_at (string text) name = (name ∷ [], string text) ∷ []
+  values_at (array items) name = (name ∷ [], array items) ∷ []
+  values_at (object inner) name = map (inside_name name) (values_in inner)
+
+-- The value of a field with the names that lead to the field, if it has a value.
+abbrev pub value_of_field : FieldText → Option JsonValue → List PlacedValue
+value_of_field field None = []
+value_of_field field (Some value) = (field.parents ++ field.name ∷ [], value) ∷ []
+
+-- The values that the fields of a plan have in a match.
+abbrev pub planned_values : LayoutValue → MatchText → List FieldText → List PlacedValue
+planned_values layout found [] = []
+planned_values layout found (field ∷ fields) =
+    value_of_field field (field_value layout found field) ++ planned_values layout found fields
+
+-- The nested members for a match have the values of the plan's fields at their places, in the order of
+-- the plan, and no other values.
+abbrev pub EachValueIsAtItsPlace : Type 0
+EachValueIsAtItsPlace = (layout : LayoutValue) (found : MatchText) (fields : List FieldText)
+    → values_in (planned_members layout found fields) ≡ planned_values layout found fields
+
 -- ---- JSON
+
+-- There is no plan, or one whose objects are nested no deeper than those of each `Plan`.
+abbrev pub HasShallowPlan : Option (List FieldText) → Type 0
+HasShallowPlan None = Unit {0}
+HasShallowPlan (Some fields) = IsShallow fields
 
 -- If the object that is written for a match is read as JSON, it has the members that were written,
 -- in the same order.
 abbrev pub MatchesReadBack : Type 0
-MatchesReadBack = (layout : LayoutValue) (found : MatchText) (n : ℕ) (line : List ℕ)
+MatchesReadBack = (layout : LayoutValue) (found : MatchText) (n : ℕ) (line : List ℕ) → HasShallowPlan found.plan
     → document (object_text (match_members layout found n line)) ≡ Some (object (members_of (match_members layout found n line)))
 
 -- If the object that is written for a line that no pattern matches is read as JSON, it has the

@@ -1,5 +1,7 @@
 -- Which lines are answered, and how an answer is written.
-use Rattle.std.specs.Prelude.{ℕ, List, Bool, true, false, ◌&&◌, Option, option_map, is_some, codes}
+use Rattle.std.specs.Prelude.{ℕ, List, Bool, true, false, ◌&&◌, Option, Some, None, option_map, is_some, map, codes}
+use Rattle.std.specs.List.{list_any}
+use Rattle.std.specs.Str.{bytes_eq}
 use Rattle.groklog_answers.specs.declared.layout.Lines.{Lines}
 use Rattle.groklog_answers.specs.declared.layout.Lines.TheVariants.{All, Matched, Unmatched}
 use Rattle.groklog_answers.specs.declared.layout.OutputFormat.{OutputFormat}
@@ -25,6 +27,10 @@ pub record LayoutValue : Type 0 where
   pub typed : Bool
   -- whether fields with an empty value are left out
   pub drops_empty : Bool
+  -- the keys of patterns that are written, in their order, or `None` if all are
+  pub fields : Option (List (List ℕ))
+  -- whether a line that has no fields has the tag of Logstash for such lines
+  pub tags_failures : Bool
 
 -- What contracts see of a layout.
 abbrev pub layout_value : Layout → LayoutValue
@@ -39,6 +45,8 @@ layout_value layout = record {
   failed = option_map (λ name. name.now) layout.failed;
   typed = layout.typed;
   drops_empty = layout.drops_empty;
+  fields = option_map (λ names. map (λ name. name.now) names.now) layout.fields;
+  tags_failures = layout.tags_failures;
 }
 
 -- Whether lines that have no fields are answered.
@@ -60,7 +68,14 @@ in_file name layout = record {
   failed = layout.failed;
   typed = layout.typed;
   drops_empty = layout.drops_empty;
+  fields = layout.fields;
+  tags_failures = layout.tags_failures;
 }
+
+-- Whether a key of a pattern is written.
+abbrev pub is_chosen : Option (List (List ℕ)) → List ℕ → Bool
+is_chosen None key = true
+is_chosen (Some names) key = list_any (λ name. bytes_eq name key) names
 
 -- Whether the answer to a line that has no fields has the line itself in it.
 abbrev pub keeps_unmatched : LayoutValue → Bool

@@ -1,13 +1,23 @@
 pub mod Layouts
 pub mod Values
+pub mod Plans
+pub mod PlanViews
+pub mod PlannedFields
 pub mod Patterns
 pub mod Objects
 pub mod PairTexts
+pub mod Records
 pub mod LogAnswers
 pub mod Views
 pub mod AnswerLaws
+pub mod ValueCounts
+pub mod steps
 -- THE WORDS FOR CALLERS: each definition that a contract of a public call uses.
 pub use Rattle.groklog_answers.specs.Layouts.{LayoutValue, layout_value, in_file, failure_words}
-pub use Rattle.groklog_answers.specs.Patterns.{PatternText, MatchText, match_of, first_match}
+pub use Rattle.groklog_answers.specs.Plans.{key_names, SharedKeyText, FieldText, IsPlan}
+pub use Rattle.groklog_answers.specs.PlanViews.{shared_text, plan_text}
+pub use Rattle.groklog_answers.specs.Patterns.{PatternText, MatchText, match_of, first_match, is_found}
+pub use Rattle.groklog_answers.specs.Records.{values_of, header_record}
 pub use Rattle.groklog_answers.specs.LogAnswers.{log_answer, log_answers_from}
-pub use Rattle.groklog_answers.specs.Views.{pattern_text, patterns_of, layout_of, next_number_of, matched_of, unmatched_of, broken_of}
+pub use Rattle.groklog_answers.specs.Views.{pattern_text, patterns_of, layout_of, next_number_of, matched_of, unmatched_of, broken_of, finds_of, starts_of}
+pub use Rattle.groklog_answers.specs.ValueCounts.{count_of, value_count, most_of, others_of, one_more, IsUnchanged, SetsCount, SkipsValue, counted_values, counted_pair, AreByCount, counts_text}

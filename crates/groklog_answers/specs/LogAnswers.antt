@@ -7,22 +7,25 @@ use Rattle.groklog_answers.specs.Layouts.{LayoutValue}
 use Rattle.groklog_answers.specs.Patterns.{PatternText, MatchText, first_match}
 use Rattle.groklog_answers.specs.Objects.{match_members, unmatched_members, object_text}
 use Rattle.groklog_answers.specs.PairTexts.{match_lines, unmatched_lines}
+use Rattle.groklog_answers.specs.Records.{match_record, unmatched_record}
 use Rattle.groklog_answers.specs.declared.layout.Lines.{Lines}
 use Rattle.groklog_answers.specs.declared.layout.Lines.TheVariants.{All, Matched, Unmatched}
 use Rattle.groklog_answers.specs.declared.layout.Failure.{Failure}
 use Rattle.groklog_answers.specs.declared.layout.Failure.TheVariants.{NoMatch, NotUtf8}
 use Rattle.groklog_answers.specs.declared.layout.OutputFormat.{OutputFormat}
-use Rattle.groklog_answers.specs.declared.layout.OutputFormat.TheVariants.{Json, Pairs}
+use Rattle.groklog_answers.specs.declared.layout.OutputFormat.TheVariants.{Json, Pairs, Csv}
 
 -- What is written for the n-th line, in which a pattern has the match `found`.
 abbrev pub match_text : OutputFormat → LayoutValue → MatchText → ℕ → List ℕ → List ℕ
 match_text Json layout found n line = object_text (match_members layout found n line) ++ codes "\n"
 match_text Pairs layout found n line = match_lines layout found n line
+match_text Csv layout found n line = match_record layout found n line
 
 -- What is written for the n-th line if it has no fields, for the reason `why`.
 abbrev pub unmatched_text : OutputFormat → LayoutValue → ℕ → Failure → List ℕ → List ℕ
 unmatched_text Json layout n why line = object_text (unmatched_members layout n why line) ++ codes "\n"
 unmatched_text Pairs layout n why line = unmatched_lines layout n why line
+unmatched_text Csv layout n why line = unmatched_record layout n why line
 
 -- The answer to a match in the n-th line. It is empty if only unmatched lines are answered.
 abbrev pub match_answer : Lines → LayoutValue → MatchText → ℕ → List ℕ → List ℕ

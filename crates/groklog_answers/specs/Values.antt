@@ -1,9 +1,12 @@
 -- How the value of a key is written in a JSON object.
-use Rattle.std.specs.Prelude.{ℕ, List, [], ◌∷◌, Bool, true, false, ◌&&◌, ◌||◌, ◌==◌, not, Option, Some, None, if◌then◌else◌, codes}
+use Rattle.std.specs.Prelude.{ℕ, ◌-◌, List, [], ◌∷◌, ◌++◌, Bool, true, false, ◌&&◌, ◌||◌, ◌==◌, nat_le, not, Option, Some, None, if◌then◌else◌, codes, length, slice_index}
 use Rattle.std.specs.List.{list_any}
+use Rattle.std.specs.Char.{is_ascii_digit}
 use Rattle.std.specs.Str.{bytes_eq}
 use Rattle.json.specs.Word.{after_number}
 use Rattle.json.specs.Json.{Json, string, number}
+
+-- ---- JSON numbers
 
 -- Whether a parser has consumed all of its text. The argument is the text that it left over, or
 -- `None` if it failed.
@@ -24,14 +27,75 @@ begins_fraction_or_exponent b = (b == 46) || (b == 101) || (b == 69)
 abbrev pub is_json_integer : List ℕ → Bool
 is_json_integer text = is_json_number text && not (list_any begins_fraction_or_exponent text)
 
--- A value is written as a number if the extract of its key is `int` and it is an integer, or if
--- that extract is `float` and it is any number.
-abbrev pub is_written_as_number : Option (List ℕ) → List ℕ → Bool
-is_written_as_number None value = false
-is_written_as_number (Some extract) value =
-    (bytes_eq extract (codes "int") && is_json_integer value)
-    || (bytes_eq extract (codes "float") && is_json_number value)
+-- ---- other ways to write a number
 
--- The value as it is written: a number, byte for byte, or a string.
+-- The text begins with a digit.
+abbrev pub begins_with_digit : List ℕ → Bool
+begins_with_digit [] = false
+begins_with_digit (b ∷ text) = is_ascii_digit b
+
+-- The text begins with a point, and then a digit, as `.5`.
+abbrev pub begins_with_fraction : List ℕ → Bool
+begins_with_fraction [] = false
+begins_with_fraction (b ∷ text) = (b == 46) && begins_with_digit text
+
+-- The text ends with a digit, and then a point, as `5.`.
+abbrev pub ends_with_point : List ℕ → Bool
+ends_with_point text =
+    nat_le 2 (length text)
+    && (is_ascii_digit (slice_index text (length text - 2)) && (slice_index text (length text - 1) == 46))
+
+-- The sign that a JSON number has in place of the sign of the text: a `-` stays.
+abbrev pub json_sign : List ℕ → List ℕ
+json_sign [] = []
+json_sign (b ∷ text) = if b == 45 then codes "-" else []
+
+-- The text begins with a digit, or with a point and a digit.
+abbrev pub begins_with_number : List ℕ → Bool
+begins_with_number text = begins_with_digit text || begins_with_fraction text
+
+-- The text without a `+` that a number follows.
+abbrev pub without_plus : List ℕ → List ℕ
+without_plus [] = []
+without_plus (b ∷ text) = if (b == 43) && begins_with_number text then text else b ∷ text
+
+-- The text without its sign.
+abbrev pub without_sign : List ℕ → List ℕ
+without_sign [] = []
+without_sign (b ∷ text) = if b == 45 then text else without_plus (b ∷ text)
+
+-- The text without the zeros that it begins with, as far as a digit follows: `007` becomes `7`, and
+-- `0.5` stays.
+abbrev pub without_zeros : List ℕ → List ℕ
+without_zeros [] = []
+without_zeros (b ∷ text) = if (b == 48) && begins_with_digit text then without_zeros text else b ∷ text
+
+-- A zero, if one is missing.
+abbrev pub zero_if : Bool → List ℕ
+zero_if is_missing = if is_missing then codes "0" else []
+
+-- The digits with a digit on each side of the point: `.5` becomes `0.5`, and `5.` becomes `5.0`.
+abbrev pub with_both_sides : List ℕ → List ℕ
+with_both_sides digits = zero_if (begins_with_fraction digits) ++ (digits ++ zero_if (ends_with_point digits))
+
+-- The text as JSON would have it, if it is a number: `007` becomes `7`, `+2` becomes `2`, and `-.5`
+-- becomes `-0.5`. A text that is a JSON number stays as it is.
+abbrev pub number_form : List ℕ → List ℕ
+number_form text =
+    if is_json_number text then text
+    else json_sign text ++ with_both_sides (without_zeros (without_sign text))
+
+-- ---- values
+
+-- A text is written as a number if the extract of its key is `int` and it is an integer, or if that
+-- extract is `float` and it is any number. The text is in the form of JSON.
+abbrev pub is_written_as_number : Option (List ℕ) → List ℕ → Bool
+is_written_as_number None form = false
+is_written_as_number (Some extract) form =
+    (bytes_eq extract (codes "int") && is_json_integer form)
+    || (bytes_eq extract (codes "float") && is_json_number form)
+
+-- The value as it is written: a number in the form of JSON, or a string.
 abbrev pub json_value : Option (List ℕ) → List ℕ → Json
-json_value extract value = if is_written_as_number extract value then number value else string value
+json_value extract value =
+    if is_written_as_number extract (number_form value) then number (number_form value) else string value

@@ -1,28 +1,38 @@
--- What contracts see of patterns, of their matches, and of a `LogAnswers`.
-use Rattle.std.specs.Prelude.{ℕ, List, Option, map}
+-- What contracts see of patterns, of their matches, of a `LogAnswers`, and of a `StartPattern`.
+use Rattle.std.specs.Prelude.{ℕ, Bool, List, Option, option_map, map}
 use Rattle.grok.specs.Engines.{engine_regex}
 use Rattle.grok.specs.RegexFinds.{captures_by}
-use Rattle.grok.specs.Answers.{walk}
+use Rattle.grok.specs.Answers.{walk, value_of}
 use Rattle.grok.specs.BorrowedMatches.{borrowed_keys, borrowed_captures}
 use Rattle.grok.specs.declared.engine.regex_engine.RegexEngine.{RegexEngine}
 use Rattle.grok.specs.declared.matches.borrowed.MatchesRef.{MatchesRef}
 use Rattle.groklog_answers.specs.Layouts.{LayoutValue, layout_value}
-use Rattle.groklog_answers.specs.Patterns.{PatternText, MatchText}
+use Rattle.groklog_answers.specs.Plans.{FieldText}
+use Rattle.groklog_answers.specs.PlanViews.{plan_text}
+use Rattle.groklog_answers.specs.Patterns.{PatternText, MatchText, is_found}
+use Rattle.groklog_answers.specs.declared.found.Found.{Found}
 use Rattle.groklog_answers.specs.declared.log_answers.NamedPattern.{NamedPattern}
 use Rattle.groklog_answers.specs.declared.log_answers.Search.{Search}
 use Rattle.groklog_answers.specs.declared.log_answers.LogAnswers.{LogAnswers}
+use Rattle.groklog_answers.specs.declared.start_pattern.StartPattern.{StartPattern}
 
 -- What `regex` captures in each line.
 abbrev pub finds_of : RegexEngine → List ℕ → Option (List (Option (List ℕ)))
 finds_of engine = captures_by (engine_regex engine)
 
--- What contracts see of a pattern: its tag, what its engine finds in a line, its keys, and their extracts.
+-- The plan of a pattern, if it has one.
+abbrev pub named_plan : NamedPattern → Option (List FieldText)
+named_plan named = option_map (λ plan. plan_text plan.now) named.plan
+
+-- What contracts see of a pattern: its tag, what its engine finds in a line, its keys, their extracts,
+-- and its plan.
 abbrev pub pattern_text : NamedPattern → PatternText
 pattern_text named = record {
   tag = named.tag.now;
   finds = finds_of named.pattern.now.engine;
   keys = named.pattern.now.keys;
   extracts = named.pattern.now.extracts;
+  plan = named_plan named;
 }
 
 -- What contracts see of a match of the pattern `named`.
@@ -30,8 +40,18 @@ abbrev pub match_text_of : NamedPattern → MatchesRef → MatchText
 match_text_of named matches = record {
   tag = named.tag.now;
   extracts = named.pattern.now.extracts;
+  plan = named_plan named;
   pairs = walk (borrowed_keys matches) (borrowed_captures matches);
+  value = value_of (borrowed_keys matches) (borrowed_captures matches);
 }
+
+-- The layout of the answer with this match.
+abbrev pub found_layout : Found → LayoutValue
+found_layout found = layout_value found.layout
+
+-- What contracts see of a match that is written.
+abbrev pub found_text : Found → MatchText
+found_text found = match_text_of found.named found.matches
 
 -- The same of a pattern that is searched for by a matcher. The tag is the text that `--tag` writes.
 abbrev pub searched : Search → PatternText
@@ -40,6 +60,7 @@ searched search = record {
   finds = finds_of search.matcher.engine;
   keys = search.matcher.keys;
   extracts = search.named.pattern.now.extracts;
+  plan = named_plan search.named;
 }
 
 -- The patterns of a `LogAnswers`, in the order in which they are tried.
@@ -65,3 +86,7 @@ unmatched_of answers = answers.unmatched
 -- How many lines weren't UTF-8.
 abbrev pub broken_of : LogAnswers → ℕ
 broken_of answers = answers.broken
+
+-- Which lines are starts by a pattern: those in which it is found.
+abbrev pub starts_of : StartPattern → List ℕ → Bool
+starts_of start = is_found (finds_of start.matcher.engine)

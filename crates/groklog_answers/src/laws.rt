@@ -1,6 +1,6 @@
 //! Laws of the answers. The functions do nothing: each states a law in its contract, which is
 //! proved.
-ghost use Rattle.groklog_answers.specs.AnswerLaws.{FirstThatMatchesAnswers, NoneThatMatchesIsNoMatch, EachLineIsAnswered, EachAnswerIsOfOneKind, EachLineHasItsNumber, WithoutNumbersLinesStandAlone, MatchesReadBack, UnmatchedLinesReadBack, ObjectsAreLines};
+ghost use Rattle.groklog_answers.specs.AnswerLaws.{FirstThatMatchesAnswers, NoneThatMatchesIsNoMatch, EachLineIsAnswered, EachAnswerIsOfOneKind, EachLineHasItsNumber, WithoutNumbersLinesStandAlone, EachValueIsAtItsPlace, MatchesReadBack, UnmatchedLinesReadBack, ObjectsAreLines};
 
 /// States that the match of the first pattern that matches a line is the one that is written, and
 /// that there is no match if no pattern matches.
@@ -26,8 +26,16 @@ pub fn numbers()
     ensures none { WithoutNumbersLinesStandAlone }
 {}
 
+/// States that nested members have the values of the plan's fields at their places, in the order of the
+/// plan, and no other values.
+#[tactic(auto, using(crate::proofs::ValuesAreInPlace::each_value_is_at_its_place))]
+pub fn plans()
+    ensures { EachValueIsAtItsPlace }
+{}
+
 /// States that a JSON answer is one line, unless it is empty. Read as JSON, the object of a line
-/// has the members that were written, in the same order.
+/// has the members that were written, in the same order. The plans are those of `Plan`, whose
+/// objects are nested no deeper than readers of JSON take them.
 #[tactic(auto, using(crate::proofs::ObjectsReadBack::matches_read_back, crate::proofs::ObjectsReadBack::unmatched_lines_read_back, crate::proofs::ObjectsAreLines::objects_are_lines))]
 pub fn objects()
     ensures matches { MatchesReadBack }

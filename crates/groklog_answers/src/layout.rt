@@ -1,6 +1,6 @@
 //! Which lines are answered, and how an answer is written.
 ghost use Rattle.std.specs.Prelude.{◌≡◌};
-ghost use Rattle.groklog_answers.specs.Layouts.{failure_words};
+ghost use Rattle.groklog_answers.specs.Layouts.{layout_value, is_chosen, failure_words};
 
 /// Which lines are answered.
 #[derive(Clone, Copy)]
@@ -20,6 +20,9 @@ pub enum OutputFormat {
     Json,
     /// As lines `KEY=VALUE` and an empty line.
     Pairs,
+    /// As a record of comma-separated values on a line of its own. A value that has a comma, a quote or a
+    /// line break is in quotes.
+    Csv,
 }
 
 /// Which lines are answered, and how an answer is written.
@@ -45,8 +48,27 @@ pub struct Layout<'a> {
     /// Whether a value is written as a JSON number if the extract of its key is `int` and the value
     /// is an integer, or if the extract is `float` and the value is any number.
     pub typed: bool,
-    /// Whether fields with an empty value are left out.
+    /// Whether fields with an empty value are left out. A record has them nevertheless.
     pub drops_empty: bool,
+    /// The keys of patterns that are written, or `None` if all are. An object has its members in the
+    /// byte order of their keys all the same. Lines `KEY=VALUE` and records have them in this order, and
+    /// a record has no others: if this is `None`, it has none.
+    pub fields: Option<&'a [&'a str]>,
+    /// Whether a line that has no fields has the member `"tags":["_grokparsefailure"]`, as
+    /// Logstash gives it. Only a JSON object has it.
+    pub tags_failures: bool,
+}
+
+impl Layout<'_> {
+    /// Returns whether a key of a pattern is written.
+    pub(crate) fn chooses(&self, key: &str) -> bool
+        ensures { result ≡ is_chosen (layout_value self.now).fields key.now }
+    {
+        match self.fields {
+            None => true,
+            Some(fields) => fields.contains(&key),
+        }
+    }
 }
 
 /// Why a line has no fields.

@@ -1,26 +1,33 @@
 //! Answers each line with the match of the first pattern that matches it.
-ghost use Rattle.std.specs.Prelude.{◌≡◌, ◌+◌, ◌<◌, [], ◌++◌, if◌then◌else◌, IsErr, OnOk, IfOk, map, true, false, string_bytes};
+ghost use Rattle.std.specs.Prelude.{◌≡◌, ℕ, ◌+◌, ◌<◌, List, [], ◌++◌, if◌then◌else◌, IsErr, OnOk, IfOk, codes, map, true, false, string_bytes};
 ghost use Rattle.std.specs.Str.Lossy.{utf8_lossy};
 ghost use Rattle.std.specs.Option.{is_some};
 ghost use Rattle.groklog_answers.specs.Layouts.{layout_value, in_file, keeps_unmatched};
 ghost use Rattle.groklog_answers.specs.Patterns.{match_of, first_match};
+ghost use Rattle.groklog_answers.specs.Objects.{unmatched_members, object_text};
+ghost use Rattle.groklog_answers.specs.declared.layout.Failure.{Failure};
 ghost use Rattle.groklog_answers.specs.LogAnswers.{match_answer, unmatched_answer, answer_by};
-ghost use Rattle.groklog_answers.specs.Views.{pattern_text, match_text_of, searched, patterns_of, layout_of, next_number_of, matched_of, unmatched_of, broken_of};
+ghost use Rattle.groklog_answers.specs.Views.{pattern_text, found_layout, found_text, searched, patterns_of, layout_of, next_number_of, matched_of, unmatched_of, broken_of};
 
+use crate::found::Found;
 use crate::layout::{Failure, Layout, Lines, OutputFormat};
 use crate::object::{write_match, write_unmatched};
 use crate::pairs::{append_match, append_unmatched};
-use grok::{Matcher, MatchesRef, Pattern};
-use grok_lines::LineAnswers;
+use crate::plan::Plan;
+use crate::record;
+use grok::{Matcher, Pattern};
+use grok_lines::{LineAnswers, SkipLines};
 use std::alloc::{AllocError, Global};
 use std::mem;
 
-/// A pattern with its tag. The tag is a text that names the pattern, such as the one that it was
-/// compiled from.
+/// A pattern with its tag and its plan. The tag is a text that names the pattern, such as the one that
+/// it was compiled from. The plan says where its values are written in a JSON object. Without a plan,
+/// each value is written under its key, in the byte order of the keys.
 #[derive(Clone, Copy)]
 pub struct NamedPattern<'p> {
     pub tag: &'p str,
     pub pattern: &'p Pattern,
+    pub plan: Option<&'p Plan<'p>>,
 }
 
 /// A line with its number.
@@ -110,6 +117,45 @@ impl Layout<'_> {
         }
     }
 
+    /// Returns whether nothing is written of a line that has no fields but an object without members.
+    fn has_no_members(self) -> bool
+        ensures { result ≡ true → (number : ℕ) (why : Failure) (line : List ℕ)
+            → unmatched_members (layout_value self.entry) number why line ≡ [] }
+    {
+        matches!(
+            (
+                self.number,
+                self.file,
+                self.failed,
+                self.tags_failures,
+                self.keep
+            ),
+            (None, None, None, false, None)
+        )
+    }
+
+    /// Appends the JSON object of a line that has no fields, on a line of its own.
+    #[tactic(auto, using(crate::proofs::EmptyObjects::empty_line))]
+    fn append_unmatched_object(
+        self,
+        alloc: Global,
+        answer: &mut Vec<u8>,
+        why: Failure,
+        line: NumberedLine<'_>,
+    ) -> Result<(), AllocError>
+        ensures { OnOk result (answer.new.items ≡ answer.old.items ++ (object_text (unmatched_members
+            (layout_value self.entry) line.entry.number why line.entry.text.now) ++ codes "\n")) }
+    {
+        // Many lines are of another kind than the pattern's, and then a writer takes as long as the
+        // search.
+        if self.has_no_members() {
+            return answer.extend_from_slice(b"{}\n");
+        }
+        let text = mem::replace(answer, Vec::new(alloc));
+        *answer = write_unmatched(text, self, why, line)?;
+        Ok(answer.push(b'\n')?)
+    }
+
     /// Appends the answer to a line that has no fields, for the reason `why`. If only matched lines
     /// are answered, appends nothing.
     fn append_unmatched(
@@ -126,34 +172,31 @@ impl Layout<'_> {
         match (self.lines, self.format) {
             (Lines::Matched, _) => Ok(()),
             (_, OutputFormat::Pairs) => append_unmatched(answer, self, why, line),
-            (_, OutputFormat::Json) => {
-                let text = mem::replace(answer, Vec::new(alloc));
-                *answer = write_unmatched(text, self, why, line)?;
-                Ok(answer.push(b'\n')?)
-            }
+            (_, OutputFormat::Csv) => record::append_unmatched(alloc, answer, self, why, line),
+            (_, OutputFormat::Json) => self.append_unmatched_object(alloc, answer, why, line),
         }
     }
+}
 
-    /// Appends the answer to a line in which the pattern `named` has the match `matches`. If only
-    /// unmatched lines are answered, appends nothing.
-    fn append_match(
-        self,
+impl Found<'_> {
+    /// Appends the answer to a line that has this match. If only unmatched lines are answered, appends
+    /// nothing.
+    fn append_answer(
+        &self,
         alloc: Global,
         answer: &mut Vec<u8>,
-        named: NamedPattern<'_>,
         line: NumberedLine<'_>,
-        matches: MatchesRef<'_>,
     ) -> Result<(), AllocError>
-        ensures { OnOk result (answer.new.items ≡ answer.old.items ++ match_answer self.entry.lines
-            (layout_value self.entry) (match_text_of named.entry matches.entry)
-            line.entry.number line.entry.text.now) }
+        ensures { OnOk result (answer.new.items ≡ answer.old.items ++ match_answer self.now.layout.lines
+            (found_layout self.now) (found_text self.now) line.entry.number line.entry.text.now) }
     {
-        match (self.lines, self.format) {
+        match (self.layout.lines, self.layout.format) {
             (Lines::Unmatched, _) => Ok(()),
-            (_, OutputFormat::Pairs) => append_match(answer, self, named, line, matches),
+            (_, OutputFormat::Pairs) => append_match(answer, self, line),
+            (_, OutputFormat::Csv) => record::append_match(alloc, answer, self, line),
             (_, OutputFormat::Json) => {
                 let text = mem::replace(answer, Vec::new(alloc));
-                *answer = write_match(text, self, named, line, matches)?;
+                *answer = write_match(alloc, text, self, line)?;
                 Ok(answer.push(b'\n')?)
             }
         }
@@ -185,7 +228,12 @@ impl<'p> Search<'p> {
         match self.matcher.find(line.text)? {
             None => Ok(false),
             Some(matches) => {
-                layout.append_match(alloc, answer, named, line, matches)?;
+                let found = Found {
+                    layout,
+                    named,
+                    matches,
+                };
+                found.append_answer(alloc, answer, line)?;
                 self.matched = number_after(self.matched)?;
                 Ok(true)
             }
@@ -345,6 +393,18 @@ impl LineAnswers for LogAnswers<'_> {
         text.extend_from_slice(answer)?;
         self.next_number = next_number;
         self.broken = broken;
+        Ok(())
+    }
+}
+
+impl SkipLines for LogAnswers<'_> {
+    #[tactic(auto, using(crate::proofs::LinesAreNumbered::counts_on))]
+    fn skip_lines(&mut self, count: u64) -> Result<(), AllocError> {
+        let Some(number) = self.next_number.checked_add(count) else {
+            // own error: the next line would have no number. No run reads so many lines.
+            return Err(AllocError);
+        };
+        self.next_number = number;
         Ok(())
     }
 }

@@ -1,24 +1,27 @@
 //! Writes the JSON object of a line.
-ghost use Rattle.std.specs.Prelude.{◌≡◌, ◌++◌, OnOk, IfOk, option_map, flat_map};
-ghost use Rattle.grok.specs.Answers.{walk};
+ghost use Rattle.std.specs.Prelude.{◌≡◌, ◌++◌, OnOk, IfOk, option_map, flat_map, None, true};
 ghost use Rattle.json.specs.Json.{Json};
 ghost use Rattle.json.specs.Tree.{json_tokens};
 ghost use Rattle.grok.specs.Numeral.{numeral};
-ghost use Rattle.grok.specs.BorrowedMatches.{borrowed_keys, borrowed_captures};
 ghost use Rattle.groklog_answers.specs.Layouts.{layout_value};
-ghost use Rattle.groklog_answers.specs.Objects.{member_tokens, field_members, optional_member, number_member, place_members, match_members, unmatched_members, object_text};
-ghost use Rattle.groklog_answers.specs.Views.{match_text_of};
+ghost use Rattle.groklog_answers.specs.Objects.{member_tokens, field_members, optional_member, number_member, failure_tag, fields_by, place_members, match_members, unmatched_members, object_text};
+ghost use Rattle.groklog_answers.specs.Views.{found_layout, found_text};
 
+use crate::found::Found;
 use crate::layout::{Failure, Layout};
-use crate::log_answers::{NamedPattern, NumberedLine};
+use crate::log_answers::NumberedLine;
+use crate::planned::write_planned;
 use crate::values::write_value;
-use grok::{MatchesRef, Pattern};
 use json::Writer;
-use std::alloc::AllocError;
+use std::alloc::{AllocError, Global};
 
 /// Writes a member with the key `name`, whose value is the string `text`. If `name` is `None`,
 /// writes nothing.
-fn write_optional(writer: &mut Writer, name: Option<&str>, text: &str) -> Result<(), AllocError>
+pub(crate) fn write_optional(
+    writer: &mut Writer,
+    name: Option<&str>,
+    text: &str,
+) -> Result<(), AllocError>
     ensures member { OnOk result (writer.new.tokens ≡ writer.old.tokens
         ++ flat_map member_tokens (optional_member (option_map (λ name. name.now) name.entry) text.now)) }
     ensures before { writer.new.before ≡ writer.old.before }
@@ -42,7 +45,11 @@ fn write_decimal(writer: &mut Writer, number: u64) -> Result<(), AllocError>
 
 /// Writes a member with the key `name`, whose value is the number of a line. If `name` is `None`,
 /// writes nothing.
-fn write_number(writer: &mut Writer, name: Option<&str>, number: u64) -> Result<(), AllocError>
+pub(crate) fn write_number(
+    writer: &mut Writer,
+    name: Option<&str>,
+    number: u64,
+) -> Result<(), AllocError>
     ensures member { OnOk result (writer.new.tokens ≡ writer.old.tokens
         ++ flat_map member_tokens (number_member (option_map (λ name. name.now) name.entry) number)) }
     ensures before { writer.new.before ≡ writer.old.before }
@@ -55,47 +62,80 @@ fn write_number(writer: &mut Writer, name: Option<&str>, number: u64) -> Result<
 }
 
 /// Writes a pair of a match. If the layout is typed, the extract of the key decides whether the value
-/// is written as a number. If the layout drops fields with an empty value, writes nothing for one.
+/// is written as a number. If the layout doesn't choose the key, or drops fields with an empty value and
+/// this is one, writes nothing.
 fn write_pair(
+    alloc: Global,
     writer: &mut Writer,
-    layout: Layout<'_>,
-    pattern: &Pattern,
+    found: &Found<'_>,
     key: &str,
     value: &str,
 ) -> Result<(), AllocError>
     ensures member { OnOk result (writer.new.tokens ≡ writer.old.tokens ++ flat_map member_tokens
-        (field_members (layout_value layout.entry) pattern.now.extracts (key.now, value.now))) }
+        (field_members (found_layout found.now) (found_text found.now).extracts (key.now, value.now))) }
     ensures before { writer.new.before ≡ writer.old.before }
 {
-    if layout.drops_empty && value.is_empty() {
+    if !found.layout.chooses(key) || (found.layout.drops_empty && value.is_empty()) {
         return Ok(());
     }
     writer.key(key)?;
-    let extract = if layout.typed {
-        pattern.get_extract(key)
+    let extract = if found.layout.typed {
+        found.named.pattern.get_extract(key)
     } else {
         None
     };
-    write_value(writer, extract, value)
+    write_value(alloc, writer, extract, value)
 }
 
 /// Writes the pairs of a match.
 #[tactic(auto, using(crate::proofs::TokensOfMembers::tokens_append))]
-fn write_pairs(
-    writer: &mut Writer,
-    layout: Layout<'_>,
-    pattern: &Pattern,
-    matches: MatchesRef<'_>,
-) -> Result<(), AllocError>
+fn write_pairs(alloc: Global, writer: &mut Writer, found: &Found<'_>) -> Result<(), AllocError>
     ensures members { OnOk result (writer.new.tokens ≡ writer.old.tokens
-        ++ flat_map member_tokens (flat_map (field_members (layout_value layout.entry) pattern.now.extracts)
-        (walk (borrowed_keys matches.entry) (borrowed_captures matches.entry)))) }
+        ++ flat_map member_tokens (fields_by (found_layout found.now) (found_text found.now) None)) }
     ensures before { writer.new.before ≡ writer.old.before }
 {
-    'pairs: for (key, value) in matches.iter() {
-        write_pair(writer, layout, pattern, key, value)?;
+    'pairs: for (key, value) in found.matches.iter() {
+        write_pair(alloc, writer, found, key, value)?;
     }
     Ok(())
+}
+
+/// Writes the fields of a match: those of the plan, if the pattern has one, and otherwise the pairs.
+fn write_fields(alloc: Global, writer: &mut Writer, found: &Found<'_>) -> Result<(), AllocError>
+    ensures members { OnOk result (writer.new.tokens ≡ writer.old.tokens ++ flat_map member_tokens
+        (fields_by (found_layout found.now) (found_text found.now) (found_text found.now).plan)) }
+    ensures before { writer.new.before ≡ writer.old.before }
+{
+    match found.named.plan {
+        None => write_pairs(alloc, writer, found),
+        Some(plan) => write_planned(alloc, writer, found, &plan.fields),
+    }
+}
+
+/// Writes the member with the tag of Logstash for lines that have no fields.
+#[tactic(auto, using(crate::proofs::TokensOfMembers::four_tokens))]
+fn write_tag_of_failure(writer: &mut Writer) -> Result<(), AllocError>
+    ensures member { OnOk result (writer.new.tokens ≡ writer.old.tokens
+        ++ flat_map member_tokens (failure_tag true)) }
+    ensures before { writer.new.before ≡ writer.old.before }
+{
+    writer.key("tags")?;
+    writer.begin_array()?;
+    writer.string("_grokparsefailure")?;
+    writer.end_array()
+}
+
+/// Writes that member if `tags_failures` is set, and otherwise nothing.
+fn write_failure_tag(writer: &mut Writer, tags_failures: bool) -> Result<(), AllocError>
+    ensures member { OnOk result (writer.new.tokens ≡ writer.old.tokens
+        ++ flat_map member_tokens (failure_tag tags_failures)) }
+    ensures before { writer.new.before ≡ writer.old.before }
+{
+    if tags_failures {
+        write_tag_of_failure(writer)
+    } else {
+        Ok(())
+    }
 }
 
 /// Writes which line it is: its number and the name of its file, as far as the layout asks for them.
@@ -112,28 +152,27 @@ fn write_place(writer: &mut Writer, layout: Layout<'_>, number: u64) -> Result<(
 /// Appends the compact JSON object of a match in this line, and returns the whole text.
 #[tactic(auto, using(crate::proofs::TokensOfMembers::object_in_four_parts))]
 pub fn write_match(
+    alloc: Global,
     text: Vec<u8>,
-    layout: Layout<'_>,
-    named: NamedPattern<'_>,
+    found: &Found<'_>,
     line: NumberedLine<'_>,
-    matches: MatchesRef<'_>,
 ) -> Result<Vec<u8>, AllocError>
     ensures { IfOk result (λ written. written.items ≡ text.items ++ object_text (match_members
-        (layout_value layout.entry) (match_text_of named.entry matches.entry)
-        line.entry.number line.entry.text.now)) }
+        (found_layout found.now) (found_text found.now) line.entry.number line.entry.text.now)) }
 {
+    let layout = found.layout;
     let mut writer = Writer::new(text);
     writer.begin_object()?;
     write_place(&mut writer, layout, line.number)?;
-    write_optional(&mut writer, layout.tag, named.tag)?;
-    write_pairs(&mut writer, layout, named.pattern, matches)?;
+    write_optional(&mut writer, layout.tag, found.named.tag)?;
+    write_fields(alloc, &mut writer, found)?;
     write_optional(&mut writer, layout.keep, line.text)?;
     writer.end_object()?;
     Ok(writer.into_inner())
 }
 
 /// Appends the JSON object of a line that has no fields, and returns the whole text.
-#[tactic(auto, using(crate::proofs::TokensOfMembers::object_in_three_parts))]
+#[tactic(auto, using(crate::proofs::TokensOfMembers::object_in_four_parts))]
 pub fn write_unmatched(
     text: Vec<u8>,
     layout: Layout<'_>,
@@ -147,6 +186,7 @@ pub fn write_unmatched(
     writer.begin_object()?;
     write_place(&mut writer, layout, line.number)?;
     write_optional(&mut writer, layout.failed, why.words())?;
+    write_failure_tag(&mut writer, layout.tags_failures)?;
     write_optional(&mut writer, layout.keep, line.text)?;
     writer.end_object()?;
     Ok(writer.into_inner())

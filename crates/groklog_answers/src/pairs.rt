@@ -1,14 +1,16 @@
 //! Writes the `KEY=VALUE` lines for a line of a log.
-ghost use Rattle.std.specs.Prelude.{◌≡◌, ◌++◌, OnOk, option_map, flat_map};
+ghost use Rattle.std.specs.Prelude.{◌≡◌, ◌++◌, Some, OnOk, option_map, flat_map, map};
 ghost use Rattle.grok.specs.Answers.{walk};
 ghost use Rattle.grok.specs.BorrowedMatches.{borrowed_keys, borrowed_captures};
 ghost use Rattle.grok.specs.Numeral.{numeral};
 ghost use Rattle.groklog_answers.specs.Layouts.{layout_value};
-ghost use Rattle.groklog_answers.specs.PairTexts.{optional_line, field_line, place_lines, match_lines, unmatched_lines};
-ghost use Rattle.groklog_answers.specs.Views.{match_text_of};
+ghost use Rattle.grok.specs.Maps.{pair_texts};
+ghost use Rattle.groklog_answers.specs.PairTexts.{optional_line, field_line, pair_with, chosen_pairs, place_lines, match_lines, unmatched_lines};
+ghost use Rattle.groklog_answers.specs.Views.{found_layout, found_text};
 
+use crate::found::Found;
 use crate::layout::{Failure, Layout};
-use crate::log_answers::{NamedPattern, NumberedLine};
+use crate::log_answers::NumberedLine;
 use grok::MatchesRef;
 use grok_lines::append_pair;
 use itoa::Buffer;
@@ -57,7 +59,7 @@ fn append_field(
 }
 
 /// Appends a `KEY=VALUE` line for each pair of a match.
-fn append_pairs(
+fn append_all(
     text: &mut Vec<u8>,
     layout: Layout<'_>,
     matches: MatchesRef<'_>,
@@ -71,6 +73,54 @@ fn append_pairs(
     Ok(())
 }
 
+/// Returns the pair of a match with this key, or `None` if there is none.
+pub fn pair_with<'m>(matches: MatchesRef<'m>, name: &str) -> Option<(&'m str, &'m str)>
+    ensures { option_map pair_texts result
+        ≡ pair_with name.now (walk (borrowed_keys matches.entry) (borrowed_captures matches.entry)) }
+{
+    'pairs: for (key, value) in matches.iter() {
+        if key == name {
+            return Some((key, value));
+        }
+    }
+    None
+}
+
+/// Appends a `KEY=VALUE` line for each of these keys that has a value in a match.
+fn append_chosen(
+    text: &mut Vec<u8>,
+    layout: Layout<'_>,
+    names: &[&str],
+    matches: MatchesRef<'_>,
+) -> Result<(), AllocError>
+    ensures { OnOk result (text.new.items ≡ text.old.items ++ flat_map (field_line (layout_value layout.entry))
+        (chosen_pairs (Some (map (λ name. name.now) names.now))
+        (walk (borrowed_keys matches.entry) (borrowed_captures matches.entry)))) }
+{
+    'names: for name in names {
+        if let Some((key, value)) = pair_with(matches, name) {
+            append_field(text, layout, key, value)?;
+        }
+    }
+    Ok(())
+}
+
+/// Appends a `KEY=VALUE` line for each pair of a match that the layout chooses, in its order.
+fn append_pairs(
+    text: &mut Vec<u8>,
+    layout: Layout<'_>,
+    matches: MatchesRef<'_>,
+) -> Result<(), AllocError>
+    ensures { OnOk result (text.new.items ≡ text.old.items ++ flat_map (field_line (layout_value layout.entry))
+        (chosen_pairs (layout_value layout.entry).fields
+        (walk (borrowed_keys matches.entry) (borrowed_captures matches.entry)))) }
+{
+    match layout.fields {
+        None => append_all(text, layout, matches),
+        Some(names) => append_chosen(text, layout, names, matches),
+    }
+}
+
 /// Appends which line it is: its number and the name of its file, as far as the layout asks for them.
 fn append_place(text: &mut Vec<u8>, layout: Layout<'_>, number: u64) -> Result<(), AllocError>
     ensures { OnOk result (text.new.items ≡ text.old.items
@@ -80,21 +130,24 @@ fn append_place(text: &mut Vec<u8>, layout: Layout<'_>, number: u64) -> Result<(
     append_optional(text, layout.file, layout.file_name)
 }
 
-/// Appends the `KEY=VALUE` lines for a match in this line, and an empty line.
+/// Appends what `--pairs` writes for a line that a pattern matches: a line `KEY=VALUE` for each
+/// value, and an empty line.
+///
+/// # Errors
+///
+/// If an allocation fails.
 pub fn append_match(
     text: &mut Vec<u8>,
-    layout: Layout<'_>,
-    named: NamedPattern<'_>,
+    found: &Found<'_>,
     line: NumberedLine<'_>,
-    matches: MatchesRef<'_>,
 ) -> Result<(), AllocError>
-    ensures { OnOk result (text.new.items ≡ text.old.items ++ match_lines
-        (layout_value layout.entry) (match_text_of named.entry matches.entry)
-        line.entry.number line.entry.text.now) }
+    ensures { OnOk result (text.new.items ≡ text.old.items ++ match_lines (found_layout found.now)
+        (found_text found.now) line.entry.number line.entry.text.now) }
 {
+    let layout = found.layout;
     append_place(text, layout, line.number)?;
-    append_optional(text, layout.tag, named.tag)?;
-    append_pairs(text, layout, matches)?;
+    append_optional(text, layout.tag, found.named.tag)?;
+    append_pairs(text, layout, found.matches)?;
     append_optional(text, layout.keep, line.text)?;
     text.push(b'\n')?;
     Ok(())

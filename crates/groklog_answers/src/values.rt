@@ -1,11 +1,12 @@
 //! Writes the value of a key in a JSON object.
-ghost use Rattle.std.specs.Prelude.{◌≡◌, ◌++◌, OnOk, option_map};
+ghost use Rattle.std.specs.Prelude.{◌≡◌, ◌++◌, OnOk, IfOk, option_map, string_bytes, if◌then◌else◌};
 ghost use Rattle.std.specs.List.{list_any};
+ghost use Rattle.json.specs.Json.{Json, number, string};
 ghost use Rattle.json.specs.Tree.{json_tokens};
-ghost use Rattle.groklog_answers.specs.Values.{is_json_number, is_json_integer, begins_fraction_or_exponent, is_written_as_number, json_value};
+ghost use Rattle.groklog_answers.specs.Values.{is_json_number, is_json_integer, begins_fraction_or_exponent, begins_with_digit, begins_with_fraction, ends_with_point, json_sign, begins_with_number, without_plus, without_sign, without_zeros, zero_if, with_both_sides, number_form, is_written_as_number, json_value};
 
 use json::{Writer, is_number};
-use std::alloc::AllocError;
+use std::alloc::{AllocError, Global};
 
 /// Returns whether a text is a JSON number.
 #[tactic(auto, using(crate::proofs::NumbersAreJson::number_is_decided))]
@@ -31,24 +32,127 @@ fn is_json_integer(text: &str) -> bool
     is_json_number(text) && !has_fraction_or_exponent(text)
 }
 
-/// Returns whether a value is written as a JSON number. The extract of its key decides this
-/// together with the value.
-fn is_written_as_number(extract: Option<&str>, value: &str) -> bool
-    ensures { result ≡ is_written_as_number (option_map (λ extract. extract.now) extract.entry) value.now }
+/// Returns whether a text begins with a digit.
+fn begins_with_digit(text: &str) -> bool
+    ensures { result ≡ begins_with_digit text.now }
 {
-    match extract {
-        None => false,
-        Some(extract) => {
-            (extract == "int" && is_json_integer(value))
-                || (extract == "float" && is_json_number(value))
-        }
+    match text.as_bytes() {
+        [first, ..] => first.is_ascii_digit(),
+        [] => false,
     }
 }
 
-/// Writes a value: as a number, byte for byte, if the extract asks for one and the value is one,
-/// and otherwise as a string.
+/// Returns whether a text begins with a point, and then a digit.
+fn begins_with_fraction(text: &str) -> bool
+    ensures { result ≡ begins_with_fraction text.now }
+{
+    match text.strip_prefix('.') {
+        Some(rest) => begins_with_digit(rest),
+        None => false,
+    }
+}
+
+/// Returns whether a text ends with a digit, and then a point.
+fn ends_with_point(text: &str) -> bool
+    ensures { result ≡ ends_with_point text.now }
+{
+    let bytes = text.as_bytes();
+    let len = bytes.len();
+    len >= 2 && bytes[len - 2].is_ascii_digit() && bytes[len - 1] == b'.'
+}
+
+/// Returns whether a text begins with a digit, or with a point and a digit.
+fn begins_with_number(text: &str) -> bool
+    ensures { result ≡ begins_with_number text.now }
+{
+    begins_with_digit(text) || begins_with_fraction(text)
+}
+
+/// Returns a text without the `+` that it begins with, if a number follows.
+fn without_plus(text: &str) -> &str
+    ensures { result.now ≡ without_plus text.now }
+{
+    let Some(rest) = text.strip_prefix('+') else {
+        return text;
+    };
+    if begins_with_number(rest) { rest } else { text }
+}
+
+/// Returns the sign of the JSON number that a text may be, and the text without its sign.
+fn split_sign(text: &str) -> (&'static str, &str)
+    ensures sign { result.0.now ≡ json_sign text.now }
+    ensures rest { result.1.now ≡ without_sign text.now }
+{
+    match text.strip_prefix('-') {
+        Some(rest) => ("-", rest),
+        None => ("", without_plus(text)),
+    }
+}
+
+/// Returns a text without the zeros that it begins with, as far as a digit follows.
+fn without_zeros(text: &str) -> &str
+    ensures { result.now ≡ without_zeros text.now }
+{
+    let mut rest = text;
+    'zeros: loop {
+        let Some(after) = rest.strip_prefix('0') else {
+            return rest;
+        };
+        if !begins_with_digit(after) {
+            return rest;
+        }
+        rest = after;
+    }
+}
+
+/// Returns a zero if one is missing, and otherwise the empty text.
+fn zero_if(is_missing: bool) -> &'static str
+    ensures { result.now ≡ zero_if is_missing }
+{
+    if is_missing { "0" } else { "" }
+}
+
+/// Returns a text that isn't a JSON number as JSON would have it, if it is a number.
+fn other_form(alloc: Global, text: &str) -> Result<String, AllocError>
+    ensures { IfOk result (λ form. string_bytes form
+        ≡ json_sign text.now ++ with_both_sides (without_zeros (without_sign text.now))) }
+{
+    let (sign, unsigned) = split_sign(text);
+    let digits = without_zeros(unsigned);
+    let mut form = String::from_str(alloc, sign)?;
+    form.push_str(zero_if(begins_with_fraction(digits)))?;
+    form.push_str(digits)?;
+    form.push_str(zero_if(ends_with_point(digits)))?;
+    Ok(form)
+}
+
+/// Returns whether a text in the form of JSON is written as a number if `extract` is the extract of
+/// its key.
+fn is_written_as_number(extract: &str, form: &str) -> bool
+    ensures { result ≡ is_written_as_number (Some extract.now) form.now }
+{
+    (extract == "int" && is_json_integer(form)) || (extract == "float" && is_json_number(form))
+}
+
+/// Writes a text as a number if `extract`, which is the extract of its key, asks for one and `form`,
+/// which is the text in the form of JSON, is one. Otherwise writes it as a string.
 #[tactic(auto, using(crate::proofs::NumbersAreJson::is_number, crate::proofs::NumbersAreJson::written_is_number))]
+fn write_form(writer: &mut Writer, extract: &str, form: &str, text: &str) -> Result<(), AllocError>
+    ensures value { OnOk result (writer.new.tokens ≡ writer.old.tokens
+        ++ json_tokens (if is_written_as_number (Some extract.now) form.now then number form.now else string text.now)) }
+    ensures before { writer.new.before ≡ writer.old.before }
+{
+    if is_written_as_number(extract, form) {
+        writer.number(form)
+    } else {
+        writer.string(text)
+    }
+}
+
+/// Writes a value: as a number in the form of JSON if the extract asks for one and the value is one,
+/// and otherwise as a string.
 pub fn write_value(
+    alloc: Global,
     writer: &mut Writer,
     extract: Option<&str>,
     value: &str,
@@ -57,9 +161,12 @@ pub fn write_value(
         ++ json_tokens (json_value (option_map (λ extract. extract.now) extract.entry) value.now)) }
     ensures before { writer.new.before ≡ writer.old.before }
 {
-    if is_written_as_number(extract, value) {
-        writer.number(value)
-    } else {
-        writer.string(value)
+    let Some(extract) = extract else {
+        return writer.string(value);
+    };
+    if is_json_number(value) {
+        return write_form(writer, extract, value, value);
     }
+    let form = other_form(alloc, value)?;
+    write_form(writer, extract, form.as_str(), value)
 }

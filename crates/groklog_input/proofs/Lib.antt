@@ -1,4 +1,4 @@
-pub mod NamesAndBlanksEndAtBoundaries
+pub mod BlanksEndAtBoundaries
 pub mod FirstCharacterDecides
 pub mod ShownTextHasNoRawCharacter
 mod LinesAreFormed

@@ -142,6 +142,11 @@ all_shown [] is = printing_is_safe [] none_print
 all_shown (c ∷ cs) is = safe_append (shown_char c) (flat_map shown_char cs)
     (shown_if c (is_raw c) refl (and_left (scalar c) (scalars cs) is)) (all_shown cs (and_right (scalar c) (scalars cs) is))
 
+-- The characters that are shown.
+pub shown_characters : (text : List ℕ) → IsUtf8 text → list_any is_raw (flat_map shown_char (chars text)) ≡ false
+unfolding AreSafe
+shown_characters text is = (all_shown (chars text) (scalars-chars text is)).0
+
 pub safe : (text : List ℕ) → IsUtf8 text → has_raw (visible text) ≡ false
 unfolding visible AreSafe
 safe text is =

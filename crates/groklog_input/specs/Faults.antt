@@ -1,14 +1,14 @@
 -- What contracts see of a part that is wrong, the text and the exit status of each fault, and which fault reports
 -- which failure.
 use Rattle.std.specs.Prelude.{◌≡◌, ◌≢◌, ℕ, List, [], ◌∷◌, ◌++◌, Option, Some, None, MatchOption, codes, flat_map, string_bytes}
-use Rattle.std.specs.Option.{unwrap_or}
-use Rattle.std.specs.IoError.{error_kind}
+use Rattle.std.specs.IoError.{error_kind, raw_os_error}
 use Rattle.std.specs.declared.io.Error.{Error}
 use Rattle.std.specs.declared.io.ErrorKind.{ErrorKind}
 use Rattle.std.specs.declared.io.ErrorKind.TheVariants.{OutOfMemory, BrokenPipe, Other}
 use Rattle.grok_lines.specs.declared.error.LinesError.{LinesError}
 use Rattle.grok_lines.specs.declared.error.LinesError.TheVariants as lines
 use Rattle.groklog_input.specs.Visible.{visible}
+use Rattle.groklog_input.specs.declared.failure.Failure.{Failure}
 use Rattle.groklog_input.specs.declared.fault.FaultyPart.{FaultyPart}
 use Rattle.groklog_input.specs.declared.fault.Report.{Report}
 use Rattle.groklog_input.specs.declared.fault.Fault.{Fault}
@@ -86,6 +86,15 @@ IsDeviceFault Memory = Unit {0}
 IsDeviceFault (Read report) = Unit {0}
 IsDeviceFault (Write report) = Unit {0}
 
+-- why a call failed that returned this error: its kind, and the number of the system if there is one
+abbrev pub failure_of : Error → Failure
+failure_of error = record { kind = error_kind error; number = raw_os_error error }
+
+-- the kind of a failure, or `Other` if none is known
+abbrev pub kind_of : Option Failure → ErrorKind
+kind_of None = Other
+kind_of (Some failure) = failure.kind
+
 -- The fault reports that a file couldn't be opened or read: `Memory` if an allocation failed, and otherwise `Read`.
 abbrev pub IsFaultOfFile : ErrorKind → Fault → Type 0
 IsFaultOfFile kind fault = (kind ≡ OutOfMemory → fault ≡ Memory) × (kind ≢ OutOfMemory → IsReadFault fault)
@@ -97,7 +106,7 @@ IsFaultOfWrite error found = (error_kind error ≡ BrokenPipe → found ≡ None
     × (error_kind error ≢ BrokenPipe → MatchOption found ⊥ IsWriteFault)
 
 -- `found` reports why answering lines ended. If reading failed, `failure` says why.
-abbrev pub IsFaultOfLines : Option ErrorKind → LinesError → Option Fault → Type 0
+abbrev pub IsFaultOfLines : Option Failure → LinesError → Option Fault → Type 0
 IsFaultOfLines failure lines.Memory found = found ≡ Some Memory
-IsFaultOfLines failure lines.Read found = MatchOption found ⊥ (IsFaultOfFile (unwrap_or failure Other))
+IsFaultOfLines failure lines.Read found = MatchOption found ⊥ (IsFaultOfFile (kind_of failure))
 IsFaultOfLines failure (lines.Write error) found = IsFaultOfWrite error found

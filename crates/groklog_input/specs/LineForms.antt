@@ -1,6 +1,6 @@
 -- How a line of a log is read before patterns are searched for in it, and what the lines show about their input.
-use Rattle.std.specs.Prelude.{ℕ, ◌+◌, ◌-◌, ◌==◌, List, [], ◌∷◌, Bool, if◌then◌else◌, codes, length, take, drop}
-use Rattle.std.specs.List.{starts_with, ends_with}
+use Rattle.std.specs.Prelude.{ℕ, ◌-◌, ◌==◌, List, [], ◌∷◌, Bool, if◌then◌else◌, codes, length, take, drop, map}
+use Rattle.std.specs.List.{starts_with, ends_with, enumerate_from}
 use Rattle.std.specs.Str.Lossy.{utf8_lossy}
 use Rattle.groklog_input.specs.declared.line_form.LineForm.{LineForm}
 use Rattle.groklog_input.specs.declared.line_form.Encoding.{Encoding}
@@ -34,10 +34,9 @@ trimmed form is_first line =
 abbrev pub formed : LineForm → ℕ → List ℕ → List ℕ
 formed form n line = if form.is_lossy then utf8_lossy (trimmed form (n == 0) line) else trimmed form (n == 0) line
 
--- The answers to the lines of an input, of which `count` were answered before. `answer n line` answers the n-th line as
--- it is read.
-abbrev pub formed_answers : (ℕ → List ℕ → List ℕ) → LineForm → ℕ → ℕ → List ℕ → List ℕ
-formed_answers answer form count n line = answer n (formed form (count + n) line)
+-- How these lines are read if `count` lines of their input come before them.
+abbrev pub formed_lines : LineForm → ℕ → List (List ℕ) → List (List ℕ)
+formed_lines form count lines = map (λ line. formed form line.0 line.1) (enumerate_from count lines)
 
 -- ---- what the lines show about their input
 

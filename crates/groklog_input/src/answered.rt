@@ -1,12 +1,13 @@
 //! Answers the lines of an input, and reports why an input or the output failed.
 ghost use Rattle.std.specs.Prelude.{◌≡◌, IfOk, IfErr};
-ghost use Rattle.grok_lines.specs.Streams.{answers_of, HasAnsweredInputThen, HasAnsweredEnded};
+ghost use Rattle.grok_lines.specs.Streams.{HasAnsweredInputAnd, HasAnsweredEndedAnd};
 ghost use Rattle.grok_lines.specs.Traffic.{traffic};
 ghost use Rattle.groklog_input.specs.Faults.{IsReadFault, IsDeviceFault, IsFaultOfFile, IsFaultOfWrite, IsFaultOfLines};
 
+use crate::failure::Failure;
 use crate::fault::{Fault, Report};
 use crate::watched::Watched;
-use grok_lines::{LineAnswers, LinesError, answer_lines};
+use grok_lines::{LineHandler, LinesError, handle_lines};
 use std::alloc::{AllocError, Global};
 use std::io::{self, ErrorKind, Read, Write};
 
@@ -33,10 +34,10 @@ fn advice_for_unreadable(kind: ErrorKind) -> &'static str {
 /// # Errors
 ///
 /// If an allocation fails.
-pub fn file_fault(alloc: Global, file: &str, kind: ErrorKind) -> Result<Fault, AllocError>
-    ensures { IfOk result (IsFaultOfFile kind) }
+pub fn file_fault(alloc: Global, file: &str, failure: Failure) -> Result<Fault, AllocError>
+    ensures { IfOk result (IsFaultOfFile failure.kind) }
 {
-    let (what, advice) = match kind {
+    let (what, advice) = match failure.kind {
         // own error: the file could not be read because an allocation failed.
         ErrorKind::OutOfMemory => return Ok(Fault::Memory),
         ErrorKind::NotFound => (
@@ -45,7 +46,7 @@ pub fn file_fault(alloc: Global, file: &str, kind: ErrorKind) -> Result<Fault, A
         ),
         ErrorKind::InvalidData => (format!(in alloc; "{file} isn't UTF-8")?, "save it as UTF-8"),
         kind => (
-            format!(in alloc; "can't read {file}: {kind}")?,
+            format!(in alloc; "can't read {file}: {failure}")?,
             advice_for_unreadable(kind),
         ),
     };
@@ -65,8 +66,13 @@ pub fn write_fault(alloc: Global, error: &io::Error) -> Result<Option<Fault>, Al
     if error.kind() == ErrorKind::BrokenPipe {
         return Ok(None);
     }
-    let what = format!(in alloc; "can't write the answers: {error}")?;
-    let advice = match error.kind() {
+    let failure = Failure::of(error);
+    // The error may have words of its own, but not if the system's number alone says what it is.
+    let what = match failure.kind {
+        ErrorKind::Uncategorized => format!(in alloc; "can't write the answers: {failure}")?,
+        _ => format!(in alloc; "can't write the answers: {error}")?,
+    };
+    let advice = match failure.kind {
         ErrorKind::StorageFull | ErrorKind::QuotaExceeded => {
             "free some space, or write to another disk"
         }
@@ -82,7 +88,7 @@ pub fn write_fault(alloc: Global, error: &io::Error) -> Result<Option<Fault>, Al
 fn lines_fault(
     alloc: Global,
     name: &str,
-    failure: Option<ErrorKind>,
+    failure: Option<Failure>,
     error: &LinesError,
 ) -> Result<Option<Fault>, AllocError>
     ensures { IfOk result (IsFaultOfLines failure error.now) }
@@ -91,20 +97,24 @@ fn lines_fault(
         // own error: `grok_lines` reported that an allocation failed.
         LinesError::Memory => Ok(Some(Fault::Memory)),
         LinesError::Read => {
-            // own error: reading ended without a reason, which no run does.
-            let kind = failure.unwrap_or(ErrorKind::Other);
-            Ok(Some(file_fault(alloc, name, kind)?))
+            let failure = failure.unwrap_or(Failure {
+                // own error: reading ended without a reason, which no run does.
+                kind: ErrorKind::Other,
+                number: None,
+            });
+            Ok(Some(file_fault(alloc, name, failure)?))
         }
         LinesError::Write(error) => write_fault(alloc, error),
     }
 }
 
-/// Answers each line of an input, and writes the answers to `output`. Faults call the input `name`.
+/// Has each line of an input handled, and then its end, and writes the answers to `output`. Faults call
+/// the input `name`.
 ///
 /// # Errors
 ///
 /// Returns an error if an allocation, reading or writing fails.
-pub fn answer_input<A: LineAnswers, R: Read, W: Write>(
+pub fn answer_input<A: LineHandler, R: Read, W: Write>(
     alloc: Global,
     answers: &mut A,
     input: &mut Watched<'_, R>,
@@ -112,16 +122,16 @@ pub fn answer_input<A: LineAnswers, R: Read, W: Write>(
     name: &str,
 ) -> Result<Answered, Fault>
     ensures all { IfOk result (λ answered. answered ≡ Answered.All
-        → HasAnsweredInputThen (A.answer answers.old) (A.answer answers.new)
+        → HasAnsweredInputAnd (A.answers answers.old) (λ lines. A.is_next answers.old lines answers.new)
         (traffic (R.remaining input.old.input) (R.remaining input.new.input)
         (W.contents output.old) (W.contents output.new))) }
     ensures read { IfErr result (λ fault. IsReadFault fault
-        → HasAnsweredEnded (answers_of (A.answer answers.old))
+        → HasAnsweredEndedAnd (A.answers answers.old) (λ lines. A.is_next answers.old lines answers.new)
         (traffic (R.remaining input.old.input) (R.remaining input.new.input)
         (W.contents output.old) (W.contents output.new))) }
     ensures kind { IfErr result IsDeviceFault }
 {
-    let answered = answer_lines(alloc, answers, input, output);
+    let answered = handle_lines(alloc, answers, input, output);
     let failure = input.finish();
     match answered {
         Ok(()) => Ok(Answered::All),

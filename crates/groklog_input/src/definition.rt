@@ -1,30 +1,17 @@
 //! Reads a definition as users write it, in a line of a file or in a word after `-D`.
 ghost use Rattle.std.specs.Prelude.{◌≡◌, drop, option_map};
-ghost use Rattle.std.specs.List.{prefix_len, take_while};
+ghost use Rattle.std.specs.List.{prefix_len};
 ghost use Rattle.grok.specs.Ascii.{equals_sign};
 ghost use Rattle.grok.specs.Maps.{pair_texts};
-ghost use Rattle.grok.specs.Pieces.{is_name_byte};
 ghost use Rattle.groklog_input.specs.Definitions.{is_blank, without_blanks, begins_with, definition_after_blanks, definition_after, definition_of, is_spaced, name_of_spaced};
 
-/// Returns whether a name may have this byte.
-fn is_name_byte(b: u8) -> bool
-    ensures { result ≡ is_name_byte b }
-{
-    b.is_ascii_alphanumeric() || b == b'_'
-}
+use grok::parser::split_name;
 
 /// Returns whether the byte is a space or a tab.
 fn is_blank(b: u8) -> bool
     ensures { result ≡ is_blank b }
 {
     b == b' ' || b == b'\t'
-}
-
-/// Returns how many bytes at the start of a text belong to a name.
-fn name_len(text: &[u8]) -> usize
-    ensures { result ≡ prefix_len is_name_byte text.now }
-{
-    text.iter().take_while(|b| is_name_byte(**b)).count()
 }
 
 /// Returns how many blanks a text begins with.
@@ -34,18 +21,8 @@ fn blanks_len(text: &[u8]) -> usize
     text.iter().take_while(|b| is_blank(**b)).count()
 }
 
-/// Splits a text after the name that it begins with. If it doesn't begin with a name, the first
-/// part is empty.
-#[tactic(auto, using(crate::proofs::NamesAndBlanksEndAtBoundaries::run_ends))]
-fn split_name(text: &str) -> (&str, &str)
-    ensures name { result.0.now ≡ take_while is_name_byte text.now }
-    ensures rest { result.1.now ≡ drop (prefix_len is_name_byte text.now) text.now }
-{
-    text.split_at(name_len(text.as_bytes()))
-}
-
 /// Returns the text without its leading blanks, which are spaces and tabs.
-#[tactic(auto, using(crate::proofs::NamesAndBlanksEndAtBoundaries::run_ends))]
+#[tactic(auto, using(crate::proofs::BlanksEndAtBoundaries::run_ends))]
 pub fn skip_blanks(text: &str) -> &str
     ensures { result.now ≡ without_blanks text.now }
 {

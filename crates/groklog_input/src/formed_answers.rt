@@ -1,21 +1,21 @@
-//! Answers lines that are read in a certain form.
-ghost use Rattle.std.specs.Prelude.{◌≡◌, ◌+◌, ◌<◌, ◌++◌, if◌then◌else◌, IsErr, OnOk, OnErr};
+//! Handles lines after reading each in the form that the options ask for.
+ghost use Rattle.std.specs.Prelude.{◌≡◌, ◌+◌, ◌<◌, ◌++◌, ◌∷◌, [], if◌then◌else◌, IsErr, OnOk, OnErr};
 ghost use Rattle.std.specs.Str.Lossy.{utf8_lossy};
-ghost use Rattle.grok_lines.specs.Streams.{AreAnswersAfter};
+ghost use Rattle.grok_lines.specs.Streams.{GoesOn};
 
 use crate::line_form::{Encoding, LineForm, Signs};
-use grok_lines::LineAnswers;
+use grok_lines::LineHandler;
 use std::alloc::{AllocError, Global};
 
-/// Answers the lines of inputs, after reading each line as the form says, and remembers what the
-/// lines show about their input.
+/// Reads each line of an input in the form that the options ask for (`--crlf`, `--lossy`), has it
+/// handled by `answers`, and remembers what the lines show about how their input was written.
 #[derive(Drop)]
 pub struct FormedAnswers<A> {
     alloc: Global,
-    /// Answers the lines as they are read.
+    /// Handles the lines as they are read.
     pub answers: A,
     pub form: LineForm,
-    /// How many lines of this input were answered.
+    /// How many lines of this input were handled.
     pub line_count: u64,
     pub signs: Signs,
 }
@@ -41,6 +41,13 @@ impl<A> FormedAnswers<A> {
             line_count: 0,
             signs: NO_SIGNS,
         }
+    }
+
+    /// Returns what handled the lines.
+    pub fn into_answers(self) -> A
+        ensures { result ≡ self.answers }
+    {
+        self.answers
     }
 
     /// Begins the next input: the next line is its first one.
@@ -83,52 +90,66 @@ fn count_after(count: u64) -> Result<u64, AllocError>
     }
 }
 
-impl<A: LineAnswers> FormedAnswers<A> {
-    /// Appends the answer to a line that isn't UTF-8, from which its ends were taken off already.
+impl<A: LineHandler> FormedAnswers<A> {
+    /// Handles a line that isn't UTF-8, from which its ends were taken off already.
     #[tactic(auto, using(crate::proofs::LinesAreFormed::text_is_utf8))]
-    fn answer_trimmed(&mut self, text: &mut Vec<u8>, line: &[u8]) -> Result<(), AllocError>
-        ensures ok { OnOk result (text.new.items ≡ text.old.items
-            ++ A.answer self.old.answers 0 (if self.old.form.is_lossy then utf8_lossy line.now else line.now)) }
+    fn handle_trimmed(&mut self, text: &mut Vec<u8>, line: &[u8]) -> Result<(), AllocError>
+        ensures ok { OnOk result (text.new.items ≡ text.old.items ++ A.first_answers self.old.answers
+            ((if self.old.form.is_lossy then utf8_lossy line.now else line.now) ∷ [])) }
         ensures memory { OnErr result (text.new.items ≡ text.old.items) }
-        ensures next { OnOk result (AreAnswersAfter 1 (A.answer self.old.answers) (A.answer self.new.answers)) }
-        ensures same { OnErr result (A.answer self.new.answers ≡ A.answer self.old.answers) }
+        ensures next { OnOk result (GoesOn A.answers A.first_answers A.is_next self.old.answers
+            ((if self.old.form.is_lossy then utf8_lossy line.now else line.now) ∷ []) self.new.answers) }
+        ensures same { OnErr result (GoesOn A.answers A.first_answers A.is_next self.old.answers
+            [] self.new.answers) }
         ensures form { self.new.form ≡ self.old.form }
         ensures count { self.new.line_count ≡ self.old.line_count }
     {
         if self.form.is_lossy {
             let line = String::from_utf8_lossy(self.alloc, line)?;
-            self.answers.answer_str(text, line.as_str())
+            self.answers.handle_str(text, line.as_str())
         } else {
-            self.answers.answer_line(text, line)
+            self.answers.handle_line(text, line)
         }
     }
 }
 
-impl<A: LineAnswers> LineAnswers for FormedAnswers<A> {
-    ghost use Rattle.groklog_input.specs.LineForms.{formed_answers};
+impl<A: LineHandler> LineHandler for FormedAnswers<A> {
+    ghost use Rattle.groklog_input.specs.LineForms.{formed_lines};
 
-    ghost answer = { λ lines. formed_answers (A.answer lines.answers) lines.form lines.line_count };
+    ghost answers = { λ lines more. A.answers lines.answers (formed_lines lines.form lines.line_count more) };
+
+    ghost first_answers = { λ lines more. A.first_answers lines.answers
+        (formed_lines lines.form lines.line_count more) };
+
+    ghost is_next = { λ lines more later. A.is_next lines.answers
+        (formed_lines lines.form lines.line_count more) later.answers };
 
     #[inline(always)]
-    #[tactic(auto, using(crate::proofs::LinesAreFormed::counts_on, crate::proofs::LinesAreFormed::text_is_utf8, crate::proofs::LinesAreFormed::text_is_read_as_it_is))]
-    fn answer_str(&mut self, text: &mut Vec<u8>, line: &str) -> Result<(), AllocError> {
+    #[tactic(auto, using(crate::proofs::LinesAreFormed::text_is_utf8))]
+    fn handle_str(&mut self, text: &mut Vec<u8>, line: &str) -> Result<(), AllocError> {
         let line_count = count_after(self.line_count)?;
         self.note_first(line.as_bytes());
         let line = self.form.trim(self.line_count == 0, line);
-        self.answers.answer_str(text, line)?;
+        self.answers.handle_str(text, line)?;
         self.line_count = line_count;
         Ok(())
     }
 
     #[inline(never)]
-    #[tactic(auto, using(crate::proofs::LinesAreFormed::counts_on))]
-    fn answer_broken(&mut self, text: &mut Vec<u8>, line: &[u8]) -> Result<(), AllocError> {
+    fn handle_broken(&mut self, text: &mut Vec<u8>, line: &[u8]) -> Result<(), AllocError> {
         let line_count = count_after(self.line_count)?;
         self.note_first(line);
         self.signs.first_broken = self.signs.first_broken.or(Some(line_count));
         let line = self.form.trim_bytes(self.line_count == 0, line);
-        self.answer_trimmed(text, line)?;
+        self.handle_trimmed(text, line)?;
         self.line_count = line_count;
         Ok(())
     }
+
+    #[inline(always)]
+    fn end_input(&mut self, text: &mut Vec<u8>) -> Result<(), AllocError> {
+        self.answers.end_input(text)
+    }
+
+    ghost none_first = { λ lines. A.none_first lines.answers };
 }

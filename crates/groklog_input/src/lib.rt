@@ -1,11 +1,9 @@
 //! Reads what the users of `groklog` give it, and reports faults to them.
 //!
-//! [`read_definition`] reads `NAME=DEF`, [`rewrite`] adapts a text that was made for Logstash,
-//! [`meant_key`] reads the name of a group, and [`answer_input`] answers the lines of an input. A
+//! [`read_definition`] reads `NAME=DEF`, and [`answer_input`] answers the lines of an input. A
 //! [`Fault`] says what is wrong, where, and what to do:
 //!
 //! ```text
-//! let Rewritten { text, changes } = rewrite(alloc, "(?>%{INT:n})")?;
 //! let mut input = Watched::new(rt.stdin());
 //! answer_input(alloc, &mut answers, &mut input, &mut output, "standard input")?;
 //! ```
@@ -13,11 +11,10 @@
 
 mod answered;
 mod definition;
+mod failure;
 mod fault;
 mod formed_answers;
-mod group_names;
 mod line_form;
-mod logstash;
 #[cfg(test)]
 mod tests;
 mod visible_text;
@@ -25,10 +22,9 @@ mod watched;
 
 pub use answered::{Answered, answer_input, file_fault, write_fault};
 pub use definition::{name_of_spaced, read_definition, skip_blanks};
+pub use failure::Failure;
 pub use fault::{Fault, FaultyPart, Report};
 pub use formed_answers::FormedAnswers;
-pub use group_names::meant_key;
 pub use line_form::{Encoding, LineForm, Signs};
-pub use logstash::{Change, ChangeKind, Rewritten, rewrite};
 pub use visible_text::visible;
 pub use watched::Watched;

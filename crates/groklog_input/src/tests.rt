@@ -3,11 +3,12 @@
 ghost use Rattle.std.specs.Prelude.{◌≡◌};
 
 use crate::answered::{Answered, answer_input};
+use crate::failure::Failure;
 use crate::fault::Fault;
 use crate::formed_answers::FormedAnswers;
 use crate::line_form::{Encoding, LineForm, Signs};
 use crate::watched::Watched;
-use grok_lines::{LineAnswers, LinesError, answer_lines};
+use grok_lines::{LineAnswers, LinesError, handle_lines};
 use std::alloc::AllocError;
 use std::io::{self, ErrorKind, Read, Write};
 use std::process::Abort;
@@ -187,6 +188,22 @@ fn a_long_answer(rt: HostRuntime) -> Result<(), Fail> {
     )
 }
 
+/// The words for errors that std puts into no kind.
+#[test]
+fn words_of_the_system(rt: HostRuntime) -> Result<(), Fail> {
+    for (number, expected) in [
+        (5, "input/output error"),
+        (9, "bad file descriptor"),
+        (13, "permission denied"),
+        (121, "system error 121"),
+    ] {
+        let failure = Failure::of(&io::Error::from_raw_os_error(number));
+        let words = failure.to_string(rt.alloc())?;
+        assert_eq!(rt; words.as_str(), expected);
+    }
+    Ok(())
+}
+
 /// The text of an error of the output has the system's reason.
 #[test]
 fn text_of_a_failed_write(rt: HostRuntime) -> Result<(), Fail> {
@@ -209,11 +226,11 @@ fn check_form(
     let mut output = Vec::new(rt.alloc());
     // What an earlier input shows is forgotten.
     let mut earlier: &[u8] = b"\x1f\x8b\r\n";
-    answer_lines(rt.alloc(), &mut formed, &mut earlier, &mut output)?;
+    handle_lines(rt.alloc(), &mut formed, &mut earlier, &mut output)?;
     formed.begin_input();
     output.clear();
     let mut input = lines;
-    answer_lines(rt.alloc(), &mut formed, &mut input, &mut output)?;
+    handle_lines(rt.alloc(), &mut formed, &mut input, &mut output)?;
     assert_eq!(rt; output.as_slice(), answers);
     let signs = formed.signs;
     assert!(rt; signs.encoding == encoding);

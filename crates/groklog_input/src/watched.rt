@@ -3,10 +3,11 @@
 ghost use Rattle.std.specs.Prelude.{◌≡◌, OnOk, IfErr};
 ghost use Rattle.std.specs.Io.{ReadsAtMost};
 ghost use Rattle.std.specs.Io.KnownBytes.{ReadConsumes};
-ghost use Rattle.std.specs.IoError.{error_kind};
+ghost use Rattle.groklog_input.specs.Faults.{failure_of};
 
+use crate::failure::Failure;
 use memchr::memchr_iter;
-use std::io::{self, ErrorKind, Read};
+use std::io::{self, Read};
 use std::time::{Duration, Instant};
 
 /// How many seconds pass before progress is first shown, and between two updates of it.
@@ -31,7 +32,7 @@ pub struct Watched<'a, R> {
     pub input: R,
     progress: Option<Progress<'a>>,
     /// Why the last read that failed did so.
-    pub failure: Option<ErrorKind>,
+    pub failure: Option<Failure>,
 }
 
 impl<'a> Progress<'a> {
@@ -105,7 +106,7 @@ impl<'a, R> Watched<'a, R> {
     }
 
     /// Clears the line of progress, and returns why the last read failed, if it did.
-    pub fn finish(&self) -> Option<ErrorKind>
+    pub fn finish(&self) -> Option<Failure>
         ensures { result ≡ self.now.failure }
     {
         if let Some(progress) = &self.progress {
@@ -123,7 +124,7 @@ impl<'a, R: Read> Read for Watched<'a, R> {
         ensures bound { ReadsAtMost result buf.new }
         ensures bytes { ReadConsumes (R.remaining self.old.input) (R.remaining self.new.input)
             result buf.new }
-        ensures failed { IfErr result (λ error. self.new.failure ≡ Some (error_kind error)) }
+        ensures failed { IfErr result (λ error. self.new.failure ≡ Some (failure_of error)) }
         ensures kept { OnOk result (self.new.failure ≡ self.old.failure) }
     {
         match self.input.read(buf) {
@@ -134,7 +135,7 @@ impl<'a, R: Read> Read for Watched<'a, R> {
                 Ok(count)
             }
             Err(error) => {
-                self.failure = Some(error.kind());
+                self.failure = Some(Failure::of(&error));
                 Err(error)
             }
         }

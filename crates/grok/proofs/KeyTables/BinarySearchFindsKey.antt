@@ -16,7 +16,7 @@ use Rattle.std.proofs.lemmas.Map.Keys.{Less-from_sorted, IsDistinct-from_sorted}
 use Rattle.std.proofs.lemmas.Map.Text.{is_eq-slice_cmp}
 use Rattle.grok.specs.declared.key_table.KeyRange.{KeyRange}
 use Rattle.grok.specs.KeyTable.{Entries, group_in}
-use Rattle.grok.specs.KeyRanges.{key_at, key_or_none, entries_at, IsKeyRange, IsTable}
+use Rattle.grok.specs.steps.KeyRanges.{key_at, key_or_none, entries_at, IsKeyRange, IsTable}
 use Rattle.grok.proofs.Texts.EqualBytesAreSameText.{same_text}
 use Rattle.grok.proofs.KeyTables.NamesMeanKeys.{get_mapped}
 

@@ -15,7 +15,7 @@ use Rattle.std.proofs.lemmas.List.{drop-append-le, take-append-le, take_all, get
 use Rattle.std.proofs.lemmas.Str.{IsCharBoundary-at_seam, IsCharBoundary-end}
 use Rattle.grok.specs.declared.key_table.KeyRange.{KeyRange}
 use Rattle.grok.specs.KeyTable.{group_in}
-use Rattle.grok.specs.KeyRanges.{key_at, entries_at, IsKeyRange, IsExtended, entry_of}
+use Rattle.grok.specs.steps.KeyRanges.{key_at, entries_at, IsKeyRange, IsExtended, entry_of}
 
 module _ (text key : List ℕ) (utf8 : IsUtf8 key) where
   -- a character boundary of the text stays one

@@ -1,12 +1,12 @@
 -- Whether two keys clash depends only on how often each base key is used.
 use Rattle.std.proofs.Common.{◌≡◌, ℕ, zero, suc, ◌+◌, ◌<◌, ◌≤◌, Bool, true, false, cond, List, [], ◌∷◌, ◌++◌, length, None, refl, sym, ◌∙◌, ap, subst, inl, inr, arith, append_assoc, length-append}
 use Rattle.std.specs.Str.{bytes_eq}
-use Rattle.std.proofs.lemmas.Bool.{true≢false, cases_Bool, cases_eq, cases_lt, false_from_ne_true}
+use Rattle.std.proofs.lemmas.Bool.{true≢false, cases_Bool, cases_eq, false_from_ne_true}
 use Rattle.grok.specs.Tree.{Label, Event, Text, Open, Close, FaultEvent, first_structural}
 use Rattle.grok.specs.Keys.{is_capturing, capturing, base_key, numbered, how_often, key_after, is_among}
 use Rattle.grok.specs.Numeral.{numeral}
-use Rattle.grok.specs.CapturedSoFar.{onto, taken_of, faults, after}
-use Rattle.grok.specs.KeyUses.{IsFree}
+use Rattle.grok.specs.steps.CapturedSoFar.{onto, taken_of, faults, after}
+use Rattle.grok.specs.steps.KeyUses.{IsFree}
 use Rattle.grok.proofs.Texts.EqualBytesAreSameText.{same_text, text_same}
 use Rattle.grok.proofs.Keys.KeysAreDistinct.{numbered_both, how_often_more}
 use Rattle.grok.proofs.Keys.FirstFaultAndLastExtract.{how_often_onto}
@@ -48,7 +48,7 @@ taken_is (label ∷ before) key there = elim (cases_Bool (bytes_eq (key_after be
       (base, number, omega (arith, low, how_often-le label before base), is)
 ]
 
-is_taken : (before : List Label) (base : List ℕ) (number : ℕ) → number < how_often before base → is_among (numbered base number) (taken_of before) ≡ true
+pub is_taken : (before : List Label) (base : List ℕ) (number : ℕ) → number < how_often before base → is_among (numbered base number) (taken_of before) ≡ true
 is_taken [] base number low = absurd (omega arith)
 is_taken (label ∷ before) base number low = elim (cases_Bool (bytes_eq (key_after before label) (numbered base number))) [
   | inl same ↦ ap (λ b. cond b true (is_among (numbered base number) (taken_of before))) same
@@ -66,7 +66,7 @@ is_taken (label ∷ before) base number low = elim (cases_Bool (bytes_eq (key_af
       ap (λ b. cond b true (is_among (numbered base number) (taken_of before))) other ∙ is_taken before base number earlier
 ]
 
-no_key_numbers_itself : (key : List ℕ) (count : ℕ) → key ≡ numbered key (suc count) → ⊥
+pub no_key_numbers_itself : (key : List ℕ) (count : ℕ) → key ≡ numbered key (suc count) → ⊥
 no_key_numbers_itself key count e =
     let regroup : numbered key (suc count) ≡ key ++ (91 ∷ (numeral (suc count) ++ 93 ∷ [])) = simp append_assoc in
     let long : length key ≡ length (key ++ (91 ∷ (numeral (suc count) ++ 93 ∷ []))) = ap length (e ∙ regroup) in
@@ -88,36 +88,6 @@ module _ (before : List Label) (label : Label) where
       go (suc own) (suc number) base often low e =
           let both = numbered_both (base_key label) base own number e in
           omega (arith, often, low, both.1, ap (how_often before) both.0)
-
-  -- where it isn't, they stay free
-  pub stays_free : IsFree (how_often before) → is_among (key_after before label) (taken_of before) ≡ false → IsFree (how_often (label ∷ before))
-  stays_free free untaken base count some = elim (cases_Bool (bytes_eq (base_key label) base)) [
-    | inl own ↦
-        let is : base_key label ≡ base = same_text (base_key label) base own in
-        let apart : bytes_eq (base_key label) (numbered base (suc count)) ≡ false = false_from_ne_true (bytes_eq (base_key label) (numbered base (suc count))) (λ same. no_key_numbers_itself base count (sym is ∙ same_text (base_key label) (numbered base (suc count)) same)) in
-        let earlier : 0 < how_often before (numbered base (suc count)) = omega (arith, some, how_often_other label before (numbered base (suc count)) apart) in
-        elim (cases_eq (how_often before base) (suc count)) [
-          | inl last ↦
-              let key : key_after before label ≡ numbered base (suc count) = ap (λ w. numbered w (how_often before w)) is ∙ ap (numbered base) last in
-              absurd (true≢false (sym (is_taken before (numbered base (suc count)) 0 earlier) ∙ ap (λ k. is_among k (taken_of before)) (sym key) ∙ untaken))
-          | inr less ↦ omega (arith, less, free base count earlier, how_often_own label before base is)
-        ]
-    | inr foreign ↦ elim (cases_Bool (bytes_eq (base_key label) (numbered base (suc count)))) [
-      | inl same ↦
-          let is : base_key label ≡ numbered base (suc count) = same_text (base_key label) (numbered base (suc count)) same in
-          named is (how_often before (base_key label)) refl foreign
-      | inr apart ↦ omega (arith, free base count (omega (arith, some, how_often_other label before (numbered base (suc count)) apart)), how_often_other label before base foreign)
-    ]
-  ]
-    where
-      named : base_key label ≡ numbered base (suc count) → (own : ℕ) → own ≡ how_often before (base_key label) → bytes_eq (base_key label) base ≡ false → how_often (label ∷ before) base ≤ suc count
-      named is zero often foreign = elim (cases_lt (suc count) (how_often before base)) [
-        | inl over ↦
-            let key : key_after before label ≡ numbered base (suc count) = ap (numbered (base_key label)) (sym often) ∙ is in
-            absurd (true≢false (sym (is_taken before base (suc count) over) ∙ ap (λ k. is_among k (taken_of before)) (sym key) ∙ untaken))
-        | inr most ↦ omega (arith, most, how_often_other label before base foreign)
-      ]
-      named is (suc own) often foreign = omega (arith, free base count (omega (arith, often, ap (how_often before) is)), how_often_other label before base foreign)
 
 -- ---- more events
 

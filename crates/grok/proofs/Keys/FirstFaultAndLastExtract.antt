@@ -5,8 +5,9 @@ use Rattle.std.specs.Prelude.{not}
 use Rattle.std.specs.Str.{bytes_eq}
 use Rattle.std.proofs.lemmas.Bool.{true≢false, cases_Bool}
 use Rattle.grok.specs.Tree.{Label, is_absent, Event, Text, Open, Close, FaultEvent}
+use Rattle.grok.specs.KeyNumbers.{numbers_after}
 use Rattle.grok.specs.Keys.{is_capturing, capturing, base_key, numbered, how_often, key_after, keys_after, keys, is_among, TreeFault, Structural, Clash, extract_after}
-use Rattle.grok.specs.CapturedSoFar.{onto, taken_of, in_order, extract_before, faults, after}
+use Rattle.grok.specs.steps.CapturedSoFar.{onto, taken_of, in_order, numbers_in_order, extract_before, faults, after}
 use Rattle.grok.specs.FirstFault.{IsFaultAfter, StructuralEvent, ClashingOpen, HasNoFault, HasFirstFault, FirstFaultIsFirst, HasNoExtract, HasLastExtract, ExtractIsLast}
 use Rattle.grok.proofs.Keys.KeysAreDistinct.{how_often_more}
 use Rattle.grok.proofs.Texts.EqualBytesAreSameText.{same_text, text_same}
@@ -24,6 +25,10 @@ onto-append before (x ∷ xs) ys = onto-append (x ∷ before) xs ys
 pub in_order_onto : (before labels : List Label) → in_order (onto before labels) ≡ in_order before ++ keys_after before labels
 in_order_onto before [] = sym (append-nil (in_order before))
 in_order_onto before (label ∷ labels) = in_order_onto (label ∷ before) labels ∙ append_assoc (in_order before) (key_after before label ∷ []) (keys_after (label ∷ before) labels)
+
+pub numbers_in_order_onto : (before labels : List Label) → numbers_in_order (onto before labels) ≡ numbers_in_order before ++ numbers_after before labels
+numbers_in_order_onto before [] = sym (append-nil (numbers_in_order before))
+numbers_in_order_onto before (label ∷ labels) = numbers_in_order_onto (label ∷ before) labels ∙ append_assoc (numbers_in_order before) (how_often before (base_key label) ∷ []) (numbers_after (label ∷ before) labels)
 
 pub extract_onto : (before labels : List Label) (key : List ℕ) → extract_before (onto before labels) key ≡ extract_after before key labels (extract_before before key)
 extract_onto before [] key = refl

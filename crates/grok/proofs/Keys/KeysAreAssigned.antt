@@ -8,11 +8,12 @@ use Rattle.std.specs.BTreeMap.{get_by_text}
 use Rattle.std.proofs.lemmas.List.Sums.{count_by-le-length}
 use Rattle.grok.specs.Tree.{is_absent, Label, Event}
 use Rattle.grok.specs.Keys.{base_key, numbered, how_often, key_after, capturing}
-use Rattle.grok.specs.CapturedSoFar.{onto, in_order, extract_before, after}
+use Rattle.grok.specs.steps.CapturedSoFar.{onto, in_order, extract_before, after}
+use Rattle.grok.specs.KeyNumbers.{key_text, key_number}
 use Rattle.grok.specs.declared.expand.key_assigner.KeyAssigner.{KeyAssigner}
-use Rattle.grok.specs.AssignedKeys.{HasAssigned, CanAssign, HasKeys}
+use Rattle.grok.specs.steps.AssignedKeys.{HasAssigned, CanAssign, HasKeys}
 use Rattle.grok.proofs.Keys.KeysAreDistinct.{how_often_more}
-use Rattle.grok.proofs.Keys.FirstFaultAndLastExtract.{in_order_onto, extract_onto}
+use Rattle.grok.proofs.Keys.FirstFaultAndLastExtract.{in_order_onto, numbers_in_order_onto, extract_onto}
 
 -- ---- one more capturing placeholder
 
@@ -24,12 +25,14 @@ module _ (before : List Label) (label : Label) (old : KeyAssigner) (shows : HasA
 
   pub assigned_now : (new : KeyAssigner) (base name : List ℕ) → base ≡ base_key label → name ≡ key_after before label
       → ((key : List ℕ) → unwrap_or (get_by_text new.uses key) 0 ≡ cond (bytes_eq base key) 1 0 + unwrap_or (get_by_text old.uses key) 0)
-      → map string_bytes new.keys.items ≡ map string_bytes old.keys.items ++ name ∷ []
+      → map key_text new.keys.items ≡ map key_text old.keys.items ++ name ∷ []
+      → map key_number new.keys.items ≡ map key_number old.keys.items ++ how_often before (base_key label) ∷ []
       → ((key : List ℕ) → option_map string_bytes (get_by_text new.extracts key) ≡ cond (bytes_eq name key && not (is_absent label.extract)) (Some label.extract) (option_map string_bytes (get_by_text old.extracts key)))
       → HasAssigned new (label ∷ before)
-  assigned_now new base name asks is counts keys extracts = record {
+  assigned_now new base name asks is counts keys numbered_so extracts = record {
     uses = λ key. counts key ∙ ap (λ n. cond {A = ℕ} (bytes_eq base key) 1 0 + n) (shows.uses key) ∙ ap (λ w. cond {A = ℕ} (bytes_eq w key) 1 0 + how_often before key) asks ∙ sym (how_often_more label before key);
     keys = keys ∙ ap (λ ks. ks ++ name ∷ []) shows.keys ∙ ap (λ k. in_order before ++ k ∷ []) is;
+    numbers = numbered_so ∙ ap (λ ns. ns ++ how_often before (base_key label) ∷ []) shows.numbers;
     extracts = λ key. extracts key ∙ ap (λ o. cond (bytes_eq name key && not (is_absent label.extract)) (Some label.extract) o) (shows.extracts key)
         ∙ ap (λ k. cond (bytes_eq k key && not (is_absent label.extract)) (Some label.extract) (extract_before before key)) is;
   }
@@ -51,5 +54,6 @@ length_after alias_only es = omega (arith, length_onto [] (capturing alias_only 
 pub keyed : (alias_only : Bool) (all : List Event) (assigner : KeyAssigner) → HasAssigned assigner (after alias_only [] all) → HasKeys alias_only all assigner
 keyed alias_only all assigner shows = record {
   keys = shows.keys ∙ in_order_onto [] (capturing alias_only all);
+  numbers = shows.numbers ∙ numbers_in_order_onto [] (capturing alias_only all);
   extracts = λ key. shows.extracts key ∙ extract_onto [] (capturing alias_only all) key;
 }

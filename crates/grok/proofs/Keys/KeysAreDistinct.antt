@@ -16,7 +16,7 @@ use Rattle.grok.specs.Tree.{Definitions, no_definitions, with_written, resolved,
 use Rattle.grok.specs.Keys.{is_capturing, base_key, numbered, key_after, keys_after, keys, capturing, how_often, is_among, first_fault_after, Structural, Clash, ends_in_number, has_numbered_alias, AreDistinct, ClashNeedsNumber, KeysAreDistinct}
 use Rattle.grok.specs.FirstFault.{OtherFaultIsStructural}
 use Rattle.grok.specs.Numeral.{numeral}
-use Rattle.grok.specs.CapturedSoFar.{taken_of}
+use Rattle.grok.specs.steps.CapturedSoFar.{taken_of}
 use Rattle.grok.proofs.Keys.NumberedKeysEndInNumber.{numbered_ends}
 use Rattle.grok.proofs.Texts.EqualBytesAreSameText.{same_text, text_same}
 use Rattle.grok.proofs.Pieces.PiecesAreUnique.{pieces_are}

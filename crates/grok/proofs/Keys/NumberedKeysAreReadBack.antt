@@ -2,7 +2,7 @@
 use Rattle.std.proofs.Common.{◌≡◌, ℕ, zero, suc, ◌<◌, false, List, [], ◌∷◌, ◌++◌, length, get_or, take, drop, Some, None, refl, sym, ◌∙◌, ap, subst, arith, append_assoc}
 use Rattle.std.specs.Str.Pattern.{RFindsChar}
 use Rattle.std.proofs.lemmas.Bool.{true≢false, ne_eqb}
-use Rattle.std.proofs.lemmas.List.{append_cancel_right, take-append-drop}
+use Rattle.std.proofs.lemmas.List.{append_cancel_left, append_cancel_right, take-append-drop}
 use Rattle.std.proofs.lemmas.Str.Pattern.{NoCharPasses-char, drop_at_char}
 use Rattle.grok.specs.Keys.{numbered}
 use Rattle.grok.specs.Numeral.{numeral}
@@ -81,3 +81,16 @@ module _ (key base : List ℕ) (count : ℕ) (is : key ≡ numbered base (suc co
   pub base_is : (front back : List ℕ) → IsSplit key front back → front ≡ base
   base_is front back split =
       (last_bracket front base back (numeral (suc count) ++ 93 ∷ []) (plain_all back split.last) (numeral_plain count) (sym split.cut ∙ is ∙ regroup base count)).0
+
+-- ---- a base key and an ending
+
+numbered_ending : (base : List ℕ) (count : ℕ) → numbered base (suc count) ≡ base ++ numbered [] (suc count)
+numbered_ending base count = regroup base count ∙ ap (λ xs. base ++ xs) (sym (regroup [] count))
+
+-- a key that begins with the base key is numbered if its ending is
+module _ (base key ending : List ℕ) (is : key ≡ base ++ ending) where
+  pub ending_is : (count : ℕ) → key ≡ numbered base (suc count) → ending ≡ numbered [] (suc count)
+  ending_is count e = append_cancel_left base ending (numbered [] (suc count)) (sym is ∙ e ∙ numbered_ending base count)
+
+  pub key_is : (count : ℕ) → ending ≡ numbered [] (suc count) → key ≡ numbered base (suc count)
+  key_is count e = is ∙ ap (λ xs. base ++ xs) e ∙ sym (numbered_ending base count)

@@ -4,13 +4,12 @@ use Rattle.std.specs.Prelude.{◌==◌, not, ◌&&◌, ◌||◌}
 use Rattle.std.specs.Char.{is_ascii_digit}
 use Rattle.std.specs.List.{AllByRecursion}
 use Rattle.std.specs.Int.Digits.{digits_of, number_from_digits_after}
-use Rattle.std.proofs.lemmas.Bool.{ne_eqb, eq-eqb, eqb-true, eqb-false, not-true, and_parts, or_cases, leb-true}
+use Rattle.std.proofs.lemmas.Bool.{ne_eqb, eqb-true, eqb-false, not-true, and_parts, or_cases, leb-true}
 use Rattle.std.proofs.lemmas.Bool.Decides.{nat_tests}
 use Rattle.std.proofs.lemmas.Int.Digits.{all_below_base_digits_of, first_digits_of, digits_of_step}
 use Rattle.grok.specs.Tree.{is_absent}
 use Rattle.grok.specs.Numeral.{numeral}
 use Rattle.grok.specs.Keys.{numbered, ends_digits, ends_number, ends_in_number, EndsInNumberWhereNumbered}
-use Rattle.grok.specs.NumberedBases.{is_numbered_from}
 
 regroup : (key : List ℕ) (count : ℕ) → numbered key (suc count) ≡ key ++ (91 ∷ (numeral (suc count) ++ 93 ∷ []))
 regroup key count = simp append_assoc
@@ -121,29 +120,3 @@ of_ending (c ∷ cs) h = elim (or_cases (c == 91 && ends_number cs) (ends_in_num
 
 pub ends_in_number_where_numbered : EndsInNumberWhereNumbered
 ends_in_number_where_numbered key = (of_ending key, λ (front, count, is). ap ends_in_number is ∙ numbered_ends front count)
-
--- ---- numbered from a base
-
-from_base : (base rest : List ℕ) → ends_number rest ≡ true → is_numbered_from base (base ++ 91 ∷ rest) ≡ true
-from_base [] rest h = rw h refl
-from_base (b ∷ base) rest h = rw (eq-eqb b b refl) (from_base base rest h)
-
--- a numbered key is numbered from its base key
-pub numbered_from_base : (base : List ℕ) (count : ℕ) → is_numbered_from base (numbered base (suc count)) ≡ true
-numbered_from_base base count =
-    let ds = digits_of 10 (suc count) in
-    ap (is_numbered_from base) (regroup base count) ∙ from_base base (numeral (suc count) ++ 93 ∷ [])
-    (number_end ds (all_below_base_digits_of 10 (suc count) (omega arith)) (first_digits_of 10 (suc count) (omega arith) (omega arith)))
-
--- and no other key is
-pub is_numbered_of_base : (base key : List ℕ) → is_numbered_from base key ≡ true → (count : ℕ) × (key ≡ numbered base (suc count))
-is_numbered_of_base [] [] h = cc
-is_numbered_of_base [] (c ∷ cs) h =
-    let parts = and_parts (c == 91) (ends_number cs) h in
-    let (count, is) = of_number cs parts.1 in
-    (count, ap₂ (λ x xs. x ∷ xs) (eqb-true c 91 parts.0) is ∙ sym (regroup [] count))
-is_numbered_of_base (b ∷ bs) [] h = cc
-is_numbered_of_base (b ∷ bs) (c ∷ cs) h =
-    let parts = and_parts (b == c) (is_numbered_from bs cs) h in
-    let (count, is) = is_numbered_of_base bs cs parts.1 in
-    (count, ap₂ (λ x xs. x ∷ xs) (sym (eqb-true b c parts.0)) (is ∙ regroup bs count) ∙ sym (regroup (b ∷ bs) count))

@@ -6,7 +6,7 @@ use Rattle.std.proofs.lemmas.Bool.{eqb-true}
 use Rattle.std.proofs.lemmas.Bool.Decides.{nat_tests}
 use Rattle.grok.specs.declared.parser.GrokPatternError.{GrokPatternError}
 use Rattle.grok.specs.Pieces.{is_percent, regular_skip, regular_len, Piece, Inside, after_open, is_open, placeholder_at, first_piece, pieces_after, pieces_at}
-use Rattle.grok.specs.Rest.{IsRest}
+use Rattle.grok.specs.steps.Rest.{IsRest}
 use Rattle.std.specs.Str.{IsUtf8, IsCharBoundary}
 use Rattle.std.proofs.lemmas.Str.{IsCharBoundary-from_drop}
 use Rattle.grok.proofs.Pieces.RunsEndAtBoundaries.{position_or_len-le}

@@ -1,23 +1,23 @@
--- A placeholder with a fault of the grammar is malformed for one of the reasons, and from there on is the end of its text.
-use Rattle.std.proofs.Common.{◌≡◌, ℕ, suc, ◌+◌, ◌-◌, ◌<◌, ◌≤◌, Bool, true, false, cond, not, ◌==◌, slice_index, List, [], ◌∷◌, ◌++◌, length, get_or, take, drop, Some, None, refl, sym, ap, ◌∙◌, subst, arith, ◌⊎◌, inl, inr, length-append, take-append-drop}
+-- What the parser can't read is malformed for one of the reasons, and from there on is the end of the text.
+use Rattle.std.proofs.Common.{◌≡◌, ℕ, suc, ◌+◌, ◌-◌, ◌<◌, ◌≤◌, Bool, true, false, cond, not, List, [], ◌∷◌, ◌++◌, length, get_or, take, drop, Option, Some, None, Result, Ok, Err, refl, sym, ap, ◌∙◌, subst, arith, ◌⊎◌, inl, inr, length-append, take-append-drop}
 use lib.Utf8.{encode}
+use Rattle.std.specs.Prelude.{IfErr, IsErrAnd}
 use Rattle.std.specs.List.{prefix_len, position_or_len, before_first, slice_get}
 use Rattle.std.specs.Str.{IsUtf8, IsCharBoundary, chars}
 use Rattle.std.proofs.lemmas.List.{nil_from_length}
 use Rattle.std.proofs.Math.Seq.{drop-append_seam}
-use Rattle.std.proofs.lemmas.Bool.{true≢false, eqb-true}
+use Rattle.std.proofs.lemmas.Bool.{true≢false}
 use Rattle.std.proofs.lemmas.Bool.Decides.{nat_tests}
 use Rattle.std.proofs.lemmas.Str.{IsCharBoundary-after_ascii, encode_ascii}
-use Rattle.grok.specs.declared.parser.GrokPatternError.{GrokPatternError}
 use Rattle.grok.specs.declared.malformed.MalformedReason.{MalformedReason}
-use Rattle.grok.specs.Pieces.{is_terminator, is_brace, is_empty}
-use Rattle.grok.specs.Grammar.{NonePass, WordKind, NameWord, AliasWord, ExtractWord, FourthWord, next_word, is_legal, word_of, after_word, Ends, Odd, NoName, TooMany, NoExtract, NoAlias, HasNoWordFault, HasDefinition, IsFaultFrom, Here, Later, Undefined, IsOpenAt}
-use Rattle.grok.specs.Malformations.{word_reason, IsWordMalformed, IsDefinitionMalformed, IsMalformedFrom, IsMalformedAt, HasFault}
+use Rattle.grok.specs.declared.malformed.Malformation.{Malformation}
+use Rattle.grok.specs.Pieces.{Word, word_at, is_terminator, is_brace, is_empty}
+use Rattle.grok.specs.Grammar.{WordKind, NameWord, AliasWord, ExtractWord, FourthWord, next_word, is_legal, word_of, after_word, Ends, Odd, NoName, TooMany, NoExtract, NoAlias, HasNoWordFault, IsOpenAt}
+use Rattle.grok.specs.Malformations.{word_reason, IsWordMalformed, IsDefinitionMalformed, IsMalformedFrom, IsMalformedAt}
 use Rattle.grok.specs.Malformations as why
 use Rattle.grok.specs.declared.malformed.MalformedReason.TheVariants as reason
-use Rattle.grok.proofs.Pieces.WordEndsDecideFaults.{terminator_ascii, char_nonempty, bad_byte, first_from_get}
-use Rattle.grok.proofs.Pieces.ReadPlaceholderIsWritten.{NonePass-before_first}
-use Rattle.grok.proofs.Pieces.RestIsSuffix.{EndsWith, EndsWith-refl, EndsWith-trans}
+use Rattle.grok.proofs.Pieces.WordEndsDecideFaults.{char_nonempty, bad_byte, first_from_get}
+use Rattle.grok.proofs.Pieces.RestIsSuffix.{EndsWith, EndsWith-refl, EndsWith-trans, word_end_found}
 
 heads : (a b : ℕ) (x y : List ℕ) → (a ∷ x) ≡ b ∷ y → a ≡ b
 heads a b x y e = cc
@@ -64,7 +64,7 @@ no_word_fault kind text b more e t n _ (NoExtract other rest z a s k) = no_extra
 no_word_fault kind text b more e t n _ (NoAlias other rest z a s k) =
     no_alias kind (word_of kind text) b z k (subst (λ x. (x ≡ 125) ⊎ (x ≡ 61)) (heads other b rest more (sym a ∙ e)) s) n
 
--- ---- what follows a word, read by characters
+-- ---- a word that can't be read
 
 module _ (kind : WordKind) (text rest : List ℕ) (is : rest ≡ after_word kind text) where
   pub word_stops : length rest ≡ 0 → IsWordMalformed kind text reason.Unclosed rest
@@ -77,15 +77,49 @@ module _ (kind : WordKind) (text rest : List ℕ) (is : rest ≡ after_word kind
       odd_by [] at more e g = let n = char_nonempty c more in absurd (omega (arith, ap length e))
       odd_by (b ∷ bs) at more e g = why.Odd c b bs (sym at) (bad_byte b c bs more e f (is_terminator b) refl) (first_from_get (chars (b ∷ bs)) c g)
 
-  module _ (c : ℕ) (more : List ℕ) (e : rest ≡ encode c ++ more) (t : is_terminator c ≡ true) where
-    pub word_then : after_word kind text ≡ c ∷ more
-    word_then = sym is ∙ e ∙ ap (λ bs. bs ++ more) (encode_ascii c (terminator_ascii c t))
+-- ---- a word that was read
 
-    pub word_wrong : (found : MalformedReason) → word_reason kind (is_empty (word_of kind text)) c ≡ Some found → IsWordMalformed kind text found text
-    word_wrong found some = why.Wrong c more found word_then t some
+module _ (kind : WordKind) (text : List ℕ) (w : Word) (read : word_at (is_legal kind) text ≡ Ok w) where
+  stands : (w.word ≡ word_of kind text) × (after_word kind text ≡ w.terminator ∷ w.rest) × (is_terminator w.terminator ≡ true)
+  unfolding word_at
+  stands = word_end_found (word_of kind text) (after_word kind text) w read
 
-    pub word_fine : word_reason kind (is_empty (word_of kind text)) c ≡ None → HasNoWordFault kind text
-    word_fine none = no_word_fault kind text c more word_then t none
+  reason_of_word : (found : Option MalformedReason) → word_reason kind (is_empty w.word) w.terminator ≡ found → word_reason kind (is_empty (word_of kind text)) w.terminator ≡ found
+  reason_of_word found is = subst (λ word. word_reason kind (is_empty word) w.terminator ≡ found) stands.0 is
+
+  pub malformed_word : (found : MalformedReason) → word_reason kind (is_empty w.word) w.terminator ≡ Some found → IsMalformedFrom kind text found text
+  malformed_word found is = why.Here kind text found text (why.Wrong w.terminator w.rest found stands.1 stands.2 (reason_of_word (Some found) is))
+
+  module _ (none : word_reason kind (is_empty w.word) w.terminator ≡ None) where
+    clean : HasNoWordFault kind text
+    clean = no_word_fault kind text w.terminator w.rest stands.1 stands.2 (reason_of_word None none)
+
+    pub malformed_later : (found : MalformedReason) (rest : List ℕ) → w.terminator ≡ 58 → IsMalformedFrom (next_word kind) w.rest found rest → IsMalformedFrom kind text found rest
+    malformed_later found rest colon later = why.Later kind text found rest w.rest clean (stands.1 ∙ ap (λ b. b ∷ w.rest) colon) later
+
+    pub malformed_definition : (found : MalformedReason) (rest : List ℕ) → (w.terminator ≡ 58 → ⊥) → (w.terminator ≡ 125 → ⊥) → IsDefinitionMalformed w.rest found rest → IsMalformedFrom kind text found rest
+    malformed_definition found rest no_colon unclosed is =
+        let ends = stands.2 in
+        let equals : w.terminator ≡ 61 = grind (arith, nat_tests, ends, no_colon, unclosed) in
+        why.InDefinition kind text found rest w.rest clean (stands.1 ∙ ap (λ b. b ∷ w.rest) equals) is
+
+-- an empty alias needs an extract after it
+pub alias_before_extract : (is_empty : Bool) → word_reason AliasWord is_empty 58 ≡ None
+alias_before_extract true = refl
+alias_before_extract false = refl
+
+pub alias_is_missing : (b : ℕ) → (b ≡ 58 → ⊥) → word_reason AliasWord true b ≡ Some reason.NoAlias
+alias_is_missing b no_colon = grind (arith, nat_tests, no_colon)
+
+-- ---- errors that are passed on
+
+pub same_error : {A : Type 0} (P : MalformedReason → List ℕ → Type 0) (r : Result A Malformation) (error : Malformation) → IsErrAnd r (λ same. same ≡ error) → P error.reason error.rest.now → IfErr r (λ found. P found.reason found.rest.now)
+same_error P (Ok x) error is p = tt
+same_error P (Err found) error is p = subst (λ (m : Malformation). P m.reason m.rest.now) (sym is) p
+
+pub error_of_rest : {A : Type 0} (P Q : MalformedReason → List ℕ → Type 0) (r : Result A Malformation) → ((why : MalformedReason) (rest : List ℕ) → P why rest → Q why rest) → IfErr r (λ found. P found.reason found.rest.now) → IfErr r (λ found. Q found.reason found.rest.now)
+error_of_rest P Q (Ok x) h p = tt
+error_of_rest P Q (Err found) h p = h found.reason found.rest.now p
 
 -- ---- what follows a definition
 
@@ -99,55 +133,24 @@ brace_ends (x ∷ xs) b more e = by_test (is_brace x) refl (brace_ends xs b more
     by_test false is later e = let n = position_or_len is_brace xs in let one : 1 + n ≡ suc n = omega arith in later (subst (λ k. drop k (x ∷ xs) ≡ b ∷ more) one e)
 
 module _ (text rest : List ℕ) (is : rest ≡ drop (position_or_len is_brace text) text) where
-  pub definition_stops : (length rest == 0) ≡ true → IsDefinitionMalformed text reason.Unclosed rest
-  definition_stops none = let over : rest ≡ [] = nil_from_length rest (eqb-true (length rest) 0 none) in subst (IsDefinitionMalformed text reason.Unclosed) (sym over) (why.Stops (sym is ∙ over))
+  pub definition_stops : length rest ≡ 0 → IsDefinitionMalformed text reason.UnclosedDefinition rest
+  definition_stops none = let over : rest ≡ [] = nil_from_length rest none in subst (IsDefinitionMalformed text reason.UnclosedDefinition) (sym over) (why.Stops (sym is ∙ over))
 
-  pub definition_brace : (length rest == 0) ≡ false → slice_index rest 0 ≡ 123 → IsDefinitionMalformed text reason.BraceInDefinition rest
-  definition_brace some e = brace_by rest is some e
+  pub definition_brace : (length rest ≡ 0 → ⊥) → ((more : List ℕ) → rest ≡ encode 125 ++ more → ⊥) → IsDefinitionMalformed text reason.BraceInDefinition rest
+  definition_brace some other_than = brace_by rest is some other_than
     where
-      brace_by : (bs : List ℕ) → bs ≡ drop (position_or_len is_brace text) text → (length bs == 0) ≡ false → slice_index bs 0 ≡ 123 → IsDefinitionMalformed text reason.BraceInDefinition bs
-      brace_by [] at some e = cc
-      brace_by (b ∷ more) at some e = subst (λ x. IsDefinitionMalformed text reason.BraceInDefinition (x ∷ more)) (sym e) (why.Brace more (sym at ∙ ap (λ x. x ∷ more) e))
-
-  pub definition_nothing : (HasDefinition text → ⊥) → (length rest == 0) ≡ false → (slice_index rest 0 ≡ 123 → ⊥) → IsDefinitionMalformed text reason.NoDefinition rest
-  definition_nothing none some other = nothing_by rest is some other
-    where
-      nothing_by : (bs : List ℕ) → bs ≡ drop (position_or_len is_brace text) text → (length bs == 0) ≡ false → (slice_index bs 0 ≡ 123 → ⊥) → IsDefinitionMalformed text reason.NoDefinition bs
-      nothing_by [] at some other = cc
-      nothing_by (b ∷ more) at some other =
+      brace_by : (bs : List ℕ) → bs ≡ drop (position_or_len is_brace text) text → (length bs ≡ 0 → ⊥) → ((more : List ℕ) → bs ≡ encode 125 ++ more → ⊥) → IsDefinitionMalformed text reason.BraceInDefinition bs
+      brace_by [] at some other_than = absurd (some refl)
+      brace_by (b ∷ more) at some other_than =
           let brace = brace_ends text b more (sym at) in
-          let closes : b ≡ 125 = grind (arith, nat_tests, brace, other) in
-          let there = sym at ∙ ap (λ x. x ∷ more) closes in
-          subst (λ x. IsDefinitionMalformed text reason.NoDefinition (x ∷ more)) (sym closes) (why.Nothing more there (empty_by more there (before_first is_brace text) refl))
-        where
-          empty_by : (more : List ℕ) → drop (position_or_len is_brace text) text ≡ 125 ∷ more → (front : List ℕ) → before_first is_brace text ≡ front → before_first is_brace text ≡ []
-          empty_by more there [] e = e
-          empty_by more there (x ∷ xs) e = absurd (none (record {
-            definition = x ∷ xs;
-            rest = more;
-            spelled = sym (take-append-drop (position_or_len is_brace text) text) ∙ ap (λ front. front ++ drop (position_or_len is_brace text) text) e ∙ ap (λ bs. (x ∷ xs) ++ bs) there;
-            no_brace = subst (NonePass is_brace) e (NonePass-before_first is_brace text);
-            some = omega arith;
-          }))
+          let other : b ≡ 125 → ⊥ = λ e. other_than more (ap (λ x. x ∷ more) e ∙ ap (λ xs. xs ++ more) (sym (encode_ascii 125 (omega arith)))) in
+          let opens : b ≡ 123 = grind (arith, nat_tests, brace, other) in
+          subst (λ x. IsDefinitionMalformed text reason.BraceInDefinition (x ∷ more)) (sym opens) (why.Brace more (sym at ∙ ap (λ x. x ∷ more) opens))
 
--- ---- where the fault is after a word without one
+  pub definition_nothing : (more : List ℕ) → rest ≡ 125 ∷ more → length (before_first is_brace text) ≡ 0 → IsDefinitionMalformed text reason.NoDefinition rest
+  definition_nothing more closes none = subst (IsDefinitionMalformed text reason.NoDefinition) (sym closes) (why.Nothing more (sym is ∙ closes) (nil_from_length (before_first is_brace text) none))
 
-pub fault_goes_on : (kind : WordKind) (text more : List ℕ) (fault : GrokPatternError) → HasNoWordFault kind text → after_word kind text ≡ 58 ∷ more → IsFaultFrom kind text fault → IsFaultFrom (next_word kind) more fault
-fault_goes_on kind text more fault clean e (Here _ _ _ w) = absurd (clean fault w)
-fault_goes_on kind text more fault clean e (Later _ _ _ rest _ a r) = subst (λ m. IsFaultFrom (next_word kind) m fault) (tails 58 58 rest more (sym a ∙ e)) r
-fault_goes_on kind text more _ clean e (Undefined _ _ rest _ a r) = absurd (let same = heads 61 58 rest more (sym a ∙ e) in omega (arith, same))
-
-pub fault_of_definition : (kind : WordKind) (text more : List ℕ) (fault : GrokPatternError) → HasNoWordFault kind text → after_word kind text ≡ 61 ∷ more → IsFaultFrom kind text fault → HasDefinition more → ⊥
-fault_of_definition kind text more fault clean e (Here _ _ _ w) has = absurd (clean fault w)
-fault_of_definition kind text more fault clean e (Later _ _ _ rest _ a r) has = absurd (let same = heads 58 61 rest more (sym a ∙ e) in omega (arith, same))
-fault_of_definition kind text more _ clean e (Undefined _ _ rest _ a r) has = r (subst HasDefinition (sym (tails 61 61 rest more (sym a ∙ e))) has)
-
-pub no_fault_closed : (kind : WordKind) (text more : List ℕ) (fault : GrokPatternError) → HasNoWordFault kind text → after_word kind text ≡ 125 ∷ more → IsFaultFrom kind text fault → ⊥
-no_fault_closed kind text more fault clean e (Here _ _ _ w) = clean fault w
-no_fault_closed kind text more fault clean e (Later _ _ _ rest _ a r) = let same = heads 58 125 rest more (sym a ∙ e) in omega (arith, same)
-no_fault_closed kind text more _ clean e (Undefined _ _ rest _ a r) = let same = heads 61 125 rest more (sym a ∙ e) in omega (arith, same)
-
--- ---- what is left is the end of the text
+-- ---- the rest is the end of the text
 
 ends_word : (kind : WordKind) (text : List ℕ) → EndsWith text (after_word kind text)
 ends_word kind text = let n = prefix_len (is_legal kind) text in record { front = take n text; whole = sym (take-append-drop n text) }
@@ -157,11 +160,6 @@ ends_definition text = let n = position_or_len is_brace text in record { front =
 
 ends_after : (kind : WordKind) (text : List ℕ) (b : ℕ) (more : List ℕ) → after_word kind text ≡ b ∷ more → EndsWith text more
 ends_after kind text b more e = EndsWith-trans text (b ∷ more) more (subst (EndsWith text) e (ends_word kind text)) (record { front = b ∷ []; whole = refl })
-
-pub word_shorter : (kind : WordKind) (text : List ℕ) (b : ℕ) (more : List ℕ) → after_word kind text ≡ b ∷ more → length more < length text
-word_shorter kind text b more e =
-    let ends = subst (EndsWith text) e (ends_word kind text) in
-    omega (arith, ap length ends.whole, length-append ends.front (b ∷ more))
 
 word_ends : (kind : WordKind) (text : List ℕ) (reason : MalformedReason) (rest : List ℕ) → IsWordMalformed kind text reason rest → EndsWith text rest
 word_ends kind text _ _ (why.Ends e) = subst (EndsWith text) e (ends_word kind text)
@@ -175,8 +173,8 @@ definition_ends text _ _ (why.Nothing more e n) = subst (EndsWith text) e (ends_
 
 malformed_ends : (kind : WordKind) (text : List ℕ) (reason : MalformedReason) (rest : List ℕ) → IsMalformedFrom kind text reason rest → EndsWith text rest
 malformed_ends kind text reason rest (why.Here _ _ _ _ w) = word_ends kind text reason rest w
-malformed_ends kind text reason rest (why.Later _ _ _ _ more clean e w) = EndsWith-trans text more rest (ends_after kind text 58 more e) (malformed_ends (next_word kind) more reason rest w)
-malformed_ends kind text reason rest (why.InDefinition _ _ _ _ more clean e w) = EndsWith-trans text more rest (ends_after kind text 61 more e) (definition_ends more reason rest w)
+malformed_ends kind text reason rest (why.Later _ _ _ _ more _ e w) = EndsWith-trans text more rest (ends_after kind text 58 more e) (malformed_ends (next_word kind) more reason rest w)
+malformed_ends kind text reason rest (why.InDefinition _ _ _ _ more _ e w) = EndsWith-trans text more rest (ends_after kind text 61 more e) (definition_ends more reason rest w)
 
 -- ---- the byte
 

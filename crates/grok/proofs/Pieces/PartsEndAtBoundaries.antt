@@ -8,7 +8,7 @@ use Rattle.std.proofs.lemmas.List.Elements.{All-nil, All-cons}
 use Rattle.std.proofs.lemmas.Bool.Decides.{nat_tests}
 use Rattle.grok.specs.Pieces.{Parts, Piece, Regular, Placeholder, Malformed, pieces}
 use Rattle.grok.specs.Grammar.{or_empty, MayStand, HasByteAt, IsRegularPiece, Plain, Last, Percent, IsPlaceholder, ArePieces}
-use Rattle.grok.specs.Spans.{range_from, text_in, IsRangeOf, IsPartAt, PartsStand, PieceStands, IsPieceOf}
+use Rattle.grok.specs.steps.Spans.{range_from, text_in, IsRangeOf, IsPartAt, PartsStand, PieceStands, IsPieceOf}
 use Rattle.grok.proofs.Pieces.WrittenPlaceholderIsRead.{after_name, last_byte, last_rest, written_is}
 use Rattle.grok.proofs.Pieces.PiecesAreUnique.{regular_within, placeholder_within, pieces_are}
 

@@ -41,7 +41,7 @@ pub record FindsWord (is_legal : ℕ → Bool) (text : List ℕ) (w : Word) : Ty
 pub ok_same : {A : Type 0} (x y : A) → ◌≡◌ {A = Result A GrokPatternError} (Ok x) (Ok y) → x ≡ y
 ok_same x y e = cc
 
-word_end_found : (word rest : List ℕ) (w : Word) → word_end word rest ≡ Ok w → (w.word ≡ word) × (rest ≡ w.terminator ∷ w.rest) × (is_terminator w.terminator ≡ true)
+pub word_end_found : (word rest : List ℕ) (w : Word) → word_end word rest ≡ Ok w → (w.word ≡ word) × (rest ≡ w.terminator ∷ w.rest) × (is_terminator w.terminator ≡ true)
 word_end_found word [] w e = cc
 word_end_found word (b ∷ bs) w e =
     let h = chosen_ok_else (is_terminator b) _ (Ok (record { word = word; terminator = b; rest = bs })) w e in

@@ -6,8 +6,8 @@ use Rattle.std.proofs.lemmas.Slice.Eq.{bytes_eq-Decides}
 use Rattle.std.specs.Prelude.{is_some}
 use Rattle.std.specs.Str.{bytes_eq}
 use Rattle.grok.specs.Tree.{Definitions, Item}
-use Rattle.grok.specs.Sizes.{Size}
-use Rattle.grok.specs.MeasuredOnce.{Progress, InProgress, HasSize, HasFault, NeedsMoreThan, State, with_progress, Reading, nothing_measured, measure_within}
+use Rattle.grok.specs.steps.Sizes.{Size}
+use Rattle.grok.specs.steps.MeasuredOnce.{Progress, InProgress, HasSize, HasFault, NeedsMoreThan, State, with_progress, Reading, nothing_measured, measure_within}
 use Rattle.grok.specs.Measured.{weighed}
 use Rattle.grok.proofs.Sizes.TextsWithoutPlaceholders.{IsSound}
 use Rattle.grok.proofs.Sizes.SizesAdd.{both_ok, wrapped_ok}

@@ -4,7 +4,7 @@ use Rattle.std.proofs.Common.{◌≡◌, ℕ, zero, suc, ◌+◌, ◌-◌, ◌*�
 use Rattle.std.proofs.lemmas.Bool.{cases_lt, le-leb, lt-leb}
 use Rattle.std.specs.Prelude.{nat_le}
 use Rattle.grok.specs.Numeral.{numeral}
-use Rattle.grok.specs.Sizes.{digits_from}
+use Rattle.grok.specs.steps.Sizes.{digits_from}
 use Rattle.grok.proofs.Texts.NumeralsAreDecimal.{numeral_digit, numeral_step}
 
 -- the powers of ten

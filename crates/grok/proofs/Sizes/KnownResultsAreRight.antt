@@ -5,9 +5,9 @@ use Rattle.grok.specs.declared.measure.partial_size.PartialSize.{PartialSize}
 use Rattle.grok.specs.declared.measure.partial_size.Failure.{Failure}
 use Rattle.grok.specs.Maps.{Texts}
 use Rattle.grok.specs.Tree.{Fault, TooDeep, Item, inside, first_structural, Close}
-use Rattle.grok.specs.Sizes.{Size, no_size, size_or_fault}
-use Rattle.grok.specs.MeasuredOnce.{Progress, known_result, State, Reading, by_progress}
-use Rattle.grok.specs.MeasureCache.{fault_in, items_in, shown_result, result_view, RemembersReading, IsCorrect}
+use Rattle.grok.specs.steps.Sizes.{Size, no_size, size_or_fault}
+use Rattle.grok.specs.steps.MeasuredOnce.{Progress, known_result, State, Reading, by_progress}
+use Rattle.grok.specs.steps.MeasureCache.{fault_in, items_in, shown_result, result_view, RemembersReading, IsCorrect}
 use Rattle.grok.proofs.Sizes.SizeIsThatOfTree.{first_structural-append, or_else, fits_inside}
 
 -- the first fault inside an opened text is that of its size

@@ -1,5 +1,5 @@
 -- When measuring stops, it has counted at most the pieces and ends that the pattern reaches, and exactly these if
--- there is no structural fault, and it knows from which bases the reached aliases are numbered.
+-- there is no structural fault, and it knows whether a reached alias ends in a number in brackets.
 use Rattle.std.proofs.Common.{◌≡◌, ℕ, ◌≤◌, Bool, false, List, [], length, Result, None, Bor, refl, sym, ◌∙◌, ap, arith}
 use Rattle.std.specs.Ordering.{nat_cmp}
 use Rattle.std.specs.Cmp.Lexicographic.{slice_cmp}
@@ -14,23 +14,22 @@ use Rattle.grok.specs.declared.measure.cache.MeasureCache.{MeasureCache}
 use Rattle.grok.specs.declared.measure.cache.Progress.{Progress}
 use Rattle.grok.specs.Maps.{Texts}
 use Rattle.grok.specs.Tree.{Item, items_of, Event, deepest, tree, first_structural, reached}
-use Rattle.grok.specs.NumberedBases.{opens_numbered_from, is_base_in}
-use Rattle.grok.specs.declared.expand.numbered_bases.NumberedBases.{NumberedBases}
-use Rattle.grok.specs.MeasuredOnce.{Reading, items_within, nothing_measured, measure_within}
+use Rattle.grok.specs.Keys.{has_numbered_alias}
+use Rattle.grok.specs.steps.MeasuredOnce.{Reading, items_within, nothing_measured, measure_within}
 use Rattle.grok.specs.Measured.{reached_pieces, reached_texts, saturated}
-use Rattle.grok.specs.MeasureCache.{reading_of, progress_view, ShowsState, StopsReading}
+use Rattle.grok.specs.steps.MeasureCache.{progress_view, ShowsState, StopsReading}
 use Rattle.grok.proofs.Sizes.ItemsAreSound.{length-items_of, sound_texts}
 use Rattle.grok.proofs.Texts.EntriesAreTable.{table_of}
 use Rattle.grok.proofs.Sizes.MeasureLoopIsReading.{HasSameCounters, stopped_counters}
 use Rattle.grok.proofs.Sizes.ReadIsReached.{ReadsTree, reads_tree, table_weight}
 
-pub shows_nothing : (by_name : BTreeMap (Bor (List ℕ)) Progress) (numbered : NumberedBases) → by_name.entries ≡ [] → ((base : List ℕ) → is_base_in numbered base ≡ false)
-    → ShowsState (record { by_name = by_name; looks = record { pieces = 0; ends = 0 }; numbered = numbered }) nothing_measured
-shows_nothing by_name numbered empty none = record {
+pub shows_nothing : (by_name : BTreeMap (Bor (List ℕ)) Progress) → by_name.entries ≡ []
+    → ShowsState (record { by_name = by_name; looks = record { pieces = 0; ends = 0 }; has_numbered = false }) nothing_measured
+shows_nothing by_name empty = record {
   by_name = λ name. ap (λ entries. option_map progress_view (lookup (is_at (λ (key : Bor (List ℕ)). slice_cmp nat_cmp name key.now)) entries)) empty;
   pieces = refl;
   ends = refl;
-  numbered = none;
+  has_numbered = refl;
 }
 
 module _ (texts : Texts) (alias_only : Bool) (pattern : List ℕ) where
@@ -71,11 +70,5 @@ module _ (texts : Texts) (alias_only : Bool) (pattern : List ℕ) where
     pub ends_all : first_structural whole ≡ None → cache.looks.ends ≡ saturated (reached_texts texts pattern)
     ends_all clean = given.shows.ends ∙ ap saturated (sym counters.ends ∙ theorem.ends_exact clean)
 
-    pub pieces_read : cache.looks.pieces ≡ saturated (reading_of texts alias_only pattern).looks
-    pieces_read = given.shows.pieces ∙ ap saturated (sym counters.looks)
-
-    pub ends_read : cache.looks.ends ≡ saturated (reading_of texts alias_only pattern).ends
-    ends_read = given.shows.ends ∙ ap saturated (sym counters.ends)
-
-    pub numbered_is : (base : List ℕ) → is_base_in cache.numbered base ≡ opens_numbered_from base (reached whole)
-    numbered_is base = given.shows.numbered base ∙ ap (λ (numbered : List ℕ → Bool). numbered base) (sym counters.numbered) ∙ theorem.numbered base
+    pub numbered_is : cache.has_numbered ≡ has_numbered_alias (reached whole)
+    numbered_is = given.shows.has_numbered ∙ sym counters.has_numbered ∙ theorem.has_numbered

@@ -9,7 +9,7 @@ use Rattle.grok.specs.declared.measure.cache.Progress.TheVariants.{InProgress}
 use Rattle.grok.specs.declared.measure.measurer.Frame.{Frame}
 use Rattle.grok.specs.Tree.{Definitions, Label, Stored, Item, PlaceholderItem}
 use Rattle.grok.specs.Measured.{weighed}
-use Rattle.grok.specs.MeasureCache.{progress_of, is_kept, HasProgress, AreLow}
+use Rattle.grok.specs.steps.MeasureCache.{progress_of, is_kept, HasProgress, AreLow}
 use Rattle.grok.proofs.Sizes.TextsWithoutPlaceholders.{AreSound}
 use Rattle.grok.proofs.Sizes.CountersAreExact.{IsTable, weighed_le, weighed_more}
 

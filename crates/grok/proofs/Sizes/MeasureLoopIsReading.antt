@@ -16,11 +16,11 @@ use Rattle.grok.specs.declared.defs.items.Label.{Label as CodeLabel}
 use Rattle.grok.specs.Tree.{Fault, MalformedPiece, Missing, TooDeep, Label, Meaning, Inline, Stored, Item, TextItem, FaultItem, PlaceholderItem}
 use Rattle.grok.specs.Items.{fault_view, label_view}
 use Rattle.grok.specs.Keys.{is_capturing}
-use Rattle.grok.specs.Sizes.{Size, no_size, size_of_bytes, plus, in_brackets, sum_in_brackets, wrapped}
-use Rattle.grok.specs.MeasuredOnce as kept
-use Rattle.grok.specs.MeasuredOnce.{InProgress, HasSize, HasFault, NeedsMoreThan, known_result, reach_within, failed_progress, State, Reading, piece_read, ended, labelled, with_progress, with_reach, deeper, inlined, then_rest, finish, by_result, by_progress, visit, item_within, stored_within, items_within}
+use Rattle.grok.specs.steps.Sizes.{Size, no_size, size_of_bytes, plus, in_brackets, sum_in_brackets, wrapped}
+use Rattle.grok.specs.steps.MeasuredOnce as kept
+use Rattle.grok.specs.steps.MeasuredOnce.{InProgress, HasSize, HasFault, NeedsMoreThan, known_result, reach_within, failed_progress, State, Reading, piece_read, ended, labelled, with_progress, with_reach, deeper, inlined, then_rest, finish, by_result, by_progress, visit, item_within, stored_within, items_within}
 use Rattle.grok.specs.Measured.{saturated}
-use Rattle.grok.specs.MeasureCache.{shown, shown_progress, shown_result, result_view, progress_view, progress_of, is_kept, ShowsState, HasReach, ReturnsSize, ReturnsReading, RemembersReading, HasProgress, BeginsMeasuring, MustBeMeasured, MatchPlaceholderSize, unwound, StopsReading}
+use Rattle.grok.specs.steps.MeasureCache.{shown, shown_progress, shown_result, result_view, progress_view, progress_of, is_kept, ShowsState, HasReach, ReturnsSize, ReturnsReading, RemembersReading, HasProgress, BeginsMeasuring, MustBeMeasured, MatchPlaceholderSize, unwound, StopsReading}
 use Rattle.grok.proofs.Sizes.ReadingInduction.{after_size}
 use Rattle.grok.proofs.Sizes.SizesAdd.{both_none, both_assoc, same_size}
 
@@ -38,11 +38,11 @@ progress_shows cache by_name name progress updates st known is s = record {
   by_name = λ other. ap (option_map progress_view) (updates other) ∙ pushed (bytes_eq name other) progress known (progress_of cache.by_name other) (st.by_name other) is (s.by_name other);
   pieces = s.pieces;
   ends = s.ends;
-  numbered = s.numbered;
+  has_numbered = s.has_numbered;
 }
 
 pub with_reach_shows : (cache : MeasureCache) (st : State) (reach : ℕ) → ShowsState cache st → ShowsState cache (with_reach st reach)
-with_reach_shows cache st reach s = record { by_name = s.by_name; pieces = s.pieces; ends = s.ends; numbered = s.numbered }
+with_reach_shows cache st reach s = record { by_name = s.by_name; pieces = s.pieces; ends = s.ends; has_numbered = s.has_numbered }
 
 -- ---- looks
 
@@ -53,10 +53,10 @@ abbrev pub end_counted : MeasureCache → MeasureCache
 end_counted cache = record cache { looks = record { pieces = cache.looks.pieces; ends = saturated (cache.looks.ends + 1) } }
 
 shows_piece : (cache : MeasureCache) (st : State) → ShowsState cache st → ShowsState (piece_counted cache) (piece_read st)
-shows_piece cache st s = record { by_name = s.by_name; pieces = omega (arith, s.pieces); ends = s.ends; numbered = s.numbered }
+shows_piece cache st s = record { by_name = s.by_name; pieces = omega (arith, s.pieces); ends = s.ends; has_numbered = s.has_numbered }
 
 shows_end : (cache : MeasureCache) (st : State) → ShowsState cache st → ShowsState (end_counted cache) (ended st)
-shows_end cache st s = record { by_name = s.by_name; pieces = s.pieces; ends = omega (arith, s.ends); numbered = s.numbered }
+shows_end cache st s = record { by_name = s.by_name; pieces = s.pieces; ends = omega (arith, s.ends); has_numbered = s.has_numbered }
 
 -- ---- results
 
@@ -70,28 +70,28 @@ shown_err (Err g) f e = let same : f ≡ g = cc in ap Err (sym same)
 
 -- ---- faults
 
--- the counters, and whether an alias was read that is numbered from a base
+-- the counters, and whether an alias was read that ends in a number in brackets
 pub record HasSameCounters (st st' : State) : Type 0 where
   pub looks : st.looks ≡ st'.looks
   pub ends : st.ends ≡ st'.ends
-  pub numbered : st.numbered ≡ st'.numbered
+  pub has_numbered : st.has_numbered ≡ st'.has_numbered
 
 -- the frames that a fault ends are not counted
 unwound_counters : (levels : ℕ) (frames : List Frame) (fault : Fault) (st : State) → HasSameCounters (unwound levels frames fault st) st
-unwound_counters levels [] fault st = record { looks = refl; ends = refl; numbered = refl }
+unwound_counters levels [] fault st = record { looks = refl; ends = refl; has_numbered = refl }
 unwound_counters levels (frame ∷ frames) fault st =
     let h = unwound_counters (levels - 1) frames fault st in
-    record { looks = h.looks; ends = h.ends; numbered = h.numbered }
+    record { looks = h.looks; ends = h.ends; has_numbered = h.has_numbered }
 
 pub stopped_counters : (levels : ℕ) (r : Result PartialSize Failure) (frames : List Frame) (cache : MeasureCache) (answer : Reading) → (stops : StopsReading levels r frames cache answer) → HasSameCounters answer.1 stops.now
 stopped_counters levels (Ok sum) frames cache answer stops =
-    record { looks = ap (λ (st : State). st.looks) stops.leaves; ends = ap (λ (st : State). st.ends) stops.leaves; numbered = ap (λ (st : State). st.numbered) stops.leaves }
+    record { looks = ap (λ (st : State). st.looks) stops.leaves; ends = ap (λ (st : State). st.ends) stops.leaves; has_numbered = ap (λ (st : State). st.has_numbered) stops.leaves }
 stopped_counters levels (Err failure) frames cache answer stops =
     let h = unwound_counters levels frames (fault_view failure.fault) stops.now in
     record {
       looks = ap (λ (st : State). st.looks) stops.leaves ∙ h.looks;
       ends = ap (λ (st : State). st.ends) stops.leaves ∙ h.ends;
-      numbered = ap (λ (st : State). st.numbered) stops.leaves ∙ h.numbered;
+      has_numbered = ap (λ (st : State). st.has_numbered) stops.leaves ∙ h.has_numbered;
     }
 
 -- the innermost frame is unwound first

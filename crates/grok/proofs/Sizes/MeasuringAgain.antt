@@ -10,10 +10,10 @@ use Rattle.grok.specs.Maps.{Texts}
 use Rattle.grok.specs.Tree.{Fault, Item, items_of, deepest, tree}
 use Rattle.grok.specs.Expanded.{expanded, groups, nesting}
 use Rattle.grok.specs.Items.{fault_view}
-use Rattle.grok.specs.Sizes.{Size, sizes, size_or_fault}
-use Rattle.grok.specs.MeasuredOnce.{State, nothing_measured, items_within}
+use Rattle.grok.specs.steps.Sizes.{Size, sizes, size_or_fault}
+use Rattle.grok.specs.steps.MeasuredOnce.{State, nothing_measured, items_within}
 use Rattle.grok.specs.Measured.{Measured, size_within, fault_or, measured_tree}
-use Rattle.grok.specs.MeasureCache.{shown_result, result_view, measured_size, ShowsState, HasReach, unwound, StopsReading, IsCorrect, ShowsCorrectState}
+use Rattle.grok.specs.steps.MeasureCache.{shown_result, result_view, measured_size, ShowsState, HasReach, unwound, StopsReading, IsCorrect, ShowsCorrectState}
 use Rattle.grok.proofs.Sizes.SizeIsThatOfTree.{tree_sizes}
 use Rattle.grok.proofs.Sizes.RememberingChangesNothing.{RightAnswer, look_right}
 use Rattle.grok.proofs.Sizes.ItemsAreSound.{sound_texts}

@@ -1,4 +1,4 @@
--- A placeholder of a given name, or with an alias that is numbered from a given base, is seen while measuring
+-- A placeholder of a given name, or with an alias that ends in a number in brackets, is seen while measuring
 -- exactly if the tree reaches one.
 -- The proof replaces each such placeholder by a fault. Reading then ends at that fault exactly where it would
 -- have read the placeholder, and the first fault of the tree shows whether there is one.
@@ -8,9 +8,9 @@ use Rattle.std.proofs.lemmas.Slice.Eq.{bytes_eq-Decides}
 use Rattle.std.specs.Prelude.{is_some, map}
 use Rattle.std.specs.Str.{bytes_eq}
 use Rattle.grok.specs.Tree.{Definitions, Fault, MalformedPiece, Missing, TooDeep, Label, Meaning, Inline, Stored, Item, FaultItem, PlaceholderItem, Event, Text, Open, Close, FaultEvent, tree_within, first_structural, reached}
-use Rattle.grok.specs.NumberedBases.{is_numbered_from, opens_numbered_from}
-use Rattle.grok.specs.Sizes.{Size, both, wrapped}
-use Rattle.grok.specs.MeasuredOnce.{Progress, InProgress, known_result, State, with_progress, with_reach, reach_within, piece_read, labelled, inlined, Reading, then_rest, enclosed, finish, by_result, by_progress, visit, item_within, items_within, nothing_measured, measure_within}
+use Rattle.grok.specs.Keys.{ends_in_number, has_numbered_alias}
+use Rattle.grok.specs.steps.Sizes.{Size, both, wrapped}
+use Rattle.grok.specs.steps.MeasuredOnce.{Progress, InProgress, known_result, State, with_progress, with_reach, reach_within, piece_read, labelled, inlined, Reading, then_rest, enclosed, finish, by_result, by_progress, visit, item_within, items_within, nothing_measured, measure_within}
 use Rattle.grok.specs.Measured.{reaches}
 use Rattle.grok.proofs.Sizes.TextsWithoutPlaceholders.{IsSound}
 use Rattle.grok.proofs.Sizes.SizeIsThatOfTree.{tree_sizes}
@@ -35,7 +35,7 @@ or_right false b e = e
 pub record Watch : Type 0 where
   pub of_label : Label → Bool
   pub of_name : List ℕ → Bool
-  pub flag : (List ℕ → Option (Progress Size)) → (List ℕ → Bool) → Bool
+  pub flag : (List ℕ → Option (Progress Size)) → Bool → Bool
   pub has : List Event → Bool
 
 abbrev pub is_watched : Watch → Label → Meaning → Bool
@@ -43,7 +43,7 @@ is_watched w label (Inline text) = w.of_label label
 is_watched w label (Stored text) = w.of_label label || w.of_name label.name
 
 abbrev pub is_on : Watch → State → Bool
-is_on w st = w.flag st.by_name st.numbered
+is_on w st = w.flag st.by_name st.has_numbered
 
 -- how the flag changes, and where the first fault is with a fault in place of each such open
 pub record IsWatch (w : Watch) : Type 0 where
@@ -239,27 +239,27 @@ watched w is_watch alias_only resolve definitions sound levels pattern =
       | inr (ends, cache) ↦ record { only = λ on. progress_stops marker (first_structural tree) _ apart (sym stops ∙ fault' ∙ ap fault_of ends); every = λ there. cache }
     ]
 
--- ---- an alias that is numbered from a base
+-- ---- an alias that ends in a number in brackets
 
-abbrev aliases : List ℕ → Watch
-aliases base = record { of_label = λ label. is_numbered_from base label.alias; of_name = λ name. false; flag = λ by_name numbered. numbered base; has = opens_numbered_from base }
+abbrev aliases : Watch
+aliases = record { of_label = λ label. ends_in_number label.alias; of_name = λ name. false; flag = λ by_name has_numbered. has_numbered; has = has_numbered_alias }
 
-aliases_stop : (base : List ℕ) (marker : Fault) (es : List Event) → stop (is_watched (aliases base)) marker es ≡ cond (opens_numbered_from base (reached es)) (Some marker) (first_structural es)
-aliases_stop base marker [] = refl
-aliases_stop base marker (Text text ∷ es) = aliases_stop base marker es
-aliases_stop base marker (Close ∷ es) = aliases_stop base marker es
-aliases_stop base marker (FaultEvent fault ∷ es) = refl
-aliases_stop base marker (Open label (Inline text) ∷ es) =
-    let rest = aliases_stop base marker es in
-    elim (is_numbered_from base label.alias) as (λ b. cond b (Some marker) (stop (is_watched (aliases base)) marker es) ≡ cond (cond b true (opens_numbered_from base (reached es))) (Some marker) (first_structural es)) [ true ↦ refl | false ↦ rest ]
-aliases_stop base marker (Open label (Stored text) ∷ es) =
-    let rest = aliases_stop base marker es in
-    elim (is_numbered_from base label.alias) as (λ b. cond (b || false) (Some marker) (stop (is_watched (aliases base)) marker es) ≡ cond (cond b true (opens_numbered_from base (reached es))) (Some marker) (first_structural es)) [ true ↦ refl | false ↦ rest ]
+aliases_stop : (marker : Fault) (es : List Event) → stop (is_watched aliases) marker es ≡ cond (has_numbered_alias (reached es)) (Some marker) (first_structural es)
+aliases_stop marker [] = refl
+aliases_stop marker (Text text ∷ es) = aliases_stop marker es
+aliases_stop marker (Close ∷ es) = aliases_stop marker es
+aliases_stop marker (FaultEvent fault ∷ es) = refl
+aliases_stop marker (Open label (Inline text) ∷ es) =
+    let rest = aliases_stop marker es in
+    elim (ends_in_number label.alias) as (λ b. cond b (Some marker) (stop (is_watched aliases) marker es) ≡ cond (cond b true (has_numbered_alias (reached es))) (Some marker) (first_structural es)) [ true ↦ refl | false ↦ rest ]
+aliases_stop marker (Open label (Stored text) ∷ es) =
+    let rest = aliases_stop marker es in
+    elim (ends_in_number label.alias) as (λ b. cond (b || false) (Some marker) (stop (is_watched aliases) marker es) ≡ cond (cond b true (has_numbered_alias (reached es))) (Some marker) (first_structural es)) [ true ↦ refl | false ↦ rest ]
 
 -- ---- a name
 
 abbrev names : List ℕ → Watch
-names name = record { of_label = λ label. false; of_name = λ other. bytes_eq other name; flag = λ by_name numbered. is_some (by_name name); has = reaches name }
+names name = record { of_label = λ label. false; of_name = λ other. bytes_eq other name; flag = λ by_name has_numbered. is_some (by_name name); has = reaches name }
 
 names_stop : (name : List ℕ) (marker : Fault) (es : List Event) → stop (is_watched (names name)) marker es ≡ cond (reaches name (reached es)) (Some marker) (first_structural es)
 names_stop name marker [] = refl
@@ -272,11 +272,11 @@ names_stop name marker (Open label (Stored text) ∷ es) =
     elim (bytes_eq label.name name) as (λ b. cond b (Some marker) (stop (is_watched (names name)) marker es) ≡ cond (cond b true (reaches name (reached es))) (Some marker) (first_structural es)) [ true ↦ refl | false ↦ rest ]
 
 module _ (alias_only : Bool) (resolve : List ℕ → List Item) (definitions : Definitions) (sound : IsSound resolve definitions) where
-  -- whether an alias was read that is numbered from a base is whether the tree reaches one
-  pub measure_numbers : (levels : ℕ) (pattern base : List ℕ) → (measure_within levels alias_only resolve pattern).1.numbered base ≡ opens_numbered_from base (reached (tree_within levels resolve pattern))
-  measure_numbers levels pattern base =
-      let is_watch : IsWatch (aliases base) = record { starts_off = refl; labels = λ label st. refl; names = λ name progress st. refl; known = λ name progress st never is. cc; stops = aliases_stop base } in
-      let h = watched (aliases base) is_watch alias_only resolve definitions sound levels pattern in
+  -- whether an alias was read that ends in a number in brackets is whether the tree reaches one
+  pub measure_numbers : (levels : ℕ) (pattern : List ℕ) → (measure_within levels alias_only resolve pattern).1.has_numbered ≡ has_numbered_alias (reached (tree_within levels resolve pattern))
+  measure_numbers levels pattern =
+      let is_watch : IsWatch aliases = record { starts_off = refl; labels = λ label st. refl; names = λ name progress st. refl; known = λ name progress st never is. cc; stops = aliases_stop } in
+      let h = watched aliases is_watch alias_only resolve definitions sound levels pattern in
       alike _ _ h.only (λ there. elim (h.every there) [ inl on ↦ on | inr (fault, name, e, never) ↦ cc ])
 
   -- A name is read only if the tree reaches it. If the tree reaches it, it was read, or it could not be opened.

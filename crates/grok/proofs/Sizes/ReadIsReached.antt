@@ -1,9 +1,9 @@
 -- What is read for a pattern, and which definitions are used, is what the tree reaches.
 use Rattle.std.proofs.Common.{◌≡◌, ℕ, ◌≤◌, ◌+◌, Bool, true, List, length, Result, None, Ok, Err, refl, sym, ◌∙◌, inl, inr, arith}
 use Rattle.grok.specs.Tree.{Definitions, Fault, Item, Event, first_structural, tree_within, reached}
-use Rattle.grok.specs.NumberedBases.{opens_numbered_from}
-use Rattle.grok.specs.Sizes.{Size}
-use Rattle.grok.specs.MeasuredOnce.{State, measure_within}
+use Rattle.grok.specs.Keys.{has_numbered_alias}
+use Rattle.grok.specs.steps.Sizes.{Size}
+use Rattle.grok.specs.steps.MeasuredOnce.{State, measure_within}
 use Rattle.grok.specs.Measured.{reaches, weighed}
 use Rattle.grok.proofs.Sizes.TextsWithoutPlaceholders.{IsSound}
 use Rattle.grok.proofs.Sizes.CountersAreExact.{IsTable, weighed_le, weighed_same, is_started, counts_pieces, counts_ends, measure_counts}
@@ -15,7 +15,7 @@ table_weight weight entries pattern tree = weight pattern + weighed weight (λ n
 
 -- THE THEOREM: what was used and counted is at most what the tree reaches, and exactly that for a clean tree.
 pub record ReadsTree (resolve : List ℕ → List Item) (entries : List (List ℕ × List ℕ)) (pattern : List ℕ) (tree : List Event) (st : State) : Type 0 where
-  pub numbered : (base : List ℕ) → st.numbered base ≡ opens_numbered_from base (reached tree)
+  pub has_numbered : st.has_numbered ≡ has_numbered_alias (reached tree)
   pub looks : st.looks ≤ table_weight (λ text. length (resolve text)) entries pattern tree
   pub ends : st.ends ≤ table_weight (λ text. 1) entries pattern tree
   pub looks_exact : first_structural tree ≡ None → st.looks ≡ table_weight (λ text. length (resolve text)) entries pattern tree
@@ -38,7 +38,7 @@ module _ (alias_only : Bool) (resolve : List ℕ → List Item) (definitions : D
       let pieces = measure_counts alias_only resolve definitions entries table (λ looks ends. looks) (λ items. length items) counts_pieces sound levels pattern in
       let ends = measure_counts alias_only resolve definitions entries table (λ looks ends. ends) (λ items. 1) counts_ends sound levels pattern in
       record {
-        numbered = measure_numbers alias_only resolve definitions sound levels pattern;
+        has_numbered = measure_numbers alias_only resolve definitions sound levels pattern;
         looks = omega (arith, pieces.adds, weighed_le (λ text. length (resolve text)) (is_started answer.1) (λ name. reaches name (reached tree)) entries only);
         ends = omega (arith, ends.adds, weighed_le (λ text. 1) (is_started answer.1) (λ name. reaches name (reached tree)) entries only);
         looks_exact = λ clean.

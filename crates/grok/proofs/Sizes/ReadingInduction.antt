@@ -2,8 +2,8 @@
 -- items.
 use Rattle.std.proofs.Common.{◌≡◌, ℕ, zero, suc, max, Bool, List, [], ◌∷◌, Option, Result, Some, None, Ok, Err, refl, sym, ◌∙◌, subst}
 use Rattle.grok.specs.Tree.{Definitions, Fault, TooDeep, Label, Inline, Stored, Item, TextItem, FaultItem, PlaceholderItem}
-use Rattle.grok.specs.Sizes.{Size, no_size, size_of_bytes, both, wrapped}
-use Rattle.grok.specs.MeasuredOnce.{Progress, InProgress, HasSize, known_result, reach_within, failed_progress, State, with_progress, with_reach, piece_read, labelled, ended, inlined, Reading, then_rest, enclosed, finish, by_result, by_progress, visit, items_within}
+use Rattle.grok.specs.steps.Sizes.{Size, no_size, size_of_bytes, both, wrapped}
+use Rattle.grok.specs.steps.MeasuredOnce.{Progress, InProgress, HasSize, known_result, reach_within, failed_progress, State, with_progress, with_reach, piece_read, labelled, ended, inlined, Reading, then_rest, enclosed, finish, by_result, by_progress, visit, items_within}
 use Rattle.grok.proofs.Sizes.TextsWithoutPlaceholders.{IsFlat, AreSound, IsSound}
 
 -- the progress of a definition that was measured with this result

@@ -4,9 +4,9 @@ use Rattle.std.proofs.lemmas.Bool.{true≢false}
 use Rattle.std.proofs.lemmas.Slice.Eq.{bytes_eq-Decides}
 use Rattle.std.specs.Str.{bytes_eq}
 use Rattle.grok.specs.Tree.{Definitions, Fault, MalformedPiece, Missing, TooDeep, Label, Stored, Item, TextItem, FaultItem, PlaceholderItem}
-use Rattle.grok.specs.Sizes.{Size, no_size, size_of_bytes, both, wrapped, sizes, size_or_fault}
-use Rattle.grok.specs.MeasuredOnce.{Progress, InProgress, known_result, State, updated, with_progress, Reading, nothing_measured, items_within, measure_within}
-use Rattle.grok.specs.MeasureCache.{HoldsOfText}
+use Rattle.grok.specs.steps.Sizes.{Size, no_size, size_of_bytes, both, wrapped, sizes, size_or_fault}
+use Rattle.grok.specs.steps.MeasuredOnce.{Progress, InProgress, known_result, State, updated, with_progress, Reading, nothing_measured, items_within, measure_within}
+use Rattle.grok.specs.steps.MeasureCache.{HoldsOfText}
 use Rattle.grok.proofs.Sizes.SizesByLevels.{Settles, settles_always, settles_wrapped, settles_first, deep_after_size, settles_after_size, settles_text, settles_inline, high, of_text, of_item, of_items, circle, last_says, known_settles}
 use Rattle.grok.proofs.Sizes.TextsWithoutPlaceholders.{IsSound, flat_measured}
 use Rattle.grok.proofs.Sizes.ReadingInduction.{last_progress, InductionSteps, reads}

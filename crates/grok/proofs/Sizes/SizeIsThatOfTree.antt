@@ -6,7 +6,7 @@ use Rattle.grok.specs.Keys.{is_capturing, capturing}
 use Rattle.grok.specs.Numeral.{numeral}
 use Rattle.grok.specs.GeneratedNames.{named_head, unnamed_head, bracket_bytes}
 use Rattle.grok.specs.Expanded.{text_after, groups, nesting_after, nesting, expanded}
-use Rattle.grok.specs.Sizes.{Size, no_size, size_of_bytes, plus, both, bracketed, wrapped, size_of, sizes, size_or_fault, digits_from, length_of}
+use Rattle.grok.specs.steps.Sizes.{Size, no_size, size_of_bytes, plus, both, bracketed, wrapped, size_of, sizes, size_or_fault, digits_from, length_of}
 use Rattle.grok.proofs.Sizes.SizesAdd.{both_ok, wrapped_ok}
 
 abbrev pub or_else : Option Fault → Option Fault → Option Fault

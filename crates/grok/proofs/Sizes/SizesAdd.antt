@@ -1,7 +1,7 @@
 -- Sizes of texts that follow one another add up, and so do those in brackets.
 use Rattle.std.proofs.Common.{◌≡◌, Bool, Result, Ok, Err, refl, ap, arith}
 use Rattle.grok.specs.Tree.{Fault, Label}
-use Rattle.grok.specs.Sizes.{Size, no_size, plus, both, bracketed, wrapped}
+use Rattle.grok.specs.steps.Sizes.{Size, no_size, plus, both, bracketed, wrapped}
 
 pub same_size : (a b : Size) → a.bytes ≡ b.bytes → a.groups ≡ b.groups → a.height ≡ b.height → a ≡ b
 same_size a b p q r = λ i. record { bytes = p i; groups = q i; height = r i }

@@ -3,9 +3,9 @@ use Rattle.std.proofs.Common.{◌≡◌, ℕ, zero, suc, ◌+◌, ◌<◌, ◌�
 use Rattle.std.proofs.lemmas.Bool.{ltb-true, ltb-false, lt-ltb, le-ltb, cases_lt}
 use Rattle.std.specs.Prelude.{nat_lt}
 use Rattle.grok.specs.Tree.{Fault, MalformedPiece, Missing, TooDeep, Label, meaning_text, Item, TextItem, FaultItem, PlaceholderItem}
-use Rattle.grok.specs.Sizes.{Size, size_of_bytes, both, wrapped, size_of, sizes, size_or_fault}
-use Rattle.grok.specs.MeasuredOnce.{Progress, InProgress, HasSize, HasFault, NeedsMoreThan, known_result, reach_within, inlined, Reading}
-use Rattle.grok.specs.MeasureCache.{HoldsOfText}
+use Rattle.grok.specs.steps.Sizes.{Size, size_of_bytes, both, wrapped, size_of, sizes, size_or_fault}
+use Rattle.grok.specs.steps.MeasuredOnce.{Progress, InProgress, HasSize, HasFault, NeedsMoreThan, known_result, reach_within, inlined, Reading}
+use Rattle.grok.specs.steps.MeasureCache.{HoldsOfText}
 use Rattle.grok.proofs.Sizes.TextsWithoutPlaceholders.{IsFlat, flat_measured}
 use Rattle.grok.proofs.Sizes.ReadingInduction.{last_progress}
 

@@ -2,9 +2,9 @@
 use Rattle.std.proofs.Common.{◌≡◌, ℕ, ◌^◌, ◌<◌, ◌≤◌, Bool, true, false, cond, Some, None, refl, sym, ◌∙◌, ap, arith}
 use Rattle.std.proofs.lemmas.Bool.{ltb-true, ltb-false, lt-ltb, le-ltb}
 use Rattle.std.specs.Prelude.{nat_lt}
-use Rattle.grok.specs.Sizes.{Size, length_of}
+use Rattle.grok.specs.steps.Sizes.{Size, length_of}
 use Rattle.grok.specs.Measured.{Sized, TooLong, size_within}
-use Rattle.grok.specs.MeasureCache.{fit, shown}
+use Rattle.grok.specs.steps.MeasureCache.{fit, shown}
 use Rattle.grok.specs.declared.measure.partial_size.PartialSize.{PartialSize}
 use Rattle.grok.proofs.Sizes.DigitsAddUp.{digits_least}
 

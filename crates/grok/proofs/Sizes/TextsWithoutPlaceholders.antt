@@ -1,8 +1,8 @@
 -- The size of a text without placeholders, such as an inline definition, is the number of its bytes.
 use Rattle.std.proofs.Common.{◌≡◌, ℕ, zero, suc, ◌+◌, Bool, List, [], ◌∷◌, length, Result, Some, Ok, refl, ◌∙◌, ap, arith}
 use Rattle.grok.specs.Tree.{Definitions, Fault, Inline, Stored, Item, TextItem, FaultItem, PlaceholderItem}
-use Rattle.grok.specs.Sizes.{Size, size_of_bytes, both, sizes, size_or_fault}
-use Rattle.grok.specs.MeasuredOnce.{inlined}
+use Rattle.grok.specs.steps.Sizes.{Size, size_of_bytes, both, sizes, size_or_fault}
+use Rattle.grok.specs.steps.MeasuredOnce.{inlined}
 use Rattle.grok.proofs.Sizes.SizesAdd.{same_size}
 
 abbrev pub AreBytes : List Item → Type 0

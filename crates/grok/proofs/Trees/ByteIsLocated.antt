@@ -5,14 +5,14 @@ use Rattle.std.specs.Prelude.{nat_lt, IsTrue, IsFalse, if◌then◌else◌}
 use Rattle.grok.specs.Tree.{deepest, Definitions, Fault, Item, events, inside, tree, first_structural, Event, FaultEvent}
 use Rattle.grok.specs.Keys.{capturing}
 use Rattle.grok.specs.Expanded.{expanded, groups, nesting}
-use Rattle.grok.specs.Sizes.{Size, plus, digits_from, length_of, size_of_bytes, size_or_fault}
-use Rattle.grok.specs.MeasureCache.{shown, shown_result, measure_view}
-use Rattle.grok.specs.Measured.{Measured, Sized, TooLong, size_within, fault_or, measured_tree}
+use Rattle.grok.specs.steps.Sizes.{Size, plus, digits_from, length_of, size_of_bytes, size_or_fault}
+use Rattle.grok.specs.steps.MeasureCache.{shown, shown_result}
+use Rattle.grok.specs.Measured.{measure_view, Measured, Sized, TooLong, size_within, fault_or, measured_tree}
 use Rattle.grok.specs.FaultLocations.{Step}
 use Rattle.grok.specs.ByteLocations.{IsOwnEvent, Regular, Opening, Closing, Broken, Deep, IsEventAt, IsPartOf, IsByteLocation}
-use Rattle.grok.specs.Searches.{PassesMore}
+use Rattle.grok.specs.steps.Searches.{PassesMore}
 use Rattle.grok.specs.declared.measure.settings.MeasureSettings.{MeasureSettings}
-use Rattle.grok.specs.ByteSearches.{IsSizeOf, IsLater, IsPartOfItem, HasPassedBytes, WritesByte}
+use Rattle.grok.specs.steps.ByteSearches.{IsSizeOf, IsLater, IsPartOfItem, HasPassedBytes, WritesByte}
 use Rattle.grok.specs.declared.measure.partial_size.PartialSize.{PartialSize}
 use Rattle.grok.specs.declared.errors.fault.Fault.{Fault as CodeFault}
 use Rattle.grok.specs.declared.measure.Measure.{Measure}

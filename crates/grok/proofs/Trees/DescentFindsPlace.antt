@@ -4,13 +4,13 @@ use Rattle.std.proofs.Common.{◌≡◌, ℕ, suc, ◌+◌, ◌-◌, ◌<◌, �
 use Rattle.std.proofs.lemmas.List.{map-append, length-map}
 use Rattle.grok.specs.Tree.{Definitions, Label, Meaning, meaning_text, Item, PlaceholderItem, Event, Open, Close, items_of, events, inside, tree, deepest}
 use Rattle.grok.specs.Items.{item_view}
-use Rattle.grok.specs.Events.{events_left}
+use Rattle.grok.specs.steps.Events.{events_left}
 use Rattle.grok.specs.FaultLocations.{IsPieceAt, path_view}
 use Rattle.grok.specs.FaultLocations as location
 use Rattle.grok.specs.ByteLocations.{IsOwnEvent, Closing, IsEventAt, Here, Inside}
-use Rattle.grok.specs.PlacedItems.{HasRead, left_in}
-use Rattle.grok.specs.Searches.{Passing, Seeking, PassesMore, StopsAt}
-use Rattle.grok.specs.Descents.{Stopping, StopsInItem, EntersItem, IsEventStep, IsStep, step_of, path_of, IsFoundAt}
+use Rattle.grok.specs.steps.PlacedItems.{HasRead, left_in}
+use Rattle.grok.specs.steps.Searches.{Passing, Seeking, PassesMore, StopsAt}
+use Rattle.grok.specs.steps.Descents.{Stopping, StopsInItem, EntersItem, IsEventStep, IsStep, step_of, path_of, IsFoundAt}
 use Rattle.grok.specs.declared.defs.placed_items.PlacedItem.{PlacedItem}
 use Rattle.grok.specs.declared.defs.placed_items.PlacedItems.{PlacedItems}
 use Rattle.grok.specs.declared.descend.Opened.{Opened}
@@ -18,9 +18,8 @@ use Rattle.grok.specs.declared.descend.Place.{Place}
 use Rattle.grok.specs.declared.descend.Step.{Step}
 use Rattle.grok.specs.declared.descend.Step.TheVariants as step
 use Rattle.grok.proofs.Trees.EventsInTree.{events-append}
-use Rattle.grok.proofs.Trees.EventsOnStack.{left_step, left_open, left_close}
+use Rattle.grok.proofs.Trees.EventsOnStack.{left_step, left_open, left_close, left_item, some_event}
 use Rattle.grok.proofs.Trees.EventsInTree.{event_follows}
-use Rattle.grok.proofs.Keys.FirstFaultIsFound.{left_item, some_event}
 
 nothing_snoc : {X : Type 0} (xs : List X) (x : X) → [] ≡ xs ++ x ∷ [] → ⊥
 nothing_snoc [] x e = cc

@@ -11,7 +11,7 @@ use Rattle.grok.specs.Keys.{TreeFault, Structural, Clash, first_fault}
 use Rattle.grok.specs.FaultLocations.{Step, end_of_all, IsPieceAt, IsOwnFault, IsFaultAt, IsFaultOf}
 use Rattle.grok.specs.FaultLocations as faults
 use Rattle.grok.specs.ClashLocations.{IsFirstClash}
-use Rattle.grok.specs.Malformations.{HasMalformedAt}
+use Rattle.grok.specs.steps.Readings.{HasMalformedAt}
 use Rattle.grok.specs.Diagnoses.{IsFirstStructural}
 use Rattle.grok.specs.declared.location.Location.{Location}
 use Rattle.grok.specs.declared.locate_clash.Clash as found
@@ -61,31 +61,31 @@ malformed_piece stored written (Placeholder s e text parts ∷ front) piece rest
 malformed_piece stored written (Malformed other ∷ front) piece rest (x ∷ before) after fault is n = malformed_piece stored written front piece rest before after fault (item_tails _ _ _ _ is) (omega arith)
 
 -- a malformed piece of a text begins with `%{`, and has a fault of the grammar
-malformed_there : (text : List ℕ) (from : ℕ) (front rest : List Piece) (fault : GrokPatternError) → ArePieces text from (front ++ Malformed fault ∷ rest) → HasMalformedAt text (end_of_all text from front)
-malformed_there text from [] rest fault are = (are.1, (fault, are.3))
+malformed_there : (text : List ℕ) (from : ℕ) (front rest : List Piece) (fault : GrokPatternError) → ArePieces text from (front ++ Malformed fault ∷ rest) → HasMalformedAt text (end_of_all text from front) fault
+malformed_there text from [] rest fault are = (are.1, are.3)
 malformed_there text from (Regular s e part ∷ front) rest fault are = malformed_there text e front rest fault are.3
 malformed_there text from (Placeholder s e part parts ∷ front) rest fault are = malformed_there text e front rest fault are.3
 malformed_there text from (Malformed other ∷ []) rest fault are = let none = are.0 in cc
 malformed_there text from (Malformed other ∷ (p ∷ front)) rest fault are = let none = are.0 in cc
 
-malformed_item : (stored : Definitions) (text : List ℕ) (before : List Item) (from to : ℕ) (fault : GrokPatternError) → IsPieceAt stored text before from to (FaultItem (MalformedPiece fault)) → HasMalformedAt text from
+malformed_item : (stored : Definitions) (text : List ℕ) (before : List Item) (from to : ℕ) (fault : GrokPatternError) → IsPieceAt stored text before from to (FaultItem (MalformedPiece fault)) → HasMalformedAt text from fault
 malformed_item stored text before from to fault at =
     let piece_is : at.piece ≡ Malformed fault =
     malformed_piece stored no_definitions at.pieces_before at.piece at.pieces_after before at.after fault (ap (items_after stored no_definitions) (sym at.pieces) ∙ at.items) at.same in
     let are : ArePieces text 0 (at.pieces_before ++ Malformed fault ∷ at.pieces_after) =
     subst (λ piece. ArePieces text 0 (at.pieces_before ++ piece ∷ at.pieces_after)) piece_is (subst (ArePieces text 0) at.pieces (pieces_are text)) in
-    subst (HasMalformedAt text) (sym at.begins) (malformed_there text 0 at.pieces_before at.pieces_after fault are)
+    subst (λ from. HasMalformedAt text from fault) (sym at.begins) (malformed_there text 0 at.pieces_before at.pieces_after fault are)
 
 own_malformed : (stored : Definitions) (text : List ℕ) (before : List Item) (from to levels : ℕ) (item : Item) (fault : Fault) (error : GrokPatternError) → IsPieceAt stored text before from to item → IsOwnFault levels item fault
-    → fault ≡ MalformedPiece error → HasMalformedAt text from
+    → fault ≡ MalformedPiece error → HasMalformedAt text from error
 own_malformed stored text before from to levels _ _ error at (faults.Broken _ fault) is = malformed_item stored text before from to error (subst (λ fault. IsPieceAt stored text before from to (FaultItem fault)) is at)
 own_malformed stored text before from to _ _ _ error at (faults.Deep label meaning) is = cc
 
 malformed_by : (stored : Definitions) (levels : ℕ) (text : List ℕ) (path : List Step) (faulty : List ℕ) (from to : ℕ) (fault : Fault) (error : GrokPatternError) → IsFaultAt stored levels text path faulty from to fault
-    → fault ≡ MalformedPiece error → HasMalformedAt faulty from
+    → fault ≡ MalformedPiece error → HasMalformedAt faulty from error
 malformed_by stored levels text _ _ from to fault error (faults.Here _ _ before _ _ item _ at none own) is = own_malformed stored text before from to levels item fault error at own is
 malformed_by stored _ text _ faulty from to fault error (faults.Inside levels _ before begin end label definition path _ _ _ _ at named none below) is = malformed_by stored levels definition path faulty from to fault error below is
 
 pub malformed_at_location : (stored : Definitions) (pattern : List ℕ) (fault : Fault) (error : GrokPatternError) (location : Location) → IsFaultOf stored pattern fault location → fault ≡ MalformedPiece error
-    → HasMalformedAt location.text.now location.range.start
+    → HasMalformedAt location.text.now location.range.start error
 malformed_at_location stored pattern fault error location at is = malformed_by stored _ pattern _ location.text.now location.range.start location.range.end fault error at is

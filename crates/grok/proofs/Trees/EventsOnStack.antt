@@ -1,13 +1,53 @@
 -- If the texts that are open are kept on a stack, each step takes the first of the remaining events and leaves the
 -- others.
-use Rattle.std.proofs.Common.{◌≡◌, ℕ, zero, suc, ◌-◌, ◌<◌, ◌≤◌, List, [], ◌∷◌, ◌++◌, length, Option, Some, None, refl, ◌∙◌, ap, sym, arith, append_assoc}
+use Rattle.std.proofs.Common.{◌≡◌, ℕ, zero, suc, ◌-◌, ◌<◌, ◌≤◌, List, [], ◌∷◌, ◌++◌, length, Option, Some, None, refl, ◌∙◌, ap, sym, arith, append_assoc, append-nil}
 use Rattle.std.specs.FinMap as finite
 use Rattle.std.specs.Option.{option_map}
 use Rattle.grok.specs.Tree.{Meaning, meaning_text, Label, Fault, items_of, Item, TextItem, FaultItem, PlaceholderItem, Event, Text, Open, Close, FaultEvent, TooDeep, events, inside, deepest}
 use Rattle.grok.specs.Items.{meaning_view}
-use Rattle.grok.specs.Events.{entered_events, events_left}
+use Rattle.grok.specs.steps.Events.{entered_events, events_left}
 use Rattle.grok.specs.declared.defs.items.Meaning.{Meaning as CodeMeaning}
 use Rattle.grok.specs.declared.expand.events.Events.TheInside.{Inside}
+
+-- ---- items
+
+-- the events of one item and of those after it
+first_item : (inner : List ℕ → List Event) (item : Item) (rest : List Item) → events inner (item ∷ rest) ≡ events inner (item ∷ []) ++ events inner rest
+first_item inner (TextItem text) rest = refl
+first_item inner (FaultItem fault) rest = refl
+first_item inner (PlaceholderItem label meaning) rest =
+    ap (λ es. Open label meaning ∷ es) (ap (λ es. es ++ events inner rest) (sym (append-nil (inner (meaning_text meaning)))))
+
+pub left_item : (items : List ℕ → List Item) (levels : ℕ) (around : List (List Item)) (item : Item) (rest : List Item)
+    → events_left items levels around None (item ∷ rest) ≡ events (inside items (levels - length around)) (item ∷ []) ++ events_left items levels around None rest
+left_item items levels [] item rest =
+    let same : levels ≡ levels - 0 = omega arith in
+    first_item (inside items levels) item rest ∙ ap (λ n. events (inside items n) (item ∷ []) ++ events (inside items levels) rest) same
+left_item items levels (outer ∷ around) item rest =
+    let same : (levels - 1) - length around ≡ levels - suc (length around) = omega arith in
+    let more = events_left items (levels - 1) around None rest in
+    let end = Close ∷ events (inside items levels) outer in
+    ap (λ es. es ++ end) (left_item items (levels - 1) around item rest)
+    ∙ append_assoc (events (inside items ((levels - 1) - length around)) (item ∷ [])) more end
+    ∙ ap (λ n. events (inside items n) (item ∷ []) ++ (more ++ end)) same
+
+pub left_items : (items : List ℕ → List Item) (levels : ℕ) (around : List (List Item)) (front rest : List Item)
+    → events_left items levels around None (front ++ rest) ≡ events (inside items (levels - length around)) front ++ events_left items levels around None rest
+left_items items levels around [] rest = refl
+left_items items levels around (item ∷ front) rest =
+    let inner = inside items (levels - length around) in
+    left_item items levels around item (front ++ rest)
+    ∙ ap (λ es. events inner (item ∷ []) ++ es) (left_items items levels around front rest)
+    ∙ sym (append_assoc (events inner (item ∷ [])) (events inner front) (events_left items levels around None rest))
+    ∙ ap (λ es. es ++ events_left items levels around None rest) (sym (first_item inner item front))
+
+-- each item has an event
+pub some_event : (inner : List ℕ → List Event) (item : Item) → 0 < length (events inner (item ∷ []))
+some_event inner (TextItem text) = omega arith
+some_event inner (FaultItem fault) = omega arith
+some_event inner (PlaceholderItem label meaning) = omega arith
+
+-- ---- steps
 
 module _ (items : List ℕ → List Item) where
   -- a step in the innermost text

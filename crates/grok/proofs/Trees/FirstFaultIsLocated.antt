@@ -7,7 +7,7 @@ use Rattle.std.specs.Prelude.{IsTrue, not, is_some, if◌then◌else◌}
 use Rattle.std.specs.Option.{option_map}
 use Rattle.grok.specs.declared.errors.fault.Fault.{Fault as CodeFault}
 use Rattle.grok.specs.Items.{fault_view}
-use Rattle.grok.specs.FaultSearches.{is_fault, fault_of_item}
+use Rattle.grok.specs.steps.FaultSearches.{is_fault, fault_of_item}
 use Rattle.grok.specs.ByteLocations.{IsOwnEvent, Regular, Opening, Closing, Broken, Deep, IsEventAt, Here, Inside}
 use Rattle.grok.proofs.Sizes.SizeIsThatOfTree.{first_structural-append, or_else}
 use Rattle.grok.proofs.Sizes.TextsWithoutPlaceholders.{AreBytes, IsFlat, AreSound, sound_rest}

@@ -8,19 +8,20 @@ use Rattle.std.proofs.lemmas.Bool.{true≢false, ne_eqb, ltb-true}
 use Rattle.grok.specs.Tree.{Label, Fault, Event, Text, Open, Close, FaultEvent, first_structural}
 use Rattle.grok.specs.Keys.{is_capturing, key_after, is_among, first_fault_after, first_fault, TreeFault, Structural, Clash, keys, capturing, extract_of}
 use Rattle.grok.specs.Expanded.{expanded, groups, nesting}
+use Rattle.grok.specs.KeyNumbers.{key_text}
 use Rattle.grok.specs.Measured.{Faulty, Sized, TooLong, fault_or, size_within, measured_tree}
 use Rattle.grok.specs.Answers.{PatternValue}
 use Rattle.grok.specs.KeyTable.{IsKeyTable}
 use Rattle.grok.specs.declared.engine.Refusal.{Refusal}
 use Rattle.grok.specs.declared.engine.Refusal.TheVariants as refusal
 use Rattle.grok.specs.declared.expand.key_assigner.KeyAssigner.{KeyAssigner}
-use Rattle.grok.specs.AssignedKeys.{HasKeys}
+use Rattle.grok.specs.steps.AssignedKeys.{HasKeys}
 use Rattle.grok.specs.declared.errors.error.Error.{Error}
 use Rattle.grok.specs.declared.errors.error.Error.TheVariants as rust
 use Rattle.grok.specs.Errors.{ErrorValue, Memory, error_value}
-use Rattle.grok.specs.Compiled.{IsFaultError, IsFirstError, error_of_refusal, IsBuilt, IsRefusal, Refused, Expansion, CanBuild, Compiles, IsCompileError, Empty, First, Unbuilt, NoMemory}
+use Rattle.grok.specs.Compiled.{NeverRefuses, IsExpansionError, IsFaultError, IsFirstError, error_of_refusal, IsBuilt, IsRefusal, Refused, Expansion, CanBuild, Compiles, IsCompileError, Empty, First, Unbuilt, NoMemory}
 use Rattle.grok.specs.declared.expand.write.ExpandedPattern.{ExpandedPattern}
-use Rattle.grok.specs.Expansions.{NeverRefuses, IsExpansionError, IsExpansionOf, Expands}
+use Rattle.grok.specs.steps.Expansions.{IsExpansionOf, Expands}
 
 -- ---- what was measured
 
@@ -85,15 +86,11 @@ none_structural alias_only before taken (Open label meaning ∷ es) e =
 pub no_structural : (alias_only : Bool) (es : List Event) → first_fault alias_only es ≡ None → first_structural es ≡ None
 no_structural alias_only es none = none_structural alias_only [] [] es none
 
--- without any fault, the first one is the structural one: there is neither
-pub none_at_all : (alias_only : Bool) (es : List Event) → first_fault alias_only es ≡ None → first_fault alias_only es ≡ option_map Structural (first_structural es)
-none_at_all alias_only es none = none ∙ sym (ap (option_map Structural) (no_structural alias_only es none))
-
 -- ---- patterns
 
 pub built_as : {E : Type 0} (source_of : E → List ℕ) (group_names : E → List (Option (List ℕ))) (alias_only : Bool) (es : List Event) (given : KeyAssigner) (text : List ℕ) (pattern : PatternValue E)
     → HasKeys alias_only es given → text ≡ expanded alias_only es
-    → IsBuilt source_of group_names text (map string_bytes given.keys.items) (λ key. option_map string_bytes (get_by_text given.extracts key)) pattern
+    → IsBuilt source_of group_names text (map key_text given.keys.items) (λ key. option_map string_bytes (get_by_text given.extracts key)) pattern
     → IsBuilt source_of group_names (expanded alias_only es) (keys (capturing alias_only es)) (extract_of alias_only es) pattern
 built_as source_of group_names alias_only es given text pattern has is built = record {
   text = built.text ∙ is;
@@ -140,7 +137,7 @@ module _ {E : Type 0} (source_of : E → List ℕ) (group_names : E → List (Op
   unexpanded_answer (Err same) error h is = expansion_error may_refuse e same (subst (IsExpansionError e) (sym h) is)
 
   pub built_answer : (found : ExpandedPattern) (text : List ℕ) (r : Result (PatternValue E) Error) → IsExpansionOf e found → text ≡ string_bytes found.text
-      → MatchResult r (IsBuilt source_of group_names text (map string_bytes found.keys.keys.items) (λ key. option_map string_bytes (get_by_text found.keys.extracts key))) (λ error. (error_value error ≡ Memory) ⊎ IsRefusal may_refuse text (error_value error))
+      → MatchResult r (IsBuilt source_of group_names text (map key_text found.keys.keys.items) (λ key. option_map string_bytes (get_by_text found.keys.extracts key))) (λ error. (error_value error ≡ Memory) ⊎ IsRefusal may_refuse text (error_value error))
       → Compiles source_of group_names may_refuse e r
   built_answer found text (Ok p) is same built = record { some = is.some; can = is.can; built = built_as source_of group_names e.alias_only e.tree found.keys text p is.keys (same ∙ is.text) built }
   built_answer found text (Err error) is same (inl memory) = subst (λ value. IsCompileError may_refuse e value) (sym memory) (NoMemory is.some)

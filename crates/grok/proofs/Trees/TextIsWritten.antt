@@ -10,9 +10,9 @@ use Rattle.grok.specs.Keys.{is_capturing, capturing}
 use Rattle.grok.specs.Numeral.{numeral}
 use Rattle.grok.specs.GeneratedNames.{named_head, unnamed_head}
 use Rattle.grok.specs.Expanded.{text_after, expanded}
-use Rattle.grok.specs.CapturedSoFar.{after}
-use Rattle.grok.specs.AssignedKeys.{HasAssigned, CanAssign, HasKeys}
-use Rattle.grok.specs.Writes.{IsReady, Wrote}
+use Rattle.grok.specs.steps.CapturedSoFar.{after}
+use Rattle.grok.specs.steps.AssignedKeys.{HasAssigned, CanAssign, HasKeys}
+use Rattle.grok.specs.steps.Writes.{IsReady, Wrote}
 use Rattle.grok.specs.declared.expand.key_assigner.KeyAssigner.{KeyAssigner}
 use Rattle.grok.specs.declared.expand.write.Output.{Output}
 use Rattle.grok.proofs.Sizes.SizeIsThatOfTree.{or_else, first_structural-append}

@@ -1,6 +1,6 @@
 //! A definition with its pieces.
 ghost use Rattle.std.specs.Prelude.{◌≡◌, IfOk};
-ghost use Rattle.grok.specs.Spans.{AreSpansOf};
+ghost use Rattle.grok.specs.steps.Spans.{AreSpansOf};
 
 use crate::defs::spans::{Span, spans_of};
 use std::alloc::{AllocError, Global};
@@ -18,7 +18,7 @@ pub(crate) struct Definition {
 impl Model for Definition {
     ghost use Rattle.std.specs.Prelude.{List, ℕ};
     ghost use Rattle.std.specs.String.{string_bytes};
-    ghost use Rattle.grok.specs.Spans.{AreSpansOf};
+    ghost use Rattle.grok.specs.steps.Spans.{AreSpansOf};
 
     ghost Value = { List ℕ };
 

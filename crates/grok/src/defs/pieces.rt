@@ -28,7 +28,7 @@ impl<'a> Model for Pieces<'a> {
 
     ghost Value = { List Piece };
 
-    ghost use Rattle.grok.specs.Sources.{pieces_left, IsSource};
+    ghost use Rattle.grok.specs.steps.Sources.{pieces_left, IsSource};
 
     ghost view = { λ p. pieces_left p.source };
 

@@ -5,7 +5,7 @@ ghost use Rattle.grok.specs.Tree.{Definitions, Item as ItemView, items_of};
 ghost use Rattle.grok.specs.Items.{item_view};
 ghost use Rattle.grok.specs.Views.{piece_view};
 ghost use Rattle.grok.specs.FaultLocations.{IsPieceAt, end_of};
-ghost use Rattle.grok.specs.PlacedItems.{HasRead, IsOfLibrary, left_in};
+ghost use Rattle.grok.specs.steps.PlacedItems.{HasRead, IsOfLibrary, left_in};
 
 use crate::defs::Grok;
 use crate::defs::definition::Definition;

@@ -1,5 +1,5 @@
 //! The engine over the crate `regex`.
-ghost use Rattle.std.specs.Prelude.{◌≡◌, ◌↔◌, length, vec_len, option_map, IfOk, IfSome, OnOk};
+ghost use Rattle.std.specs.Prelude.{◌≡◌, ◌↔◌, length, vec_len, option_map, box_value, IfOk, IfSome, OnOk};
 ghost use Rattle.std.specs.Option.{ForSome};
 ghost use Rattle.grok.specs.Captures.{text_of, capture_texts, texts_if, IsSliceOf, AreSlicesOf, IsMatchIn};
 ghost use Rattle.grok.specs.Locations.{IsLocationIn, AreLocationsIn, located_texts};
@@ -14,9 +14,10 @@ use std::alloc::{AllocError, Global};
 
 /// The engine over the crate `regex`, with its defaults: no flag and no limit is set.
 pub struct RegexEngine {
-    pub(crate) regex: Regex,
+    /// In a box, since a `Regex` takes over 4 kB wherever it is moved.
+    pub(crate) regex: Box<Regex>,
     search: SharedSearch,
-    ghost by_default: { ∥ IsReadByDefault regex ∥₁ },
+    ghost by_default: { ∥ IsReadByDefault (box_value regex) ∥₁ },
 }
 
 // Not derived: the proof of a crate that drops a pattern then has one call here, and not the drop of
@@ -61,10 +62,14 @@ impl Engine for RegexEngine {
 
     fn build(alloc: Global, text: &str) -> Result<Self, Refusal> {
         let regex = Regex::new(alloc, text)?;
-        Ok(RegexEngine {
-            regex,
-            search: SharedSearch::new(),
-        })
+        match Box::new(alloc, regex) {
+            Ok(regex) => Ok(RegexEngine {
+                regex,
+                search: SharedSearch::new(),
+            }),
+            // own error: an allocation failed.
+            Err(_) => Err(Refusal::Memory),
+        }
     }
 
     fn text(&self) -> &str {

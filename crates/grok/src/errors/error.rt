@@ -3,11 +3,11 @@ ghost use Rattle.std.specs.Prelude.{◌≡◌, IfOk, Some};
 ghost use Rattle.grok.specs.Errors.{error_value, error_text};
 ghost use Rattle.grok.specs.declared.errors.error.Error.TheVariants.{Memory};
 ghost use Rattle.grok.specs.Items.{fault_view};
-ghost use Rattle.grok.specs.FirstFaultSteps.{tree_fault_view};
+ghost use Rattle.grok.specs.Keys.{Clash};
 ghost use Rattle.grok.specs.Compiled.{IsFaultError, IsErrorOf, error_of_refusal};
 
 use crate::engine::Refusal;
-use crate::errors::fault::{Fault, TreeFault};
+use crate::errors::fault::Fault;
 use std::alloc::{AllocError, AllocFailed, Global};
 use std::{error, fmt};
 
@@ -125,18 +125,11 @@ impl Fault<'_> {
     }
 }
 
-impl TreeFault<'_> {
-    /// Returns the error that compiling returns for this fault.
-    pub(crate) fn to_error(&self, alloc: Global) -> Result<Error, AllocError>
-        ensures { IfOk result (λ error. IsErrorOf (tree_fault_view self.now) (error_value error)) }
-    {
-        match self {
-            TreeFault::Structural(fault) => fault.to_error(alloc),
-            TreeFault::Clash(key) => Ok(Error::GenericCompilationFailure(format!(in alloc;
-                "Alias {key} already exists"
-            )?)),
-        }
-    }
+/// Returns the error that compiling returns if two placeholders would get this key.
+pub(crate) fn clash_error(alloc: Global, key: &str) -> Result<Error, AllocError>
+    ensures { IfOk result (λ error. IsErrorOf (Clash key.now) (error_value error)) }
+{
+    Ok(Error::GenericCompilationFailure(format!(in alloc; "Alias {key} already exists")?))
 }
 
 /// Returns the error for a text that the engine refused.

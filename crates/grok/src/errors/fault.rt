@@ -18,11 +18,3 @@ pub enum Fault<'a> {
     /// A placeholder is nested more than 1,023 levels deep.
     TooDeep,
 }
-
-/// The first fault of a pattern.
-#[derive(Drop)]
-pub(crate) enum TreeFault<'a> {
-    Structural(Fault<'a>),
-    /// A capturing placeholder would get this key, which an earlier one has.
-    Clash(String),
-}

@@ -3,7 +3,7 @@ ghost use Rattle.std.specs.Prelude.{◌≡◌, [], ◌∷◌, IfOk, MatchOption}
 ghost use Rattle.std.specs.FinMap as finite;
 ghost use Rattle.grok.specs.Tree.{items_of, meaning_text, tree as tree_of};
 ghost use Rattle.grok.specs.Items.{meaning_view};
-ghost use Rattle.grok.specs.Events.{event_view};
+ghost use Rattle.grok.specs.steps.Events.{event_view};
 
 use crate::defs::Grok;
 use crate::defs::items::{Item, Items, Label, Meaning, ascend, descend};
@@ -49,7 +49,7 @@ impl<'a> Model for Events<'a> {
     ghost use Rattle.std.specs.Option.{option_map};
     ghost use Rattle.grok.specs.Tree.{items_of, deepest};
     ghost use Rattle.grok.specs.Items.{meaning_view};
-    ghost use Rattle.grok.specs.Events.{events_left};
+    ghost use Rattle.grok.specs.steps.Events.{events_left};
 
     ghost view = { λ s. events_left (items_of (finite.get s.grok.now)) deepest
         s.around.items (option_map meaning_view s.opening) s.items };

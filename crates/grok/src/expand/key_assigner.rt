@@ -8,9 +8,10 @@ ghost use Rattle.grok.specs.Tree as tree;
 ghost use Rattle.grok.specs.Tree.{is_absent};
 ghost use Rattle.grok.specs.Keys.{numbered, base_key as base_key_of};
 ghost use Rattle.grok.specs.Items.{label_view};
-ghost use Rattle.grok.specs.AssignedKeys.{HasAssigned, CanAssign};
+ghost use Rattle.grok.specs.steps.AssignedKeys.{HasAssigned, CanAssign};
 
 use crate::defs::items::Label;
+use crate::expand::placeholder_key::PlaceholderKey;
 use std::alloc::{AllocError, Global};
 use std::collections::BTreeMap;
 
@@ -21,7 +22,7 @@ pub(crate) struct KeyAssigner {
     /// How often each base key was used.
     uses: BTreeMap<String, usize>,
     /// The keys in reading order.
-    pub keys: Vec<String>,
+    pub keys: Vec<PlaceholderKey>,
     pub extracts: BTreeMap<String, String>,
 }
 
@@ -125,7 +126,7 @@ impl KeyAssigner {
         let key = numbered_key(self.alloc, base, count)?;
         count_once_more(self.alloc, &mut self.uses, base, count)?;
         keep_extract(self.alloc, &mut self.extracts, key.as_str(), label.extract)?;
-        self.keys.push(key)?;
+        self.keys.push(PlaceholderKey { key, number: count })?;
         Ok(())
     }
 }

@@ -1,7 +1,7 @@
 //! Reads back numbered keys such as `key[2]`.
 ghost use Rattle.std.specs.Prelude.{◌≡◌, ℕ, suc, ◌<◌, ◌^◌, false, List, ◌∷◌, MatchOption};
 ghost use Rattle.grok.specs.Keys.{numbered, ends_in_number};
-ghost use Rattle.grok.specs.Endings.{ends_after};
+ghost use Rattle.grok.specs.steps.Endings.{ends_after};
 
 use crate::numeral::number_of_numeral;
 
@@ -71,7 +71,7 @@ pub(crate) fn base_of_numbered(alias: &str) -> Option<&str>
 pub(crate) fn parts_of_numbered(key: &str) -> Option<(&str, usize)>
     ensures { MatchOption result
         ((base : List ℕ) (count : ℕ) → suc count < 2 ^ 64 → key.now ≡ numbered base (suc count) → ⊥)
-        (λ parts. (0 < parts.1) × (key.now ≡ numbered parts.0.now parts.1)) }
+        (λ parts. (0 < parts.1) × (key.now ≡ numbered parts.0.now parts.1) × (parts.1 < 2 ^ 64)) }
 {
     let inside = key.strip_suffix(']')?;
     let (base, digits) = inside.rsplit_once('[')?;

@@ -4,11 +4,11 @@ ghost use Rattle.std.specs.String.{string_bytes, string_len, string_capacity};
 ghost use Rattle.std.specs.FinMap as finite;
 ghost use Rattle.grok.specs.Tree.{Label, first_structural, tree as tree_of};
 ghost use Rattle.grok.specs.Keys.{capturing};
-ghost use Rattle.grok.specs.CapturedSoFar.{after};
-ghost use Rattle.grok.specs.Events.{event_view};
+ghost use Rattle.grok.specs.steps.CapturedSoFar.{after};
+ghost use Rattle.grok.specs.steps.Events.{event_view};
 ghost use Rattle.grok.specs.Expanded.{expanded};
-ghost use Rattle.grok.specs.AssignedKeys.{HasAssigned, CanAssign, HasKeys};
-ghost use Rattle.grok.specs.Writes.{head_of, IsReady, Wrote};
+ghost use Rattle.grok.specs.steps.AssignedKeys.{HasAssigned, CanAssign, HasKeys};
+ghost use Rattle.grok.specs.steps.Writes.{head_of, IsReady, Wrote};
 
 use crate::defs::Grok;
 use crate::expand::events::{Event, Events};

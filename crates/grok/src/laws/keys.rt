@@ -2,9 +2,10 @@
 ghost use Rattle.grok.specs.Keys.{EndsInNumberWhereNumbered, ClashNeedsNumber, KeysAreDistinct};
 ghost use Rattle.grok.specs.FirstFault.{FirstFaultIsFirst, OtherFaultIsStructural, ExtractIsLast};
 
-/// Laws of the keys of capturing placeholders. A key ends in a number in brackets exactly if it is a
-/// numbered one. Without an alias that ends so there is no clash. If the first fault is not a clash,
-/// no two capturing placeholders before it share a key.
+/// Laws of the keys of capturing placeholders. A text ends in a number in brackets exactly if it is
+/// `x[n]` for some text `x` and some number `n` from 1 up. If no alias that is reached ends so,
+/// there is no clash. If the first fault is not a clash, no two capturing placeholders before it
+/// share a key.
 pub fn laws_of_keys()
     ensures numbered { EndsInNumberWhereNumbered }
     ensures clash { ClashNeedsNumber }

@@ -1,5 +1,5 @@
 //! Matches that are borrowed from a matcher until its next line.
-ghost use Rattle.std.specs.Prelude.{◌≡◌, option_map};
+ghost use Rattle.std.specs.Prelude.{◌≡◌, IfSome, option_map, slice_range};
 ghost use Rattle.std.specs.List.Sorted.{IsStrictlySortedBy};
 ghost use Rattle.std.specs.Map.{keys_of};
 ghost use Rattle.std.specs.Cmp.Lexicographic.{slice_cmp};
@@ -7,11 +7,13 @@ ghost use Rattle.std.specs.Ordering.{nat_cmp};
 ghost use Rattle.grok.specs.Captures.{text_of};
 ghost use Rattle.grok.specs.Debugs.{debug_pairs};
 ghost use Rattle.grok.specs.Answers.{value_of, walk};
+ghost use Rattle.grok.specs.Locations.{IsLocationIn};
 
 use crate::key_table::KeyTable;
 use crate::matches::groups::{GroupTexts, Located};
 use crate::matches::{MatchesIter, write_pairs};
 use std::fmt;
+use std::ops::Range;
 
 /// A match of a pattern in a line, borrowed from the matcher that found it. It has the same values
 /// as a [`MatchesOf`](crate::MatchesOf), and owns nothing.
@@ -23,10 +25,11 @@ pub struct MatchesRef<'m> {
 
 impl<'m> MatchesRef<'m> {
     ghost use Rattle.grok.specs.Groups.{texts_in_line};
-    ghost use Rattle.grok.specs.BorrowedMatches.{borrowed_keys, borrowed_captures};
+    ghost use Rattle.grok.specs.BorrowedMatches.{borrowed_line, borrowed_keys, borrowed_captures};
 
     /// Makes a match from the keys of its pattern and the byte ranges of its groups in the line.
     pub(crate) fn new(keys: &'m KeyTable, located: Located<'m>) -> MatchesRef<'m>
+        ensures line { borrowed_line result ≡ located.entry.line.now }
         ensures keys { borrowed_keys result ≡ keys.now }
         ensures captures { borrowed_captures result ≡ texts_in_line located.entry }
     {
@@ -42,6 +45,19 @@ impl<'m> MatchesRef<'m> {
         let keys = self.keys;
         let group = keys.get(name)?;
         self.located.get(group)
+    }
+
+    /// Returns the byte range of the line that the group of a key captured, or `None` if there is no
+    /// such key or that group took no part in the match.
+    pub fn range(&self, name: &str) -> Option<Range<usize>>
+        ensures text { option_map (λ range. slice_range (borrowed_line self.now) range.start range.end) result
+            ≡ value_of (borrowed_keys self.now) (borrowed_captures self.now) name.now }
+        ensures inside { IfSome result (λ range.
+            IsLocationIn (borrowed_line self.now) (range.start, range.end)) }
+    {
+        let keys = self.keys;
+        let group = keys.get(name)?;
+        self.located.range(group)
     }
 
     /// Returns an iterator over the keys whose group took part in the match, each with its text, in

@@ -1,8 +1,10 @@
 //! The texts of a match's groups, kept as a list of texts or as byte ranges of the line.
-ghost use Rattle.std.specs.Prelude.{◌≡◌, IfSome, option_map, slice_index_or};
+ghost use Rattle.std.specs.Prelude.{◌≡◌, IfSome, option_map, slice_index_or, slice_range};
 ghost use Rattle.grok.specs.Captures.{text_of, capture_texts};
 ghost use Rattle.grok.specs.Locations.{IsLocationIn, AreLocationsIn, located_texts};
 ghost use Rattle.grok.specs.Answers.{capture_at};
+
+use std::ops::Range;
 
 /// The byte ranges of the groups of a match in its line.
 #[derive(Clone, Copy)]
@@ -48,6 +50,17 @@ impl<'a> Located<'a> {
         ensures inside { IfSome result (IsLocationIn self.now.line.now) }
     {
         self.locations.get(group).copied()?
+    }
+
+    /// Returns the byte range of a group, or `None` if it took no part in the match.
+    #[tactic(auto, using(crate::proofs::Captures::GroupsLieInLine::text_located))]
+    pub(crate) fn range(&self, group: usize) -> Option<Range<usize>>
+        ensures text { option_map (λ range. slice_range self.now.line.now range.start range.end) result
+            ≡ capture_at (located_texts self.now.line.now self.now.locations.now) group }
+        ensures inside { IfSome result (λ range. IsLocationIn self.now.line.now (range.start, range.end)) }
+    {
+        let (start, end) = self.location(group)?;
+        Some(start..end)
     }
 
     /// Returns the text of a group, or `None` if it took no part in the match.

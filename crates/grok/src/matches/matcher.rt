@@ -33,7 +33,7 @@ impl<'p, E: HasMatcher<'p>> Model for MatcherOf<'p, E> {
 
 impl<'p, E: HasMatcher<'p>> MatcherOf<'p, E> {
     ghost use Rattle.grok.specs.contracts.matches.matcher.MatcherOf.{the_row};
-    ghost use Rattle.grok.specs.BorrowedMatches.{borrowed_keys, borrowed_captures};
+    ghost use Rattle.grok.specs.BorrowedMatches.{borrowed_line, borrowed_keys, borrowed_captures};
 
     /// Makes the matcher of a pattern with this engine.
     pub(crate) fn new(
@@ -62,6 +62,7 @@ impl<'p, E: HasMatcher<'p>> MatcherOf<'p, E> {
             (length (E.group_names self.old.engine)) (option_map borrowed_captures found)) }
         ensures keys { IfOk result
             (λ found. IfSome found (λ matches. borrowed_keys matches ≡ self.old.keys)) }
+        ensures line { IfOk result (λ found. IfSome found (λ matches. borrowed_line matches ≡ text.now)) }
 
         // When the borrow ends, the matcher is what it was.
         ensures* same { sem 𝓛 (Rests (the_row (record { mir = named 0; lft = [] }) E.row

@@ -22,7 +22,7 @@ pub(crate) struct KeptSearch<'p, E: HasMatcher<'p>> {
 }
 
 impl<'p, E: HasMatcher<'p>> KeptSearch<'p, E> {
-    ghost use Rattle.grok.specs.BorrowedMatches.{borrowed_keys, borrowed_captures};
+    ghost use Rattle.grok.specs.BorrowedMatches.{borrowed_line, borrowed_keys, borrowed_captures};
 
     /// Makes the search of a pattern with this engine.
     pub(crate) fn new(
@@ -67,6 +67,7 @@ impl<'p, E: HasMatcher<'p>> KeptSearch<'p, E> {
     where
         'p: 'm,
         requires { AreLocationsIn line.now self.now.locations.items }
+        ensures line { borrowed_line result ≡ line.now }
         ensures keys { borrowed_keys result ≡ self.now.pattern.now.keys }
         ensures captures { borrowed_captures result ≡ located_texts line.now self.now.locations.items }
         ensures slices { AreSlicesOf line.now (borrowed_captures result) }

@@ -1,13 +1,13 @@
 //! Remembers how far measuring each definition has come, so that no definition is read twice.
 ghost use Rattle.std.specs.Prelude.{◌≡◌, ◌<◌, ◌≤◌, false, Option, Result, OnOk, IfOk, IfErr, IfSome, MatchOption, Some};
-ghost use Rattle.grok.specs.Sizes.{Size};
-ghost use Rattle.grok.specs.MeasuredOnce.{Progress as ProgressOf, State, Reading, labelled, with_progress, failed_progress, by_progress, nothing_measured};
-ghost use Rattle.grok.specs.MeasureCache.{shown_progress, progress_view, progress_of, is_kept, ShowsState, RemembersReading, IsUnknown, HasProgress};
+ghost use Rattle.grok.specs.steps.Sizes.{Size};
+ghost use Rattle.grok.specs.steps.MeasuredOnce.{Progress as ProgressOf, State, Reading, labelled, with_progress, failed_progress, by_progress, nothing_measured};
+ghost use Rattle.grok.specs.steps.MeasureCache.{shown_progress, progress_view, progress_of, is_kept, ShowsState, RemembersReading, IsUnknown, HasProgress};
 ghost use Rattle.grok.specs.Items.{fault_view, label_view};
 
 use crate::defs::items::Label;
 use crate::errors::fault::Fault;
-use crate::expand::numbered_bases::NumberedBases;
+use crate::expand::numbered::ends_in_number;
 use crate::measure::Looks;
 use crate::measure::partial_size::{Failure, PartialSize, too_deep};
 use std::alloc::{AllocError, Global};
@@ -31,7 +31,8 @@ pub(super) enum Progress<'a> {
 pub(crate) struct MeasureCache<'a> {
     pub(super) by_name: BTreeMap<&'a str, Progress<'a>>,
     pub(super) looks: Looks,
-    pub(super) numbered: NumberedBases<'a>,
+    /// Whether a placeholder was read whose alias ends in a number in brackets, such as `x[1]`.
+    pub(super) has_numbered: bool,
 }
 
 impl<'a> MeasureCache<'a> {
@@ -43,7 +44,7 @@ impl<'a> MeasureCache<'a> {
         MeasureCache {
             by_name: BTreeMap::new(alloc),
             looks: Looks { pieces: 0, ends: 0 },
-            numbered: NumberedBases::new(alloc),
+            has_numbered: false,
         }
     }
 
@@ -86,14 +87,13 @@ impl<'a> MeasureCache<'a> {
         Ok(())
     }
 
-    /// Remembers `x` if the alias of the placeholder is `x` with a number in brackets, such as
-    /// `x[1]`.
-    pub(super) fn label(&mut self, label: Label<'a>) -> Result<(), AllocError>
-        ensures shows { OnOk result ((st : State) → ShowsState self.old st
-            → ShowsState self.new (labelled (label_view label.entry) st)) }
-        ensures by_name { OnOk result (self.new.by_name ≡ self.old.by_name) }
+    /// Remembers whether the alias of a placeholder ends in a number in brackets, such as `x[1]`.
+    pub(super) fn label(&mut self, label: Label<'a>)
+        ensures shows { (st : State) → ShowsState self.old st
+            → ShowsState self.new (labelled (label_view label.entry) st) }
+        ensures by_name { self.new.by_name ≡ self.old.by_name }
     {
-        self.numbered.add(label.alias)
+        self.has_numbered = ends_in_number(label.alias) || self.has_numbered;
     }
 }
 

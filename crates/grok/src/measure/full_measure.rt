@@ -1,13 +1,12 @@
 //! All that measuring a pattern finds out, as compiling needs it.
-ghost use Rattle.std.specs.Prelude.{◌≡◌, ℕ, List, IfOk};
+ghost use Rattle.std.specs.Prelude.{◌≡◌, IfOk};
 ghost use Rattle.grok.specs.Tree.{reached};
-ghost use Rattle.grok.specs.NumberedBases.{opens_numbered_from, is_base_in};
+ghost use Rattle.grok.specs.Keys.{has_numbered_alias};
 ghost use Rattle.grok.specs.Measured.{tree_of};
 ghost use Rattle.grok.specs.CountedMeasures.{IsCountedMeasure};
 
 use crate::defs::Grok;
 use crate::errors::fault::LEVELS;
-use crate::expand::numbered_bases::NumberedBases;
 use crate::measure::cache::Progress;
 use crate::measure::measurer::Measurer;
 use crate::measure::partial_size::measure_of_result;
@@ -21,8 +20,8 @@ use std::collections::BTreeMap;
 pub(crate) struct FullMeasure<'a> {
     pub measure: Measure<'a>,
     pub looks: Looks,
-    /// The bases of the reached aliases that end in a number in brackets.
-    pub numbered: NumberedBases<'a>,
+    /// Whether an alias is reached that ends in a number in brackets, such as `x[1]`.
+    pub has_numbered: bool,
     /// How far measuring each name's definition has come.
     by_name: BTreeMap<&'a str, Progress<'a>>,
 }
@@ -49,8 +48,8 @@ impl<'a> FullMeasure<'a> {
 }
 
 impl Grok {
-    /// Measures a pattern. Returns also how much was read for it, and the bases of the aliases that
-    /// it reaches and that end in a number in brackets.
+    /// Measures a pattern. Returns also how much was read for it, and whether it reaches an alias
+    /// that ends in a number in brackets.
     ///
     /// # Errors
     ///
@@ -62,20 +61,21 @@ impl Grok {
     ) -> Result<FullMeasure<'a>, AllocError>
         ensures measured { IfOk result (λ found.
             IsCountedMeasure self.now with_alias_only pattern.now found.measure found.looks) }
-        ensures numbered { IfOk result (λ found. (base : List ℕ) → is_base_in found.numbered base
-            ≡ opens_numbered_from base (reached (tree_of self.now pattern.now))) }
+        ensures numbered { IfOk result (λ found. found.has_numbered
+            ≡ has_numbered_alias (reached (tree_of self.now pattern.now))) }
     {
         let mut measurer = Measurer::new(MeasureSettings {
             grok: self,
             alloc: self.alloc(),
             with_alias_only,
         });
-        let answer = measurer.measure_text(pattern, LEVELS)?;
+        let mut frames = Vec::new(self.alloc());
+        let answer = measurer.measure_text(&mut frames, pattern, LEVELS)?;
         let cache = measurer.cache;
         Ok(FullMeasure {
             measure: measure_of_result(answer),
             looks: cache.looks,
-            numbered: cache.numbered,
+            has_numbered: cache.has_numbered,
             by_name: cache.by_name,
         })
     }

@@ -3,10 +3,10 @@
 ghost use Rattle.std.specs.Prelude.{◌≡◌, ◌+◌, ◌<◌, ◌≤◌, ◌^◌, [], ◌∷◌, Option, Result, OnOk, IfOk, IfErr, MatchOption, length, Some, option_map};
 ghost use Rattle.std.specs.FinMap as finite;
 ghost use Rattle.grok.specs.Tree.{first_structural, inside};
-ghost use Rattle.grok.specs.Sizes.{sizes, size_or_fault};
-ghost use Rattle.grok.specs.MeasuredOnce.{State, items_within, nothing_measured};
-ghost use Rattle.grok.specs.Measured.{tree_of, measured_tree, saturated};
-ghost use Rattle.grok.specs.MeasureCache.{items_in, shown_result, result_view, measure_view, ShowsState, unwound, AreLow, StopsReading, IsIdle, HasCorrectCache};
+ghost use Rattle.grok.specs.steps.Sizes.{sizes, size_or_fault};
+ghost use Rattle.grok.specs.steps.MeasuredOnce.{State, items_within, nothing_measured};
+ghost use Rattle.grok.specs.Measured.{tree_of, measured_tree, saturated, measure_view};
+ghost use Rattle.grok.specs.steps.MeasureCache.{items_in, shown_result, result_view, ShowsState, unwound, AreLow, StopsReading, HasCorrectCache};
 ghost use Rattle.grok.specs.Items.{fault_view, item_view, label_view};
 ghost use Rattle.grok.specs.Keys.{is_capturing};
 
@@ -41,8 +41,6 @@ pub(crate) struct Frame<'a> {
 pub(crate) struct Measurer<'a> {
     settings: MeasureSettings<'a>,
     pub(super) cache: MeasureCache<'a>,
-    /// The texts that wait, the innermost last. The list is empty between two calls.
-    frames: Vec<Frame<'a>>,
 }
 
 /// Returns the next item of a text. Counts in `looks` one more piece that was read, or, at the end
@@ -74,12 +72,10 @@ impl<'a> Measurer<'a> {
     pub fn new(settings: MeasureSettings<'a>) -> Measurer<'a>
         ensures settings { result.settings ≡ settings.entry }
         ensures nothing { ShowsState result.cache nothing_measured }
-        ensures idle { IsIdle result }
     {
         Measurer {
             settings,
             cache: MeasureCache::new(settings.alloc),
-            frames: Vec::new(settings.alloc),
         }
     }
 
@@ -91,27 +87,28 @@ impl<'a> Measurer<'a> {
     }
 
     /// Measures a text with `levels` levels left: returns its size, or its first fault. If it uses
-    /// a definition that isn't measured yet, a frame keeps the rest of the text until it is. On a
-    /// fault the open frames stay, so that the caller can remember the fault for their names.
+    /// a definition that isn't measured yet, a frame keeps the rest of the text until it is, the
+    /// innermost last. On a fault the open frames stay, so that the caller can remember the fault for
+    /// their names.
     ///
     /// # Errors
     ///
     /// If an allocation fails.
     pub(super) fn measure_text(
         &mut self,
+        frames: &mut Vec<Frame<'a>>,
         text: &'a str,
         levels: usize,
     ) -> Result<Result<PartialSize, Failure<'a>>, AllocError>
         requires few { levels < 2 ^ 31 }
-        requires idle { IsIdle self.old }
+        requires none { frames.old.items ≡ [] }
         ensures stops { IfOk result (λ r. (st : State) → ShowsState self.old.cache st →
-            StopsReading levels r self.new.frames.items self.new.cache (items_within self.old.settings.with_alias_only
+            StopsReading levels r frames.new.items self.new.cache (items_within self.old.settings.with_alias_only
             (items_in self.old.settings.grok.now) levels
             (items_in self.old.settings.grok.now text.now) st)) }
-        ensures ended { IfOk result (λ r. IfOk r (λ sum. self.new.frames.items ≡ [])) }
         ensures reach { IfOk result (λ r. IfErr r (λ failure. failure.height ≤ levels + 1)) }
-        ensures low { IfOk result (λ r. AreLow levels self.new.frames.items) }
-        ensures few { IfOk result (λ r. length self.new.frames.items ≤ levels) }
+        ensures low { IfOk result (λ r. AreLow levels frames.new.items) }
+        ensures few { IfOk result (λ r. length frames.new.items ≤ levels) }
         ensures settings { IfOk result (λ r. self.new.settings ≡ self.old.settings) }
     {
         let settings = self.settings;
@@ -124,7 +121,7 @@ impl<'a> Measurer<'a> {
                     return Ok(Err(fault_after(sum, Failure { fault, height: 0 })));
                 }
                 Some(Item::Placeholder(label, meaning)) => {
-                    let levels_left = levels - self.frames.len();
+                    let levels_left = levels - frames.len();
                     match measure_placeholder(
                         settings,
                         &mut self.cache,
@@ -137,7 +134,7 @@ impl<'a> Measurer<'a> {
                             sum, failure,
                         ))),
                         PlaceholderSize::Unread(stored) => {
-                            self.frames.push(Frame {
+                            frames.push(Frame {
                                 name: label.name,
                                 is_capturing: label.is_capturing(settings.with_alias_only),
                                 items,
@@ -148,7 +145,7 @@ impl<'a> Measurer<'a> {
                         }
                     }
                 }
-                None => match self.frames.pop() {
+                None => match frames.pop() {
                     None => return Ok(Ok(sum)),
                     Some(frame) => {
                         self.cache.set_progress(frame.name, Progress::HasSize(sum))?;
@@ -162,19 +159,23 @@ impl<'a> Measurer<'a> {
     }
 
     /// Removes all frames, and remembers the fault for the name that each of them waits for.
-    fn remember_fault(&mut self, levels: usize, mut failure: Failure<'a>) -> Result<(), AllocError>
+    fn remember_fault(
+        &mut self,
+        frames: &mut Vec<Frame<'a>>,
+        levels: usize,
+        mut failure: Failure<'a>,
+    ) -> Result<(), AllocError>
         requires levels { levels < 2 ^ 31 }
-        requires few { length self.old.frames.items ≤ levels }
-        requires low { AreLow levels self.old.frames.items }
+        requires few { length frames.old.items ≤ levels }
+        requires low { AreLow levels frames.old.items }
         requires reach { failure.height ≤ levels + 1 }
         ensures remembers { OnOk result ((st : State) → ShowsState self.old.cache st → st.reach
             ≡ failure.entry.height →
-            ShowsState self.new.cache (unwound levels self.old.frames.items (fault_view failure.entry.fault) st)) }
-        ensures idle { OnOk result (IsIdle self.new) }
+            ShowsState self.new.cache (unwound levels frames.old.items (fault_view failure.entry.fault) st)) }
         ensures settings { OnOk result (self.new.settings ≡ self.old.settings) }
     {
-        'frames: while let Some(frame) = self.frames.pop() {
-            let progress = progress_of_failure(failure, levels - self.frames.len());
+        'frames: while let Some(frame) = frames.pop() {
+            let progress = progress_of_failure(failure, levels - frames.len());
             self.cache.set_progress(frame.name, progress)?;
             failure.height += 1;
             failure = fault_after(frame.sum, failure);
@@ -189,7 +190,6 @@ impl<'a> Measurer<'a> {
         levels: usize,
     ) -> Result<Result<PartialSize, Failure<'a>>, AllocError>
         requires few { levels < 2 ^ 31 }
-        requires idle { IsIdle self.old }
         ensures size { IfOk result (λ r. HasCorrectCache self.old →
             result_view r ≡ shown_result (sizes self.old.settings.with_alias_only
             (size_or_fault self.old.settings.with_alias_only (items_in self.old.settings.grok.now) levels)
@@ -197,14 +197,14 @@ impl<'a> Measurer<'a> {
         ensures cache { IfOk result
             (λ r. HasCorrectCache self.old →
             HasCorrectCache self.new) }
-        ensures idle { IfOk result (λ r. IsIdle self.new) }
         ensures settings { IfOk result (λ r. self.new.settings ≡ self.old.settings) }
     {
-        let answer = self.measure_text(text, levels)?;
+        let mut frames = Vec::new(self.settings.alloc);
+        let answer = self.measure_text(&mut frames, text, levels)?;
         match answer {
             Ok(sum) => Ok(Ok(sum)),
             Err(failure) => {
-                self.remember_fault(levels, failure)?;
+                self.remember_fault(&mut frames, levels, failure)?;
                 Ok(Err(failure))
             }
         }
@@ -216,7 +216,6 @@ impl<'a> Measurer<'a> {
     ///
     /// If an allocation fails.
     pub fn measure_next(&mut self, pattern: &'a str) -> Result<Measure<'a>, AllocError>
-        requires { IsIdle self.old }
         ensures answer { IfOk result
             (λ measure. HasCorrectCache self.old →
             measure_view measure ≡ measured_tree self.old.settings.with_alias_only
@@ -224,7 +223,6 @@ impl<'a> Measurer<'a> {
         ensures cache { IfOk result
             (λ measure. HasCorrectCache self.old →
             HasCorrectCache self.new) }
-        ensures idle { IfOk result (λ measure. IsIdle self.new) }
         ensures settings { IfOk result (λ measure. self.new.settings ≡ self.old.settings) }
     {
         let answer = self.measure_within(pattern, LEVELS)?;
@@ -245,7 +243,6 @@ impl<'a> Measurer<'a> {
     ) -> Result<Result<PartialSize, Failure<'a>>, AllocError>
         requires some { 0 < levels }
         requires few { levels < 2 ^ 31 }
-        requires idle { IsIdle self.old }
         ensures size { IfOk result (λ r.
             HasCorrectCache self.old →
             finite.get self.old.settings.grok.now name.now ≡ Some stored.now →
@@ -254,7 +251,6 @@ impl<'a> Measurer<'a> {
         ensures cache { IfOk result
             (λ r. HasCorrectCache self.old →
             HasCorrectCache self.new) }
-        ensures idle { IfOk result (λ r. IsIdle self.new) }
         ensures settings { IfOk result (λ r. self.new.settings ≡ self.old.settings) }
     {
         if let Some(known) = self.cache.known(name, levels) {
@@ -277,7 +273,6 @@ impl<'a> Measurer<'a> {
     ) -> Result<Option<Fault<'a>>, AllocError>
         requires some { 0 < levels }
         requires few { levels < 2 ^ 31 }
-        requires idle { IsIdle self.old }
         ensures fault { IfOk result (λ fault.
             HasCorrectCache self.old →
             finite.get self.old.settings.grok.now name.now ≡ Some stored.now →
@@ -286,7 +281,6 @@ impl<'a> Measurer<'a> {
         ensures cache { IfOk result
             (λ fault. HasCorrectCache self.old →
             HasCorrectCache self.new) }
-        ensures idle { IfOk result (λ fault. IsIdle self.new) }
         ensures settings { IfOk result (λ fault. self.new.settings ≡ self.old.settings) }
     {
         let answer = self.size_of_definition(name, stored, levels)?;

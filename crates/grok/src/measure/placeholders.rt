@@ -1,9 +1,9 @@
 //! The size of a placeholder: it is known, or its definition has to be measured first.
 ghost use Rattle.std.specs.Prelude.{◌≡◌, ℕ, ◌+◌, ◌<◌, ◌≤◌, ◌^◌, Result, IfOk, IfErr, Some};
 ghost use Rattle.grok.specs.Tree.{Fault as ItemFault, PlaceholderItem};
-ghost use Rattle.grok.specs.Sizes.{Size, wrapped};
-ghost use Rattle.grok.specs.MeasuredOnce.{State, inlined, item_within, stored_within, deeper};
-ghost use Rattle.grok.specs.MeasureCache.{items_in, shown_result, result_view, ShowsState, ReturnsReading, HasReach, ReturnsSize, BeginsMeasuring, MustBeMeasured, MatchPlaceholderSize, IfMeasured};
+ghost use Rattle.grok.specs.steps.Sizes.{Size, wrapped};
+ghost use Rattle.grok.specs.steps.MeasuredOnce.{State, inlined, item_within, stored_within, deeper};
+ghost use Rattle.grok.specs.steps.MeasureCache.{items_in, shown_result, result_view, ShowsState, ReturnsReading, HasReach, ReturnsSize, BeginsMeasuring, MustBeMeasured, MatchPlaceholderSize, IfMeasured};
 ghost use Rattle.grok.specs.Items.{label_view, meaning_view};
 
 use crate::defs::definition::Definition;
@@ -117,7 +117,7 @@ pub(super) fn measure_placeholder<'a>(
     ensures reach { IfOk result
         (λ size. IfMeasured size (λ r. IfErr r (λ failure. failure.height ≤ levels + 1))) }
 {
-    cache.label(label)?;
+    cache.label(label);
     match meaning {
         Meaning::Inline(text) => {
             let inner = measure_inline(text, levels);

@@ -3,9 +3,9 @@ use Rattle.std.proofs.lemmas.List.{nil_from_length}
 use Rattle.std.specs.FinMap as finite
 use Rattle.grok.specs.Tree.{Definitions, deepest, items_of}
 use Rattle.grok.specs.Items.{item_view, meaning_view}
-use Rattle.grok.specs.PlacedItems.{IsOfLibrary, HasRead, left_in}
-use Rattle.grok.specs.Searches.{PassesMore, StopsAt}
-use Rattle.grok.specs.Descents.{IsStep, path_of}
+use Rattle.grok.specs.steps.PlacedItems.{IsOfLibrary, HasRead, left_in}
+use Rattle.grok.specs.steps.Searches.{PassesMore, StopsAt}
+use Rattle.grok.specs.steps.Descents.{IsStep, path_of}
 use Rattle.grok.specs.declared.defs.placed_items.PlacedItems.{PlacedItems}
 use Rattle.grok.specs.declared.descend.Opened.{Opened}
 use Rattle.grok.proofs.Trees.DescentFindsPlace.{descending_starts, descending_fits, descending_levels, descending_goes_on, descending_stops, descending_enters, descending_ends, closes_on, closes_here, found_at, step_fewer, enter_fewer, close_fewer, all_passed, passes_none, passes_both}

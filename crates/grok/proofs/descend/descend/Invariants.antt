@@ -1,8 +1,8 @@
 use Rattle.std.proofs.Common.{◌≡◌, length}
 use Rattle.std.specs.FinMap as finite
 use Rattle.grok.proofs.Trees.DescentFindsPlace.{IsDescending, left_of}
-use Rattle.grok.specs.PlacedItems.{left_in}
-use Rattle.grok.specs.Searches.{PassesMore}
+use Rattle.grok.specs.steps.PlacedItems.{left_in}
+use Rattle.grok.specs.steps.Searches.{PassesMore}
 use Rattle.grok.proofs.descend.descend.Given as goal
 
 abbrev pub invariant-items : goal.invariant-items

@@ -1,6 +1,6 @@
 use Rattle.std.proofs.Common.{◌≡◌, ◌++◌, drop}
 use Rattle.grok.specs.FaultLocations.{path_view}
-use Rattle.grok.specs.Descents.{path_of}
+use Rattle.grok.specs.steps.Descents.{path_of}
 use Rattle.grok.proofs.descend.place_of.Given as goal
 
 abbrev pub invariant-texts : goal.invariant-texts

@@ -2,8 +2,8 @@ use Rattle.std.proofs.Common.{◌≡◌, ◌-◌, suc, [], ◌∷◌, ◌++◌, 
 use Rattle.grok.specs.Tree.{TooDeep, TextItem, FaultItem, PlaceholderItem, Open, Close, Text, FaultEvent, meaning_text, items_of, events, inside}
 use Rattle.grok.specs.Items.{item_view, label_view, meaning_view, fault_view}
 use Rattle.grok.specs.ByteLocations.{Regular, Opening, Closing, Broken, Deep}
-use Rattle.grok.specs.Searches.{PassesMore, StopsAt}
-use Rattle.grok.specs.Descents.{StopsInItem}
+use Rattle.grok.specs.steps.Searches.{PassesMore, StopsAt}
+use Rattle.grok.specs.steps.Descents.{StopsInItem}
 use Rattle.grok.proofs.Trees.DescentFindsPlace.{last_step, passes_none, passes_both}
 use Rattle.grok.proofs.descend.step_at_item.Goals as goal
 

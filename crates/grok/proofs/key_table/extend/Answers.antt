@@ -1,7 +1,7 @@
 use Rattle.std.proofs.Common.{◌≡◌, ℕ, List, [], ◌∷◌, ◌++◌, length, sym, ◌∙◌, ap, subst, arith}
 use Rattle.std.specs.String.{string_bytes}
 use Rattle.grok.specs.declared.key_table.KeyRange.{KeyRange}
-use Rattle.grok.specs.KeyRanges.{IsExtended}
+use Rattle.grok.specs.steps.KeyRanges.{IsExtended}
 use Rattle.grok.proofs.KeyTables.OneMoreKey.{extended}
 use Rattle.grok.proofs.key_table.extend.Goals as goal
 

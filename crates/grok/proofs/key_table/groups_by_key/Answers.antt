@@ -5,6 +5,7 @@ use Rattle.std.specs.BTreeMap.{BTreeMap, get_by}
 use Rattle.std.specs.Cmp.Lexicographic.{slice_cmp}
 use Rattle.std.specs.Ordering.{nat_cmp}
 use Rattle.std.proofs.lemmas.Map.Text.{btree_map_updates_str}
+use Rattle.grok.specs.KeyNumbers.{key_text}
 use Rattle.grok.specs.KeyTable.{last_or, groups_from, group_of, meant_key}
 use Rattle.grok.specs.Captures.{name_texts}
 use Rattle.grok.proofs.KeyTables.NamesMeanKeys.{no_name, one_name}
@@ -17,7 +18,7 @@ look key m = get_by (λ (k : Bor (List ℕ)). slice_cmp nat_cmp key k.now) m
 pub names-preserved : goal.names-preserved
 unfolding look
 names-preserved c key =
-    let keys : List (List ℕ) = map string_bytes c.args.keys.now in
+    let keys : List (List ℕ) = map key_text c.args.keys.now in
     let names = c.args.names.now in
     let group = c.names.group in
     let whole = group_of keys (name_texts names) key in

@@ -7,8 +7,7 @@ use Rattle.grok_commands.specs.Library.{library_of}
 use Rattle.grok_commands.specs.SizeTexts.{placeholder_of, IsCheckLine}
 use Rattle.grok_commands.proofs.FirstAnswersHaveGoneOut.{answered_start, answered_step, answered_whole}
 use Rattle.grok_commands.proofs.LinesHaveTheirMeasures.{as_many, line_at}
-use Rattle.grok.specs.Measured.{tree_of, measured_tree}
-use Rattle.grok.specs.MeasureCache.{measure_view}
+use Rattle.grok.specs.Measured.{tree_of, measured_tree, measure_view}
 use Rattle.grok_commands.proofs.check.hold_definitions.Goals as goal
 
 pub names-init : goal.names-init

@@ -3,7 +3,7 @@ use Rattle.std.specs.Option.{option_map}
 use Rattle.std.specs.FinMap as finite
 use Rattle.grok.specs.Tree.{tree}
 use Rattle.grok.specs.Keys.{Structural, first_fault}
-use Rattle.grok.specs.MeasureCache.{measure_view}
+use Rattle.grok.specs.Measured.{measure_view}
 use Rattle.grok.proofs.Keys.KeysAreDistinct.{other_fault_is_structural}
 use Rattle.grok.proofs.Trees.StepsCompile.{sized_is}
 use Rattle.grok.proofs.Trees.DiagnosisIsFirstFault.{no_clash}

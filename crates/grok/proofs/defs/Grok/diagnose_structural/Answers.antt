@@ -1,6 +1,7 @@
-use Rattle.std.proofs.Common.{ap, subst}
+use Rattle.std.proofs.Common.{sym, ap, subst}
 use Rattle.std.specs.FinMap as finite
 use Rattle.grok.specs.declared.errors.fault.Fault.{Fault}
+use Rattle.grok.specs.Tree.{MalformedPiece}
 use Rattle.grok.specs.Items.{fault_view}
 use Rattle.grok.specs.Diagnoses.{IsFirstStructural}
 use Rattle.grok.proofs.Trees.DiagnosisIsFirstFault.{first_structural_at, malformed_at_location}
@@ -19,15 +20,21 @@ returns-in-TooDeep c =
     (rw c.in-Some.is at c.in_ok-found.ensures.fault) (rw c.in-Some.is at c.in_ok-found.ensures.location))
 
 pub malformation_at-reason-requires : goal.malformation_at-reason-requires
-malformation_at-reason-requires c =
-    malformed_at_location (finite.get c.args.self.now) c.args.pattern.now (fault_view c.in-Some.found.fault) c.in-Malformed.field-0 c.in-Some.found.location
-    (rw c.in-Some.is at c.in_ok-found.ensures.location) (ap fault_view c.in-Malformed.is)
+malformation_at-reason-requires c = (
+  c.in-Malformed.field-0,
+  malformed_at_location (finite.get c.args.self.now) c.args.pattern.now (fault_view c.in-Some.found.fault) c.in-Malformed.field-0 c.in-Some.found.location
+      (rw c.in-Some.is at c.in_ok-found.ensures.location) (ap fault_view c.in-Malformed.is),
+)
 
 pub returns-in-Malformed : goal.returns-in-Malformed
-returns-in-Malformed c = record {
-  fault = c.in-Malformed.field-0;
-  structural = subst (λ (fault : Fault). IsFirstStructural c.args.self.now c.args.with_alias_only c.args.pattern.now (fault_view fault) c.in-Some.found.location) c.in-Malformed.is
-      (first_structural_at c.args.self.now c.args.with_alias_only c.args.pattern.now (fault_view c.in-Some.found.fault) c.in-Some.found.location c.requires.no_clash
-      (rw c.in-Some.is at c.in_ok-found.ensures.fault) (rw c.in-Some.is at c.in_ok-found.ensures.location));
-  malformed = c.malformation_at-reason.ensures;
-}
+returns-in-Malformed c =
+    let location = c.in-Some.found.location in
+    let at = malformed_at_location (finite.get c.args.self.now) c.args.pattern.now (fault_view c.in-Some.found.fault) c.in-Malformed.field-0 location
+    (rw c.in-Some.is at c.in_ok-found.ensures.location) (ap fault_view c.in-Malformed.is) in
+    record {
+      structural = subst (λ error. IsFirstStructural c.args.self.now c.args.with_alias_only c.args.pattern.now (MalformedPiece error) location) (sym (c.malformation_at-reason.ensures.fault c.in-Malformed.field-0 at))
+          (subst (λ (fault : Fault). IsFirstStructural c.args.self.now c.args.with_alias_only c.args.pattern.now (fault_view fault) location) c.in-Malformed.is
+          (first_structural_at c.args.self.now c.args.with_alias_only c.args.pattern.now (fault_view c.in-Some.found.fault) location c.requires.no_clash
+          (rw c.in-Some.is at c.in_ok-found.ensures.fault) (rw c.in-Some.is at c.in_ok-found.ensures.location)));
+      malformed = c.malformation_at-reason.ensures.malformed;
+    }

@@ -5,9 +5,8 @@ use Rattle.grok.specs.Tree.{Event, tree, first_structural, Fault}
 use Rattle.grok.specs.Keys.{Structural}
 use Rattle.grok.specs.Items.{fault_view}
 use Rattle.grok.specs.Errors.{error_value, CompiledPatternIsEmpty}
-use Rattle.grok.specs.Compiled.{expansion_of, IsCompileError, Empty, First, NoMemory}
-use Rattle.grok.specs.Expansions.{NeverRefuses}
-use Rattle.grok.specs.MeasureCache.{measure_view}
+use Rattle.grok.specs.Compiled.{NeverRefuses, expansion_of, IsCompileError, Empty, First, NoMemory}
+use Rattle.grok.specs.Measured.{measure_view}
 use Rattle.grok.proofs.Trees.StepsCompile.{expansion_without_memory, faulty_is, structural_error, sized_is, sized_fits, some_bytes, no_bytes}
 use Rattle.grok.proofs.defs.Grok.expand.Goals as goal
 

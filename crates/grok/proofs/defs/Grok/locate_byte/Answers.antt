@@ -5,12 +5,12 @@ use Rattle.grok.specs.declared.locate_byte.ByteSearch.{ByteSearch}
 use Rattle.grok.specs.Tree.{tree, first_structural}
 use Rattle.grok.specs.Expanded.{expanded}
 use Rattle.grok.specs.Items.{item_view}
-use Rattle.grok.specs.Measured.{tree_of, measured_tree}
-use Rattle.grok.specs.MeasuredOnce.{nothing_measured}
-use Rattle.grok.specs.MeasureCache.{HasCorrectCache, measure_view}
+use Rattle.grok.specs.Measured.{tree_of, measured_tree, measure_view}
+use Rattle.grok.specs.steps.MeasuredOnce.{nothing_measured}
+use Rattle.grok.specs.steps.MeasureCache.{HasCorrectCache}
 use Rattle.grok.specs.FaultLocations.{path_view}
 use Rattle.grok.specs.ByteLocations.{IsByteLocation}
-use Rattle.grok.specs.ByteSearches.{IsLater}
+use Rattle.grok.specs.steps.ByteSearches.{IsLater}
 use Rattle.grok.proofs.Sizes.MeasuringAgain.{nothing_true}
 use Rattle.grok.proofs.Trees.ByteIsLocated.{measured_clean, nothing_passed, byte_found}
 use Rattle.grok.proofs.defs.Grok.locate_byte.Goals as goal
@@ -21,7 +21,7 @@ descend-requires c κs =
     let known : HasCorrectCache c.new-measurer.result =
     record { st = nothing_measured; shows = c.new-measurer.ensures.nothing; is_true = nothing_true c.new-measurer.result.settings.grok.now c.new-measurer.result.settings.with_alias_only } in
     let settings = c.in_ok-measure.ensures.settings ∙ c.new-measurer.ensures.settings in
-    ((refl, tt), ((c.in_ok-measure.ensures.idle, c.in_ok-measure.ensures.cache known), (ap (λ (settings : MeasureSettings). finite.get settings.grok.now) settings, nothing_passed start c.size_of_text.ensures.shown)))
+    ((refl, tt), (c.in_ok-measure.ensures.cache known, (ap (λ (settings : MeasureSettings). finite.get settings.grok.now) settings, nothing_passed start c.size_of_text.ensures.shown)))
 
 pub returns-in-None : goal.returns-in-None
 returns-in-None c has =

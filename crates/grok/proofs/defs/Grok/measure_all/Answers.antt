@@ -1,9 +1,8 @@
 use Rattle.std.proofs.Common.{◌≡◌, ℕ, ◌+◌, ◌<◌, List, [], ◌∷◌, ◌++◌, length, get_or, take, map, Bor, sym, ◌∙◌, ap, ap₂}
 use Rattle.std.proofs.lemmas.List.{map-append, take_more}
-use Rattle.grok.specs.MeasuredOnce.{nothing_measured}
-use Rattle.grok.specs.Measured.{tree_of, measured_tree}
+use Rattle.grok.specs.steps.MeasuredOnce.{nothing_measured}
+use Rattle.grok.specs.Measured.{tree_of, measured_tree, measure_view}
 use Rattle.grok.specs.declared.measure.settings.MeasureSettings.{MeasureSettings}
-use Rattle.grok.specs.MeasureCache.{measure_view}
 use Rattle.grok.proofs.Sizes.MeasuringAgain.{nothing_true}
 use Rattle.grok.proofs.defs.Grok.measure_all.Goals as goal
 
@@ -17,7 +16,6 @@ patterns-init c = record {
   grok = ap (λ (settings : MeasureSettings). settings.grok.now) c.new-measurer.ensures.settings;
   alias_only = ap (λ (settings : MeasureSettings). settings.with_alias_only) c.new-measurer.ensures.settings;
   remembers = record { st = nothing_measured; shows = c.new-measurer.ensures.nothing; is_true = nothing_true c.new-measurer.result.settings.grok.now c.new-measurer.result.settings.with_alias_only };
-  idle = c.new-measurer.ensures.idle;
   measured = ap (map measure_view) c.new-measures.ensures.items;
 }
 
@@ -30,7 +28,6 @@ patterns-preserved c =
       grok = ap (λ (settings : MeasureSettings). settings.grok.now) settings ∙ invariant.grok;
       alias_only = ap (λ (settings : MeasureSettings). settings.with_alias_only) settings ∙ invariant.alias_only;
       remembers = c.in_ok-measure.ensures.cache invariant.remembers;
-      idle = c.in_ok-measure.ensures.idle;
       measured = ap (map measure_view) c.in_ok-push.ensures.items
           ∙ one_more measure_view (λ (pattern : Bor (List ℕ)). measured_tree c.args.with_alias_only (tree_of c.args.self.now pattern.now)) c.patterns.measures.items c.in_ok-measure.measure c.args.patterns.now c.patterns.pattern-index
           (record { ref_ptr = (0, 0); now = [] }) c.patterns-test.true

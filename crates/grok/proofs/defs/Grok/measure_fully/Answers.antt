@@ -2,10 +2,11 @@ use Rattle.std.proofs.Common.{subst}
 use Rattle.std.specs.FinMap as finite
 use Rattle.grok.specs.declared.measure.settings.MeasureSettings.{MeasureSettings}
 use Rattle.grok.specs.Tree as tree
-use Rattle.grok.specs.MeasuredOnce.{State, items_within, nothing_measured}
-use Rattle.grok.specs.MeasureCache.{ShowsState, StopsReading, measure_view}
+use Rattle.grok.specs.steps.MeasuredOnce.{State, items_within, nothing_measured}
+use Rattle.grok.specs.steps.MeasureCache.{ShowsState, StopsReading}
+use Rattle.grok.specs.Measured.{measure_view}
 use Rattle.grok.proofs.Sizes.MeasuringAgain.{answer_is, nothing_true}
-use Rattle.grok.proofs.Sizes.MeasureIsCounted.{pieces_most, ends_most, pieces_all, ends_all, pieces_read, ends_read, numbered_is}
+use Rattle.grok.proofs.Sizes.MeasureIsCounted.{pieces_most, ends_most, pieces_all, ends_all, numbered_is}
 use Rattle.grok.proofs.defs.Grok.measure_fully.Goals as goal
 
 pub returns : goal.returns
@@ -16,7 +17,7 @@ returns c =
     let r = c.in_ok-answer.answer in
     let cache = c.measure_text.new.self.cache in
     let resolve = tree.items_of (finite.get texts) in
-    let frames = c.measure_text.new.self.frames.items in
+    let frames = c.measure_text.new.frames.items in
     let each : (st : State) → ShowsState c.new-measurer.result.cache st → StopsReading tree.deepest r frames cache (items_within alias_only resolve tree.deepest (resolve pattern) st) =
     subst (λ (settings : MeasureSettings). (st : State) → ShowsState c.new-measurer.result.cache st → StopsReading tree.deepest r frames cache
     (items_within settings.with_alias_only (tree.items_of (finite.get settings.grok.now)) tree.deepest (tree.items_of (finite.get settings.grok.now) pattern) st)) c.new-measurer.ensures.settings c.in_ok-answer.ensures.stops in
@@ -28,8 +29,6 @@ returns c =
         ends = ends_most texts alias_only pattern r frames cache stops;
         all_pieces = pieces_all texts alias_only pattern r frames cache stops;
         all_ends = ends_all texts alias_only pattern r frames cache stops;
-        read_pieces = pieces_read texts alias_only pattern r frames cache stops;
-        read_ends = ends_read texts alias_only pattern r frames cache stops;
       };
       numbered = numbered_is texts alias_only pattern r frames cache stops;
     }

@@ -3,7 +3,7 @@ use Rattle.std.specs.List.{All}
 use Rattle.std.proofs.lemmas.List.Elements.{All-nil, All-push}
 use Rattle.grok.specs.Pieces.{pieces}
 use Rattle.grok.specs.Views.{piece_view}
-use Rattle.grok.specs.Spans.{IsSpanOf, IsPieceOf}
+use Rattle.grok.specs.steps.Spans.{IsSpanOf, IsPieceOf}
 use Rattle.grok.proofs.Pieces.PartsEndAtBoundaries.{pieces_stand}
 use Rattle.grok.proofs.Pieces.OneMoreSpan.{one_more, All-later}
 use Rattle.grok.proofs.defs.spans.spans_of.Goals as goal

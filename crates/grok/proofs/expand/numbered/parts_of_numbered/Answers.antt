@@ -6,7 +6,7 @@ use Rattle.grok.proofs.Keys.NumberedKeysAreReadBack.{is_closed, is_opened, no_br
 use Rattle.grok.proofs.expand.numbered.parts_of_numbered.Goals as goal
 
 abbrev Answers : List ℕ → Option (Bor (List ℕ) × ℕ) → Type 0
-Answers key r = MatchOption r ((base : List ℕ) (count : ℕ) → suc count < 2 ^ 64 → key ≡ numbered base (suc count) → ⊥) (λ parts. (0 < parts.1) × (key ≡ numbered parts.0.now parts.1))
+Answers key r = MatchOption r ((base : List ℕ) (count : ℕ) → suc count < 2 ^ 64 → key ≡ numbered base (suc count) → ⊥) (λ parts. (0 < parts.1) × (key ≡ numbered parts.0.now parts.1) × (parts.1 < 2 ^ 64))
 
 pub returns-in_err-inside : goal.returns-in_err-inside
 returns-in_err-inside c =
@@ -45,4 +45,4 @@ returns-else-number-eq0 c =
     let (i, j, found, before, after, le, front_long, back_long) = c.in_ok-base.ensures.cases in
     let split = is_split inside c.in_ok-base.base.now c.in_ok-base.digits.now i j found before after in
     let some : 0 < c.in_ok-number.number = omega (arith, c.if-number-eq0.false) in
-    (some, is_numbered c.args.key.now inside c.in_ok-base.base.now c.in_ok-base.digits.now c.in_ok-number.number ends split.cut c.in_ok-number.ensures some)
+    (some, is_numbered c.args.key.now inside c.in_ok-base.base.now c.in_ok-base.digits.now c.in_ok-number.number ends split.cut c.in_ok-number.ensures some, omega arith)

@@ -2,8 +2,8 @@ use Rattle.std.proofs.Common.{◌≡◌, ◌≤◌, None, length, subst}
 use Rattle.std.specs.String.{string_capacity}
 use Rattle.grok.specs.Tree.{first_structural}
 use Rattle.grok.specs.Expanded.{expanded}
-use Rattle.grok.specs.Events.{event_view}
-use Rattle.grok.specs.AssignedKeys.{HasKeys}
+use Rattle.grok.specs.steps.Events.{event_view}
+use Rattle.grok.specs.steps.AssignedKeys.{HasKeys}
 use Rattle.grok.specs.declared.expand.write.Output.{Output}
 use Rattle.grok.proofs.Trees.TextIsWritten.{ready_whole, written_none, written_counted, written_ready, written_more, written_keys}
 use Rattle.grok.proofs.expand.write.write.Goals as goal

@@ -1,12 +1,12 @@
 use Rattle.std.proofs.Common.{◌≡◌, Result, Ok, Err, map, ◌∙◌, ap, IfOk}
-use Rattle.std.specs.String.{string_bytes}
 use Rattle.std.specs.List.Sorted.{IsStrictlySortedBy}
 use Rattle.std.specs.Map.{keys_of}
 use Rattle.std.specs.Cmp.Lexicographic.{slice_cmp}
 use Rattle.std.specs.Ordering.{nat_cmp}
 use Rattle.grok.specs.Captures.{name_texts}
+use Rattle.grok.specs.KeyNumbers.{key_text}
 use Rattle.grok.specs.KeyTable.{Entries, group_in, IsKeyTable}
-use Rattle.grok.specs.KeyRanges.{entry_of}
+use Rattle.grok.specs.steps.KeyRanges.{entry_of}
 use Rattle.grok.proofs.KeyTables.OneMoreKey.{same_group}
 use Rattle.grok.proofs.key_table.KeyTable.for_names.Goals as goal
 
@@ -18,7 +18,7 @@ pub returns : goal.returns
 returns c =
     let entries = c.in_ok-groups.groups.entries in
     both (λ table. table ≡ map entry_of entries) (λ table. IsStrictlySortedBy (slice_cmp nat_cmp) (keys_of table))
-    (IsKeyTable (map string_bytes c.args.keys.now) (name_texts c.args.names.now))
+    (IsKeyTable (map key_text c.args.keys.now) (name_texts c.args.names.now))
     c.new.result
     (λ table is sorted. record {
       sorted = sorted;

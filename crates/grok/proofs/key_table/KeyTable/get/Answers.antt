@@ -6,7 +6,7 @@ use Rattle.std.specs.String.{string_bytes}
 use Rattle.std.proofs.lemmas.Fn.{always_returns_same}
 use Rattle.grok.specs.declared.key_table.KeyRange.{KeyRange}
 use Rattle.grok.specs.KeyTable.{Entries, group_in}
-use Rattle.grok.specs.KeyRanges.{key_or_none, entries_at}
+use Rattle.grok.specs.steps.KeyRanges.{key_or_none, entries_at}
 use Rattle.grok.proofs.KeyTables.BinarySearchFindsKey.{halved}
 use Rattle.grok.proofs.key_table.KeyTable.get.Goals as goal
 

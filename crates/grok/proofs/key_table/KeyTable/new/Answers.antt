@@ -4,7 +4,7 @@ use Rattle.std.specs.Map.{keys_of}
 use Rattle.std.specs.Cmp.Lexicographic.{slice_cmp}
 use Rattle.std.specs.Ordering.{nat_cmp}
 use Rattle.grok.specs.KeyTable.{Entries}
-use Rattle.grok.specs.KeyRanges.{entry_of}
+use Rattle.grok.specs.steps.KeyRanges.{entry_of}
 use Rattle.grok.proofs.KeyTables.OneMoreKey.{sorted_shown}
 use Rattle.grok.proofs.key_table.KeyTable.new.Goals as goal
 

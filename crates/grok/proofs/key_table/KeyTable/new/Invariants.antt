@@ -1,7 +1,7 @@
 use Rattle.std.proofs.Common.{◌≡◌, ◌++◌, map}
 use Rattle.std.specs.List.{AllByRecursion}
 use Rattle.std.specs.String.{string_bytes}
-use Rattle.grok.specs.KeyRanges.{entries_at, entry_of, IsKeyRange}
+use Rattle.grok.specs.steps.KeyRanges.{entries_at, entry_of, IsKeyRange}
 use Rattle.grok.proofs.key_table.KeyTable.new.Given as goal
 
 -- the entries so far, and those that are left, make the whole

@@ -1,4 +1,4 @@
-use Rattle.grok.specs.Events.{event_view}
+use Rattle.grok.specs.steps.Events.{event_view}
 use Rattle.grok.proofs.Trees.FirstFaultIsLocated.{passes_event}
 use Rattle.grok.proofs.locate.FaultSearchSearch.pass_event.Goals as goal
 

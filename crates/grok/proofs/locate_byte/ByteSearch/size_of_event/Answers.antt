@@ -3,8 +3,8 @@ use Rattle.std.specs.Prelude.{codes}
 use Rattle.grok.specs.Tree.{Text, Open, Close, FaultEvent}
 use Rattle.grok.specs.Keys.{is_capturing}
 use Rattle.grok.specs.Items.{label_view, meaning_view, fault_view}
-use Rattle.grok.specs.Sizes.{size_of_bytes, head_size}
-use Rattle.grok.specs.MeasureCache.{shown}
+use Rattle.grok.specs.steps.Sizes.{size_of_bytes, head_size}
+use Rattle.grok.specs.steps.MeasureCache.{shown}
 use Rattle.grok.proofs.Trees.ByteIsLocated.{size_known}
 use Rattle.grok.proofs.locate_byte.ByteSearch.size_of_event.Goals as goal
 

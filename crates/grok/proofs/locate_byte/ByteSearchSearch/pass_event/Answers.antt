@@ -1,5 +1,5 @@
 use Rattle.std.proofs.Common.{[], ◌∷◌}
-use Rattle.grok.specs.Events.{event_view}
+use Rattle.grok.specs.steps.Events.{event_view}
 use Rattle.grok.proofs.locate_byte.ByteSearchSearch.pass_event.Goals as goal
 
 pub returns-clause-passed : goal.returns-clause-passed

@@ -1,5 +1,5 @@
 use Rattle.std.proofs.Common.{◌≡◌, ◌+◌, ◌-◌, ◌*◌, ◌^◌, ◌≤◌, suc, Some, arith, sym, ap, ◌∙◌, add-one}
-use Rattle.grok.specs.MeasureCache.{fit}
+use Rattle.grok.specs.steps.MeasureCache.{fit}
 use Rattle.grok.proofs.Sizes.DigitsAddUp.{tens, above, tens_fit, digits_above}
 use Rattle.grok.proofs.Sizes.SumsFit.{fit_is}
 use Rattle.grok.proofs.measure.partial_size.digits_of_numbers_below.Goals as goal

@@ -1,5 +1,5 @@
 use Rattle.std.proofs.Common.{◌≡◌, ◌+◌}
-use Rattle.grok.specs.MeasureCache.{fit}
+use Rattle.grok.specs.steps.MeasureCache.{fit}
 use Rattle.grok.proofs.Sizes.DigitsAddUp.{tens, above}
 use Rattle.grok.proofs.measure.partial_size.digits_of_numbers_below.Given as goal
 

@@ -1,7 +1,7 @@
 use Rattle.std.proofs.Common.{◌≡◌, ◌<◌, Err, refl, sym, ap, arith}
-use Rattle.grok.specs.MeasuredOnce.{InProgress}
+use Rattle.grok.specs.steps.MeasuredOnce.{InProgress}
 use Rattle.grok.specs.Items.{fault_view, label_view}
-use Rattle.grok.specs.MeasureCache.{items_in}
+use Rattle.grok.specs.steps.MeasureCache.{items_in}
 use Rattle.grok.proofs.Sizes.MeasureLoopIsReading.{known_gives, none_gives}
 use Rattle.grok.proofs.measure.placeholders.measure_stored.Goals as goal
 

@@ -1,7 +1,7 @@
 use Rattle.std.proofs.Common.{◌≡◌, ◌∷◌, subst}
 use Rattle.std.specs.List.{All}
-use Rattle.grok.specs.Spans.{IsSpanOf}
-use Rattle.grok.specs.Sources.{IsSource}
+use Rattle.grok.specs.steps.Spans.{IsSpanOf}
+use Rattle.grok.specs.steps.Sources.{IsSource}
 use Rattle.grok.proofs.Pieces.OneMoreSpan.{All-later}
 use Rattle.grok.proofs.defs.pieces.PiecesIterator.next.Goals as goal
 use Rattle.grok.proofs.defs.pieces.PiecesIterator.next.Goals.{in-Split, in-Kept+in_ok-first-in-Kept}

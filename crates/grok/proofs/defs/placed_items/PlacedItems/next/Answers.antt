@@ -5,7 +5,7 @@ use Rattle.grok.specs.Tree.{Definitions, Inline, Stored, Item, TextItem, FaultIt
 use Rattle.grok.specs.Views.{piece_view}
 use Rattle.grok.specs.Items.{item_view, written_in}
 use Rattle.grok.specs.FaultLocations.{end_of, end_of_all}
-use Rattle.grok.specs.PlacedItems.{IsOfLibrary, left_in}
+use Rattle.grok.specs.steps.PlacedItems.{IsOfLibrary, left_in}
 use Rattle.grok.proofs.Sizes.TextsWithoutPlaceholders.{AreSound, sound_rest}
 use Rattle.grok.proofs.Sizes.ItemsAreSound.{sound_texts}
 use Rattle.grok.proofs.defs.placed_items.PlacedItems.next.Goals as goal

@@ -1,7 +1,7 @@
 use Rattle.std.proofs.lemmas.Map.Text.{btree_map_updates_str}
 use Rattle.std.proofs.Common.{Some}
 use Rattle.grok.proofs.Sizes.MeasureLoopIsReading.{progress_shows}
-use Rattle.grok.specs.MeasureCache.{HasProgress}
+use Rattle.grok.specs.steps.MeasureCache.{HasProgress}
 use Rattle.grok.proofs.measure.cache.MeasureCache.set_progress.Goals as goal
 
 pub returns : goal.returns

@@ -1,6 +1,6 @@
 use Rattle.std.proofs.Common.{◌∙◌, refl}
-use Rattle.grok.specs.Sizes.{size_or_fault}
-use Rattle.grok.specs.MeasureCache.{items_in}
+use Rattle.grok.specs.steps.Sizes.{size_or_fault}
+use Rattle.grok.specs.steps.MeasureCache.{items_in}
 use Rattle.grok.proofs.Sizes.KnownResultsAreRight.{fault_inside}
 use Rattle.grok.proofs.measure.measurer.Measurer.fault_of_definition.Goals as goal
 

@@ -1,7 +1,7 @@
 use Rattle.std.proofs.Common.{refl, ◌∙◌}
 use Rattle.grok.specs.Tree.{deepest}
-use Rattle.grok.specs.Sizes.{sizes, size_or_fault}
-use Rattle.grok.specs.MeasureCache.{items_in}
+use Rattle.grok.specs.steps.Sizes.{sizes, size_or_fault}
+use Rattle.grok.specs.steps.MeasureCache.{items_in}
 use Rattle.grok.proofs.Sizes.MeasuringAgain.{tree_from}
 use Rattle.grok.proofs.measure.measurer.Measurer.measure_next.Goals as goal
 

@@ -2,12 +2,12 @@ use Rattle.std.proofs.Common.{Ok, Err, ◌≡◌, ◌+◌, ◌-◌, ◌<◌, ◌
 use Rattle.std.specs.FinMap as finite
 use Rattle.grok.specs.Tree.{PlaceholderItem}
 use Rattle.grok.specs.Items.{label_view, meaning_view, item_view}
-use Rattle.grok.specs.MeasuredOnce.{State, items_within, with_progress, item_within}
-use Rattle.grok.specs.MeasuredOnce as kept
-use Rattle.grok.specs.Sizes.{Size, in_brackets, plus}
+use Rattle.grok.specs.steps.MeasuredOnce.{State, items_within, with_progress, item_within}
+use Rattle.grok.specs.steps.MeasuredOnce as kept
+use Rattle.grok.specs.steps.Sizes.{Size, in_brackets, plus}
 use Rattle.grok.specs.declared.measure.cache.Progress.TheVariants.{HasSize}
 use Rattle.grok.specs.Measured.{saturated}
-use Rattle.grok.specs.MeasureCache.{items_in, shown, ShowsState, ReturnsReading, MustBeMeasured, StopsReading}
+use Rattle.grok.specs.steps.MeasureCache.{items_in, shown, ShowsState, ReturnsReading, MustBeMeasured, StopsReading}
 use Rattle.grok.specs.declared.measure.Looks.{Looks}
 use Rattle.grok.specs.declared.measure.partial_size.Failure.{Failure}
 use Rattle.grok.specs.declared.measure.measurer.Frame.{Frame}
@@ -21,12 +21,12 @@ use Rattle.grok.proofs.measure.measurer.Measurer.measure_text.Goals as goal
 pub items-init : goal.items-init
 items-init c =
     let texts = c.args.self.now.settings.grok.now in
-    let none : c.args.self.now.frames.items ≡ [] = c.requires.idle in
+    let none : c.args.frames.now.items ≡ [] = c.requires.none in
     let resolve = items_in texts in
     record {
       settings = refl;
       goes_on = λ st shows.
-          subst (λ items. ContinuesReading c.args.self.now.settings.with_alias_only resolve c.args.levels (items_within c.args.self.now.settings.with_alias_only resolve c.args.levels (resolve c.args.text.now) st) c.args.self.now.frames.items items c.size_of_text-sum.result c.args.self.now.cache)
+          subst (λ items. ContinuesReading c.args.self.now.settings.with_alias_only resolve c.args.levels (items_within c.args.self.now.settings.with_alias_only resolve c.args.levels (resolve c.args.text.now) st) c.args.frames.now.items items c.size_of_text-sum.result c.args.self.now.cache)
           (sym c.of_text-items.ensures)
           (subst (λ frames. ContinuesReading c.args.self.now.settings.with_alias_only resolve c.args.levels (items_within c.args.self.now.settings.with_alias_only resolve c.args.levels (resolve c.args.text.now) st) frames (resolve c.args.text.now) c.size_of_text-sum.result c.args.self.now.cache)
           (sym none)
@@ -43,7 +43,7 @@ items-preserved-in-Some-Text c =
     let texts = c.args.self.now.settings.grok.now in
     let resolve = items_in texts in
     let levels = c.args.levels in
-    let frames = c.items.self.frames.items in
+    let frames = c.items.frames.items in
     let text = c.in-Some-Text.text.now in
     let item = item_view c.in-Some-Text.field-0 in
     let cache = c.items.self.cache in
@@ -70,7 +70,7 @@ items-preserved-in-Measured-Ok c =
     let texts = c.args.self.now.settings.grok.now in
     let resolve = items_in texts in
     let levels = c.args.levels in
-    let frames = c.items.self.frames.items in
+    let frames = c.items.frames.items in
     let item = item_view c.in-Some-Placeholder.field-0 in
     let is : item ≡ PlaceholderItem (label_view c.in-Some-Placeholder.label) (meaning_view c.in-Some-Placeholder.meaning) = ap item_view c.in-Some-Placeholder.field-0-is in
     let cache = c.items.self.cache in
@@ -105,7 +105,7 @@ items-smaller-in-Unread c =
     let texts = c.args.self.now.settings.grok.now in
     let resolve = items_in texts in
     let levels = c.args.levels in
-    let frames = c.items.self.frames.items in
+    let frames = c.items.frames.items in
     let item = item_view c.in-Some-Placeholder.field-0 in
     let is : item ≡ PlaceholderItem (label_view c.in-Some-Placeholder.label) (meaning_view c.in-Some-Placeholder.meaning) = ap item_view c.in-Some-Placeholder.field-0-is in
     let cache = c.items.self.cache in
@@ -130,7 +130,7 @@ items-preserved-in-Unread c =
     let texts = c.args.self.now.settings.grok.now in
     let resolve = items_in texts in
     let levels = c.args.levels in
-    let frames = c.items.self.frames.items in
+    let frames = c.items.frames.items in
     let item = item_view c.in-Some-Placeholder.field-0 in
     let is : item ≡ PlaceholderItem (label_view c.in-Some-Placeholder.label) (meaning_view c.in-Some-Placeholder.meaning) = ap item_view c.in-Some-Placeholder.field-0-is in
     let cache = c.items.self.cache in
@@ -169,8 +169,8 @@ items-smaller c =
     let frames = c.pop.new.self.items in
     let frame = c.in-Some.frame in
     let taken : (c.items.items ≡ []) × (c.next_counted.new.looks ≡ record { pieces = c.items.self.cache.looks.pieces; ends = saturated (c.items.self.cache.looks.ends + 1) }) = rw c.in-None.is at c.in_ok-text.ensures in
-    let popped : c.items.self.frames.items ≡ frames ++ frame ∷ [] = c.in-Some.ensures.items in
-    subst (λ items. work_left resolve (finite.get texts) (finite.entries texts) c.set_progress.new.self frame.items frames < work_left resolve (finite.get texts) (finite.entries texts) c.items.self.cache items c.items.self.frames.items) (sym taken.0)
+    let popped : c.items.frames.items ≡ frames ++ frame ∷ [] = c.in-Some.ensures.items in
+    subst (λ items. work_left resolve (finite.get texts) (finite.entries texts) c.set_progress.new.self frame.items frames < work_left resolve (finite.get texts) (finite.entries texts) c.items.self.cache items c.items.frames.items) (sym taken.0)
     (subst (λ fs. work_left resolve (finite.get texts) (finite.entries texts) c.set_progress.new.self frame.items frames < work_left resolve (finite.get texts) (finite.entries texts) c.items.self.cache [] fs) (sym popped)
     (less_ended resolve (finite.get texts) (finite.entries texts) c.items.self.cache c.set_progress.new.self frames frame frame.name.now (HasSize c.items.sum) refl c.in_ok-set_progress-in-Some.ensures.by_name))
 
@@ -184,14 +184,14 @@ items-preserved c =
     let frame = c.in-Some.frame in
     let cache = c.items.self.cache in
     let taken : (c.items.items ≡ []) × (c.next_counted.new.looks ≡ record { pieces = cache.looks.pieces; ends = saturated (cache.looks.ends + 1) }) = rw c.in-None.is at c.in_ok-text.ensures in
-    let popped : c.items.self.frames.items ≡ frames ++ frame ∷ [] = c.in-Some.ensures.items in
+    let popped : c.items.frames.items ≡ frames ++ frame ∷ [] = c.in-Some.ensures.items in
     let p = fit_pop resolve (finite.get texts) levels frames frame (subst (AreFit resolve (finite.get texts) levels) popped c.items.invariant.fit) in
-    let long : length c.items.self.frames.items ≡ length frames + 1 = ap length popped ∙ length-append frames (frame ∷ []) in
+    let long : length c.items.frames.items ≡ length frames + 1 = ap length popped ∙ length-append frames (frame ∷ []) in
     record {
       settings = c.items.invariant.settings;
       goes_on = λ st shows.
           let whole = items_within alias_only resolve levels (resolve c.args.text.now) st in
-          let g = subst (λ items. ContinuesReading alias_only resolve levels whole c.items.self.frames.items items c.items.sum cache) taken.0 (c.items.invariant.goes_on st shows) in
+          let g = subst (λ items. ContinuesReading alias_only resolve levels whole c.items.frames.items items c.items.sum cache) taken.0 (c.items.invariant.goes_on st shows) in
           end_goes_on alias_only resolve levels whole frames frame c.items.sum c.add-sum-in-Some.result cache c.set_progress.new.self (subst (λ fs. ContinuesReading alias_only resolve levels whole fs [] c.items.sum cache) popped g)
           (λ now size is s. c.in_ok-set_progress-in-Some.ensures.shows now (kept.HasSize size) (ap kept.HasSize is) (subst (λ (looks : Looks). ShowsState (record cache { looks = looks }) now) (sym taken.1) s))
           (λ x y a b. c.add-sum-in-Some.ensures.adds x (in_brackets frame.is_capturing y) a (c.bracketed-inner.ensures.brackets y b));
@@ -207,7 +207,7 @@ returns-in-Measured-Err-clause-stops c =
     let texts = c.args.self.now.settings.grok.now in
     let resolve = items_in texts in
     let levels = c.args.levels in
-    let frames = c.items.self.frames.items in
+    let frames = c.items.frames.items in
     let item = item_view c.in-Some-Placeholder.field-0 in
     let is : item ≡ PlaceholderItem (label_view c.in-Some-Placeholder.label) (meaning_view c.in-Some-Placeholder.meaning) = ap item_view c.in-Some-Placeholder.field-0-is in
     let cache = c.items.self.cache in
@@ -231,7 +231,7 @@ returns-in-Some-Fault-clause-stops c =
     let texts = c.args.self.now.settings.grok.now in
     let resolve = items_in texts in
     let levels = c.args.levels in
-    let frames = c.items.self.frames.items in
+    let frames = c.items.frames.items in
     let item = item_view c.in-Some-Fault.field-0 in
     let cache = c.items.self.cache in
     let taken : (c.items.items ≡ item ∷ c.next_counted.new.items) × (c.next_counted.new.looks ≡ record { pieces = saturated (cache.looks.pieces + 1); ends = cache.looks.ends }) = rw c.in-Some-Fault.is at c.in_ok-text.ensures in
@@ -244,7 +244,7 @@ returns-in-Some-Fault-clause-stops c =
     (fault_gives alias_only resolve (levels - length frames) now (piece_counted cache) failure refl s)) failure c.fault_after.result refl c.fault_after.ensures.fault c.fault_after.ensures.reach)
 
 pub returns-in-Measured-Err-clause-low : goal.returns-in-Measured-Err-clause-low
-returns-in-Measured-Err-clause-low c = fit_low (items_in c.args.self.now.settings.grok.now) (finite.get c.args.self.now.settings.grok.now) c.args.levels c.args.levels c.items.self.frames.items (omega arith) c.items.invariant.fit
+returns-in-Measured-Err-clause-low c = fit_low (items_in c.args.self.now.settings.grok.now) (finite.get c.args.self.now.settings.grok.now) c.args.levels c.args.levels c.items.frames.items (omega arith) c.items.invariant.fit
 
 pub returns-in-Some-Fault-clause-low : goal.returns-in-Some-Fault-clause-low
-returns-in-Some-Fault-clause-low c = fit_low (items_in c.args.self.now.settings.grok.now) (finite.get c.args.self.now.settings.grok.now) c.args.levels c.args.levels c.items.self.frames.items (omega arith) c.items.invariant.fit
+returns-in-Some-Fault-clause-low c = fit_low (items_in c.args.self.now.settings.grok.now) (finite.get c.args.self.now.settings.grok.now) c.args.levels c.args.levels c.items.frames.items (omega arith) c.items.invariant.fit

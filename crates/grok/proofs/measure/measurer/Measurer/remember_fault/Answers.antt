@@ -1,7 +1,7 @@
 use Rattle.std.proofs.Common.{◌≡◌, ◌∷◌, [], ◌++◌, ◌+◌, ◌-◌, length, length-append, ◌∙◌, ap, subst, arith}
 use Rattle.grok.specs.Items.{fault_view}
-use Rattle.grok.specs.MeasuredOnce.{failed_progress}
-use Rattle.grok.specs.MeasureCache.{AreLow}
+use Rattle.grok.specs.steps.MeasuredOnce.{failed_progress}
+use Rattle.grok.specs.steps.MeasureCache.{AreLow}
 use Rattle.grok.proofs.Sizes.MeasureLoopIsReading.{Unwinds, unwinds_more}
 use Rattle.grok.proofs.Sizes.MeasureLoopEnds.{low_pop}
 use Rattle.grok.proofs.measure.measurer.Measurer.remember_fault.Goals as goal
@@ -9,13 +9,13 @@ use Rattle.grok.proofs.measure.measurer.Measurer.remember_fault.Goals as goal
 pub frames-preserved : goal.frames-preserved
 frames-preserved c =
     let levels = c.args.levels in
-    let all = c.args.self.now.frames.items in
+    let all = c.args.frames.now.items in
     let left = c.pop.new.self.items in
     let frame = c.in-Some.frame in
     let fault = fault_view c.args.failure.fault in
     let height = c.frames.failure.height in
-    let popped : c.frames.self.frames.items ≡ left ++ frame ∷ [] = c.in-Some.ensures.items in
-    let long : length c.frames.self.frames.items ≡ length left + 1 = ap length popped ∙ length-append left (frame ∷ []) in
+    let popped : c.frames.frames.items ≡ left ++ frame ∷ [] = c.in-Some.ensures.items in
+    let long : length c.frames.frames.items ≡ length left + 1 = ap length popped ∙ length-append left (frame ∷ []) in
     let low = low_pop levels left frame (subst (AreLow levels) popped c.frames.invariant.low) in
     let room : levels - c.len.result ≡ levels - length left = omega arith in
     record {

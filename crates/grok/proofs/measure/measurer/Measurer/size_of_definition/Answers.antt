@@ -1,7 +1,7 @@
 use Rattle.std.proofs.Common.{suc, ◌-◌, ◌≡◌, Result, Ok, Err, subst, arith}
 use Rattle.std.specs.Prelude.{IfOk}
-use Rattle.grok.specs.Sizes.{size_or_fault, sizes}
-use Rattle.grok.specs.MeasureCache.{items_in, result_view, shown_result}
+use Rattle.grok.specs.steps.Sizes.{size_or_fault, sizes}
+use Rattle.grok.specs.steps.MeasureCache.{items_in, result_view, shown_result}
 use Rattle.grok.proofs.Sizes.KnownResultsAreRight.{known_is}
 use Rattle.grok.proofs.measure.measurer.Measurer.size_of_definition.Goals as goal
 

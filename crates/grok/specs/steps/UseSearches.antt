@@ -1,0 +1,48 @@
+-- What the search for one use of a base key passes over, and what it seeks.
+use Rattle.std.specs.Prelude.{◌≡◌, ℕ, ◌+◌, ◌-◌, ◌^◌, ◌<◌, ◌≤◌, Bool, true, List, Option, MatchOption}
+use Rattle.grok.specs.Tree.{Definitions, Label, Meaning, PlaceholderItem, Event, Text, Open, Close, FaultEvent, deepest, tree}
+use Rattle.grok.specs.Keys.{is_capturing, capturing, base_key, how_often}
+use Rattle.grok.specs.FaultLocations.{path_view}
+use Rattle.grok.specs.ByteLocations.{IsEventAt}
+use Rattle.grok.specs.steps.KnownParts.{AreKnown}
+use Rattle.grok.specs.steps.CountedUses.{AreCountsOf}
+use Rattle.grok.specs.declared.location.Location.{Location}
+use Rattle.grok.specs.declared.locate_clash.UseSearch.{UseSearch}
+
+-- The search can go on: its parts and its counts are right, and the uses that are left are few enough to be counted.
+pub record CanSearch (search : UseSearch) : Type 0 where
+  pub known : AreKnown search.settings search.parts.now
+  pub counted : AreCountsOf search.base.now known.done search.counts.now
+  pub low : search.left < 2 ^ 64 - 1
+
+-- On its way from `start` to `now` the search passed over the events `es`, and counted the uses of the base key in them.
+pub record HasPassedUses (start : UseSearch) (es : List Event) (now : UseSearch) : Type 0 where
+  pub settings : now.settings ≡ start.settings
+  pub base : now.base ≡ start.base
+  pub fewer : how_often (capturing start.settings.with_alias_only es) start.base.now + now.left ≡ start.left
+
+-- after the events `es`, the event is the sought use
+abbrev pub IsSoughtUse : UseSearch → List Event → Event → Type 0
+IsSoughtUse start es (Text text) = ⊥
+IsSoughtUse start es (Open label meaning) = (is_capturing start.settings.with_alias_only label ≡ true) × (base_key label ≡ start.base.now)
+    × (how_often (capturing start.settings.with_alias_only es) start.base.now ≡ start.left)
+IsSoughtUse start es Close = ⊥
+IsSoughtUse start es (FaultEvent fault) = ⊥
+
+-- A capturing placeholder of the pattern with this base key, before which the key is used this often, stands at this
+-- location.
+pub record IsUseAt (stored : Definitions) (alias_only : Bool) (pattern base : List ℕ) (number : ℕ) (location : Location) : Type 0 where
+  pub label : Label
+  pub meaning : Meaning
+  pub before : List Event
+  pub stands : IsEventAt stored deepest pattern (path_view location.path.items) location.text.now
+      location.range.start location.range.end (PlaceholderItem label meaning) before (Open label meaning)
+  pub captures : is_capturing alias_only label ≡ true
+  pub asks : base_key label ≡ base
+  pub often : how_often (capturing alias_only before) base ≡ number
+
+-- What the search of a pattern for a use of a base key returns: where the placeholder with that use is, or `None` if the
+-- key isn't used so often.
+abbrev pub FindsUse : Definitions → Bool → List ℕ → List ℕ → ℕ → Option Location → Type 0
+FindsUse stored alias_only pattern base number found = MatchOption found
+    (how_often (capturing alias_only (tree stored pattern)) base ≤ number) (IsUseAt stored alias_only pattern base number)

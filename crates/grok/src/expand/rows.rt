@@ -1,0 +1,10 @@
+//! What is read of a text before its first structural fault, as rows.
+
+/// One entry of what is read of a text before its first structural fault.
+#[derive(Clone, Copy)]
+pub(crate) enum Row<'a> {
+    /// A capturing placeholder uses this base key: its alias, or its name if it has no alias.
+    Use(&'a str),
+    /// The placeholders in the first items of a definition: the rows of the part with this index.
+    Part(usize),
+}

@@ -1,0 +1,13 @@
+//! Matches that are written.
+
+use crate::layout::Layout;
+use crate::log_answers::NamedPattern;
+use grok::MatchesRef;
+
+/// A match of a pattern, with the layout of its answer.
+#[derive(Clone, Copy)]
+pub struct Found<'m> {
+    pub layout: Layout<'m>,
+    pub named: NamedPattern<'m>,
+    pub matches: MatchesRef<'m>,
+}

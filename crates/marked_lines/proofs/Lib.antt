@@ -1,0 +1,4 @@
+pub mod RunsOfLines
+pub mod ShownTexts
+pub mod CodesAreTakenOff
+pub mod HtmlShowsText

@@ -1,0 +1,53 @@
+//! Writes runs in colours, for a terminal.
+ghost use Rattle.std.specs.Prelude.{◌≡◌, ◌++◌, OnOk, flat_map, false, string_bytes};
+ghost use Rattle.groklog_input.specs.Visible.{visible};
+ghost use Rattle.marked_lines.specs.Colours.{colour_code};
+ghost use Rattle.marked_lines.specs.Runs.{runs_text};
+ghost use Rattle.marked_lines.specs.Coloured.{coloured_run, without_codes};
+
+use crate::colour::colour_digit;
+use crate::runs::Run;
+use groklog_input::visible;
+use std::alloc::{AllocError, Global};
+
+/// Appends the code after which a terminal writes in the colour of a key.
+fn push_code(text: &mut String, key: usize) -> Result<(), AllocError>
+    ensures { OnOk result (string_bytes text.new ≡ string_bytes text.old ++ colour_code key) }
+{
+    text.push_str("\u{1b}[3")?;
+    text.push(colour_digit(key))?;
+    text.push('m')
+}
+
+/// Appends a run: in the colour of its key, if it has one.
+fn push_run(alloc: Global, text: &mut String, run: &Run) -> Result<(), AllocError>
+    ensures { OnOk result (string_bytes text.new ≡ string_bytes text.old ++ coloured_run run.now) }
+{
+    let shown = visible(alloc, run.text.as_str())?;
+    match run.key {
+        None => text.push_str(shown.as_str()),
+        Some(key) => {
+            push_code(text, key)?;
+            text.push_str(shown.as_str())?;
+            text.push_str("\u{1b}[0m")
+        }
+    }
+}
+
+/// Appends runs, each in the colour of its key. Without the codes of the colours, what is appended is
+/// the text of the runs as messages show it, so nothing in it is a command to the terminal.
+///
+/// # Errors
+///
+/// If an allocation fails. Some of the runs may be appended then.
+pub fn push_coloured(alloc: Global, text: &mut String, runs: &[Run]) -> Result<(), AllocError>
+    ensures coloured { OnOk result (string_bytes text.new
+        ≡ string_bytes text.old ++ flat_map coloured_run runs.now) }
+    ensures text { without_codes false (flat_map coloured_run runs.now)
+        ≡ visible (runs_text runs.now) }
+{
+    'runs: for run in runs {
+        push_run(alloc, text, run)?;
+    }
+    Ok(())
+}

@@ -1,0 +1,2 @@
+pub mod PartsAreTheText
+pub mod TextsOfTokens

@@ -1,0 +1,139 @@
+//! What was changed in a text, so that lines may match in another way.
+
+use std::alloc::{AllocError, Global};
+use std::fmt;
+
+/// What was changed.
+#[derive(Clone, Copy, Debug, PartialEq, Eq)]
+pub enum ChangeKind {
+    /// An atomic group became a plain one.
+    Atomic,
+    /// A possessive quantifier became a plain one.
+    Possessive,
+    /// A lookahead became the start of a word.
+    Start,
+    /// A lookbehind became the start of a word, or what comes before it.
+    WordStart,
+    /// A lookahead became the end of a word, or what comes after it.
+    WordEnd,
+    /// A lookaround was dropped.
+    Dropped,
+    /// A lookaround was dropped that has placeholders or named groups.
+    Lost,
+}
+
+/// A change.
+#[derive(Debug, Drop)]
+pub struct Change {
+    pub kind: ChangeKind,
+    /// The text that was replaced or dropped.
+    pub text: String,
+    /// The keys that are never found, if a text with keys was dropped.
+    pub keys: String,
+}
+
+impl Change {
+    /// Makes a change of a text without keys.
+    pub(crate) fn new(alloc: Global, kind: ChangeKind, text: &str) -> Result<Change, AllocError> {
+        Ok(Change {
+            kind,
+            text: String::from_str(alloc, text)?,
+            keys: String::new(alloc),
+        })
+    }
+
+    /// Returns a copy of the change.
+    fn clone_in(&self, alloc: Global) -> Result<Change, AllocError> {
+        Ok(Change {
+            kind: self.kind,
+            text: String::from_str(alloc, self.text.as_str())?,
+            keys: String::from_str(alloc, self.keys.as_str())?,
+        })
+    }
+}
+
+/// The changes of a text, in reading order. Each kind comes once, but that of keys which are lost comes
+/// for each lookaround that has such keys.
+#[derive(Drop)]
+pub(crate) struct Changes {
+    recorded: Vec<Change>,
+    /// The kinds that aren't recorded again.
+    kinds: Vec<ChangeKind>,
+}
+
+impl Changes {
+    pub fn new(alloc: Global) -> Changes {
+        Changes {
+            recorded: Vec::new(alloc),
+            kinds: Vec::new(alloc),
+        }
+    }
+
+    /// Returns whether a further change of this kind isn't recorded.
+    pub fn has(&self, kind: ChangeKind) -> bool {
+        self.kinds.contains(&kind)
+    }
+
+    /// Records a change, unless there is one of its kind already.
+    pub fn add(&mut self, change: Change) -> Result<(), AllocError> {
+        let kind = change.kind;
+        if self.has(kind) {
+            return Ok(());
+        }
+        self.recorded.push(change)?;
+        if kind != ChangeKind::Lost {
+            self.kinds.push(kind)?;
+        }
+        Ok(())
+    }
+
+    /// Records the changes of an inline definition of the text.
+    pub fn add_all(&mut self, alloc: Global, changes: &[Change]) -> Result<(), AllocError> {
+        for change in changes {
+            self.add(change.clone_in(alloc)?)?;
+        }
+        Ok(())
+    }
+
+    /// Returns the changes.
+    pub fn into_recorded(self) -> Vec<Change> {
+        self.recorded
+    }
+}
+
+impl fmt::Display for Change {
+    fn fmt<W: fmt::Write>(&self, f: &mut fmt::Formatter<W>) -> fmt::Result {
+        let text = self.text.as_str();
+        match self.kind {
+            ChangeKind::Atomic => write!(
+                f,
+                "the atomic group {text} became a plain one: lines may match that Logstash refuses, or with other values"
+            ),
+            ChangeKind::Possessive => write!(
+                f,
+                "the possessive {text} lost its +: lines may match that Logstash refuses, or with other values"
+            ),
+            ChangeKind::Start => write!(
+                f,
+                "the lookahead {text} became \\b{{start}}: what follows it is found only at the start of a word, and a later part of the line may be found in its place"
+            ),
+            ChangeKind::WordStart => write!(
+                f,
+                "the lookbehind {text} became \\b{{start-half}}: nothing is found right after a letter, a digit or _, and a later part of the line may be found in its place"
+            ),
+            ChangeKind::WordEnd => write!(
+                f,
+                "the lookahead {text} became \\b{{end-half}}: nothing is found right before a letter, a digit or _, and another part of the line may be found in its place"
+            ),
+            ChangeKind::Dropped => write!(
+                f,
+                "the lookaround {text} was dropped: lines match that Logstash refuses, also with other values"
+            ),
+            ChangeKind::Lost => write!(
+                f,
+                "the lookaround {text} was dropped: lines match that Logstash refuses, also with other values, and {} is never found",
+                self.keys
+            ),
+        }
+    }
+}

@@ -1,0 +1,30 @@
+//! The forms of Oniguruma's syntax that `regex` doesn't have.
+
+use crate::names::is_group_name;
+use crate::reader::read;
+use crate::token::{Form, Node, Opening, Token};
+use std::alloc::{AllocError, Global};
+
+/// Returns whether `regex` doesn't have the form of a token.
+fn is_own_form(node: &Node<'_>) -> bool {
+    match node.token {
+        Token::Open(opening, _) => !matches!(
+            opening,
+            Opening::Capture | Opening::Plain | Opening::Unknown
+        ),
+        Token::Enclosed(Form::Comment, _, _, _) => true,
+        Token::Enclosed(Form::Name, _, name, _) => !is_group_name(name),
+        Token::Escape(c) => matches!(c, 'h' | 'H' | 'Z' | 'R' | 'e'),
+        _ => false,
+    }
+}
+
+/// Returns whether a text has a form of Oniguruma's syntax that `regex` doesn't have, such as a
+/// lookaround.
+///
+/// # Errors
+///
+/// If an allocation fails.
+pub fn has_own_forms(alloc: Global, text: &str) -> Result<bool, AllocError> {
+    Ok(read(alloc, text)?.iter().any(is_own_form))
+}

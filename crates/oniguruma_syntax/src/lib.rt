@@ -1,0 +1,41 @@
+//! Reads texts in the syntax of Oniguruma, as definitions made for Logstash have it, and writes them
+//! for `regex`.
+//!
+//! [`read`] cuts a text into tokens. Their spellings, one after another, are the text, so nothing is
+//! lost. [`rewrite`] writes a text that means the same, or refuses a part of it:
+//!
+//! ```text
+//! match rewrite(alloc, "(?>%{INT:n})\\h", wish)? {
+//!     Outcome::Rewritten(Rewritten { text, changes }) => .. // (?:%{INT:n})[0-9A-Fa-f]
+//!     Outcome::Refused(Refused { reason, range }) => ..
+//! }
+//! ```
+#![tactic(auto)]
+
+mod change;
+mod characters;
+mod class;
+mod cut;
+mod flags;
+mod forms;
+mod literals;
+mod looks;
+mod names;
+mod reader;
+mod refusal;
+mod rewriting;
+mod scan;
+mod sets;
+mod structure;
+#[cfg(test)]
+mod tests;
+mod token;
+mod writer;
+
+pub use change::{Change, ChangeKind};
+pub use forms::has_own_forms;
+pub use reader::read;
+pub use refusal::{Reason, Refused};
+pub use rewriting::{Outcome, rewrite};
+pub use token::{Form, Greed, Mark, Node, Opening, Placeholder, Token};
+pub use writer::{Rewritten, Wish};

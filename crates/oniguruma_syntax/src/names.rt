@@ -1,0 +1,42 @@
+//! Groups whose names `regex` doesn't take. Each of them becomes a placeholder with an inline
+//! definition.
+
+use grok::parser::{GrokComponent, grok_split};
+use std::alloc::{AllocError, Global};
+
+/// The name of the inline definitions.
+pub(crate) const GROUP_NAME: &str = "NAMED_GROUP";
+
+/// Returns whether `regex` and Oniguruma both take a name of a group.
+pub(crate) fn is_group_name(name: &str) -> bool {
+    let mut characters = name.chars();
+    match characters.next() {
+        Some(first) if first.is_alphabetic() || first == '_' => {
+            characters.all(|c| c.is_alphanumeric() || c == '_')
+        }
+        _ => false,
+    }
+}
+
+/// Returns the start of a placeholder with this alias, up to the `=` before its inline definition.
+/// Returns `None` if a placeholder can't have this alias.
+///
+/// # Errors
+///
+/// If an allocation fails.
+pub(crate) fn placeholder_start(alloc: Global, alias: &str) -> Result<Option<String>, AllocError> {
+    let start = format!(in alloc; "%{{{GROUP_NAME}:{alias}=")?;
+    let whole = format!(in alloc; "{}.}}", start.as_str())?;
+    let mut pieces = grok_split(whole.as_str());
+    let is_placeholder = match pieces.next() {
+        Some(
+            GrokComponent::GrokPattern {
+                range,
+                alias: read,
+                ..
+            },
+        ) => range.end == whole.len() && read == alias,
+        _ => false,
+    };
+    Ok(if is_placeholder { Some(start) } else { None })
+}

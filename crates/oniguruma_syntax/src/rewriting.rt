@@ -1,0 +1,112 @@
+//! Rewrites a text that was made for Oniguruma.
+
+use crate::reader::read;
+use crate::refusal::{Refused, Stop};
+use crate::structure::find_structure;
+use crate::token::{Node, Token};
+use crate::writer::{Rewritten, Source, Wish, write};
+use std::alloc::{AllocError, Global};
+use std::ops::Range;
+
+/// What rewriting a text returns.
+#[derive(Drop)]
+pub enum Outcome {
+    /// The text for `regex`.
+    Rewritten(Rewritten),
+    /// A part of the text has no form for `regex`.
+    Refused(Refused),
+}
+
+/// Rewrites a text whose placeholders have no inline definitions but these.
+fn rewrite_text(
+    alloc: Global,
+    text: &str,
+    nodes: &[Node<'_>],
+    inlines: &[Rewritten],
+    wish: Wish,
+) -> Result<Rewritten, Stop> {
+    let structure = find_structure(alloc, nodes)?;
+    let source = Source {
+        text,
+        nodes,
+        structure: &structure,
+        inlines,
+    };
+    write(alloc, source, wish)
+}
+
+/// Returns the byte range of an inline definition in the text of its placeholder's token.
+fn inline_range(node: &Node<'_>, definition: &str) -> Range<usize> {
+    // The definition ends before the `}`.
+    let end = node.end.saturating_sub(1);
+    end.saturating_sub(definition.len())..end
+}
+
+/// Moves a refusal of an inline definition to the text that it stands in.
+fn moved(stop: Stop, start: usize) -> Stop {
+    match stop {
+        // own error: an allocation failed while the inline definition was rewritten.
+        Stop::Memory => Stop::Memory,
+        Stop::Refused(Refused { reason, range }) => {
+            let range = start.saturating_add(range.start)..start.saturating_add(range.end);
+            Stop::Refused(Refused { reason, range })
+        }
+    }
+}
+
+/// Rewrites an inline definition, which has no placeholders.
+fn rewrite_inline(alloc: Global, definition: &str, wish: Wish) -> Result<Rewritten, Stop> {
+    let nodes = read(alloc, definition)?;
+    let is_whole = false;
+    rewrite_text(alloc, definition, &nodes, &[], Wish { is_whole, ..wish })
+}
+
+/// Rewrites the inline definitions of the placeholders among tokens, in their order.
+fn rewrite_inlines(alloc: Global, nodes: &[Node<'_>], wish: Wish) -> Result<Vec<Rewritten>, Stop> {
+    let mut inlines = Vec::new(alloc);
+    for node in nodes {
+        if let Token::Placeholder(placeholder) = node.token
+            && !placeholder.definition.is_empty()
+        {
+            let range = inline_range(node, placeholder.definition);
+            match rewrite_inline(alloc, placeholder.definition, wish) {
+                Ok(inline) => inlines.push(inline)?,
+                Err(stop) => return Err(moved(stop, range.start)),
+            }
+        }
+    }
+    Ok(inlines)
+}
+
+/// Rewrites a text. One with a malformed placeholder stays as it is.
+fn rewrite_all(alloc: Global, text: &str, wish: Wish) -> Result<Rewritten, Stop> {
+    let nodes = read(alloc, text)?;
+    if nodes
+        .iter()
+        .any(|node| matches!(node.token, Token::Malformed(_)))
+    {
+        // Whoever reads the placeholders of the text reports the malformed one.
+        return Ok(Rewritten {
+            text: String::from_str(alloc, text)?,
+            changes: Vec::new(alloc),
+        });
+    }
+    let inlines = rewrite_inlines(alloc, &nodes, wish)?;
+    rewrite_text(alloc, text, &nodes, &inlines, wish)
+}
+
+/// Rewrites a text of Oniguruma's syntax, with Ruby's options, for `regex`. Its placeholders stay,
+/// and their inline definitions are rewritten too. The new text means the same in each text without
+/// a line feed, except for the changes that are returned with it.
+///
+/// # Errors
+///
+/// If an allocation fails.
+pub fn rewrite(alloc: Global, text: &str, wish: Wish) -> Result<Outcome, AllocError> {
+    match rewrite_all(alloc, text, wish) {
+        Ok(rewritten) => Ok(Outcome::Rewritten(rewritten)),
+        Err(Stop::Refused(refused)) => Ok(Outcome::Refused(refused)),
+        // own error: an allocation failed, which `Stop::Memory` reports.
+        Err(Stop::Memory) => Err(AllocError),
+    }
+}

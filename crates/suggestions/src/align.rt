@@ -1,0 +1,357 @@
+//! Aligns lines by their tokens.
+
+use crate::columns::{Column, Content};
+use crate::tokens::{Kind, Token};
+use std::alloc::{AllocError, Global};
+
+/// How many columns there are at most. What comes after them is the rest.
+const MOST_COLUMNS: usize = 100;
+
+/// The tokens of a line, and how far it is aligned.
+#[derive(Drop)]
+pub(crate) struct Row<'l> {
+    tokens: Vec<Token<'l>>,
+    /// How many of the tokens are in columns.
+    at: usize,
+    /// Whether the line has all columns so far.
+    is_active: bool,
+}
+
+/// What the lines of a group have in common.
+#[derive(Drop)]
+pub(crate) struct Template<'l> {
+    pub columns: Vec<Column<'l>>,
+    /// Whether more comes after the columns.
+    pub has_rest: bool,
+    /// The column of blanks before the rest, if there is one.
+    pub blanks: Option<Column<'l>>,
+}
+
+/// What comes next in the lines.
+enum Next {
+    /// A token of this kind.
+    Token(Kind),
+    /// Tokens of different kinds, after which most lines agree again.
+    Gap,
+    /// Nothing.
+    End,
+    /// Something different in each line.
+    Rest,
+}
+
+/// How many lines have a token of the same kind at some place, or no token.
+#[derive(Clone, Copy)]
+pub(crate) struct Count {
+    pub kind: Option<Kind>,
+    pub lines: usize,
+}
+
+impl<'l> Row<'l> {
+    /// Takes the tokens of a line.
+    pub(crate) fn new(tokens: Vec<Token<'l>>) -> Row<'l> {
+        Row {
+            tokens,
+            at: 0,
+            is_active: true,
+        }
+    }
+
+    /// Returns the next token.
+    fn next(&self) -> Option<Token<'l>> {
+        self.tokens.as_slice().get(self.at).copied()
+    }
+
+    /// Returns the kind of the first token of the line.
+    pub(crate) fn head(&self) -> Option<Kind> {
+        let first = self.tokens.as_slice().first()?;
+        Some(first.kind)
+    }
+
+    /// Returns a text that lines have in common whose tokens have the same kinds, one after another.
+    ///
+    /// # Errors
+    ///
+    /// If an allocation fails.
+    pub(crate) fn shape(&self, alloc: Global) -> Result<String, AllocError> {
+        let mut shape = String::new(alloc);
+        for token in &self.tokens {
+            match token.kind {
+                Kind::Known(known) => {
+                    let part = format!(in alloc; "({known})")?;
+                    shape.push_str(part.as_str())?;
+                }
+                Kind::Word => shape.push('w')?,
+                Kind::Blank => shape.push(' ')?,
+                Kind::Mark(c) => shape.push(c)?,
+                Kind::Rest => shape.push('.')?,
+            }
+        }
+        Ok(shape)
+    }
+
+    /// Returns the index of the next blank.
+    fn next_blank(&self) -> Option<usize> {
+        for index in self.at..self.tokens.len() {
+            if self.tokens[index].kind == Kind::Blank {
+                return Some(index);
+            }
+        }
+        None
+    }
+
+    /// Returns the index of the token that ends a gap: the bracket `closing` that belongs to one
+    /// before the gap, or else the next blank, outside of the brackets inside the gap. If these
+    /// aren't closed, it is the next blank.
+    fn gap_end(&self, closing: Option<char>) -> Option<usize> {
+        let mut depth = 0usize;
+        for index in self.at..self.tokens.len() {
+            let kind = self.tokens[index].kind;
+            let is_end = match closing {
+                Some(c) => kind == Kind::Mark(c),
+                None => kind == Kind::Blank,
+            };
+            if is_end && depth == 0 {
+                return Some(index);
+            }
+            match kind {
+                Kind::Mark('[' | '(' | '{') => depth = depth.saturating_add(1),
+                Kind::Mark(']' | ')' | '}') => depth = depth.saturating_sub(1),
+                _ => {}
+            }
+        }
+        match closing {
+            Some(_) => None,
+            None => self.next_blank(),
+        }
+    }
+
+    /// Adds the tokens up to the end of a gap to its column, and goes on after them. Returns whether
+    /// the line has such an end.
+    fn take_gap(&mut self, column: &mut Column<'l>, closing: Option<char>) -> bool {
+        let Some(end) = self.gap_end(closing) else {
+            return false;
+        };
+        if end <= self.at {
+            column.add("");
+        }
+        for index in self.at..end {
+            if let Some(token) = self.tokens.as_slice().get(index) {
+                column.add(token.text);
+            }
+        }
+        self.at = end;
+        true
+    }
+}
+
+/// Counts a line with such a token.
+///
+/// # Errors
+///
+/// If an allocation fails.
+pub(crate) fn count_kind(counts: &mut Vec<Count>, kind: Option<Kind>) -> Result<(), AllocError> {
+    for count in counts.iter_mut() {
+        if count.kind == kind {
+            count.lines = count.lines.saturating_add(1);
+            return Ok(());
+        }
+    }
+    Ok(counts.push(Count { kind, lines: 1 })?)
+}
+
+/// Aligns lines, column by column.
+#[derive(Drop)]
+struct Aligner<'l> {
+    alloc: Global,
+    rows: Vec<Row<'l>>,
+    columns: Vec<Column<'l>>,
+    /// How many more lines may be left out because they differ from the others.
+    spare: usize,
+    /// For each bracket in the columns that isn't closed yet, the one that closes it.
+    open: Vec<char>,
+}
+
+impl<'l> Aligner<'l> {
+    /// Returns how many lines have all columns so far.
+    fn active(&self) -> usize {
+        self.rows
+            .iter()
+            .filter(|row: &&Row<'_>| row.is_active)
+            .count()
+    }
+
+    /// Returns how many of these lines have an end of a gap here.
+    fn with_gap_end(&self, closing: Option<char>) -> usize {
+        self.rows
+            .iter()
+            .filter(|row: &&Row<'_>| row.is_active && row.gap_end(closing).is_some())
+            .count()
+    }
+
+    /// Returns what comes next.
+    fn next(&self) -> Result<Next, AllocError> {
+        let mut counts = Vec::new(self.alloc);
+        for row in &self.rows {
+            if row.is_active {
+                let kind = row.next().map(|token| token.kind);
+                count_kind(&mut counts, kind)?;
+            }
+        }
+        let active = self.active();
+        for count in &counts {
+            if active.saturating_sub(count.lines) <= self.spare {
+                return Ok(match count.kind {
+                    None => Next::End,
+                    Some(Kind::Rest) => Next::Rest,
+                    Some(kind) => Next::Token(kind),
+                });
+            }
+        }
+        let closing = self.open.as_slice().last().copied();
+        if active.saturating_sub(self.with_gap_end(closing)) <= self.spare {
+            Ok(Next::Gap)
+        } else {
+            Ok(Next::Rest)
+        }
+    }
+
+    /// Remembers a bracket in the columns until it is closed.
+    fn note_bracket(&mut self, kind: Kind) -> Result<(), AllocError> {
+        let closing = match kind {
+            Kind::Mark('[') => ']',
+            Kind::Mark('(') => ')',
+            Kind::Mark('{') => '}',
+            Kind::Mark(c) => {
+                if self.open.as_slice().last().copied() == Some(c) {
+                    self.open.pop();
+                }
+                return Ok(());
+            }
+            _ => return Ok(()),
+        };
+        Ok(self.open.push(closing)?)
+    }
+
+    /// Makes a column of the tokens of this kind. Lines whose next token is another one are left out.
+    fn take(&mut self, kind: Kind) -> Result<(), AllocError> {
+        let mut column = Column::new(Content::Token(kind));
+        for row in self.rows.iter_mut() {
+            if !row.is_active {
+                continue;
+            }
+            match row.next() {
+                Some(token) if token.kind == kind => {
+                    column.add(token.text);
+                    row.at = row.at.saturating_add(1);
+                }
+                _ => {
+                    row.is_active = false;
+                    self.spare = self.spare.saturating_sub(1);
+                }
+            }
+        }
+        self.note_bracket(kind)?;
+        Ok(self.columns.push(column)?)
+    }
+
+    /// Makes a column of a gap.
+    fn take_gap(&mut self) -> Result<(), AllocError> {
+        let closing = self.open.as_slice().last().copied();
+        let mut column = Column::new(Content::Gap);
+        for row in self.rows.iter_mut() {
+            if row.is_active && !row.take_gap(&mut column, closing) {
+                row.is_active = false;
+                self.spare = self.spare.saturating_sub(1);
+            }
+        }
+        // A word before the gap that isn't the same in all lines is part of what differs.
+        let last = self.columns.as_slice().last().copied();
+        if let Some(word) = last.filter(|last| last.is_open_word()) {
+            column.join(word);
+            self.columns.pop();
+        }
+        Ok(self.columns.push(column)?)
+    }
+
+    /// Makes columns as long as the lines agree. Returns whether the lines end after the last one.
+    fn align(&mut self) -> Result<bool, AllocError> {
+        for _ in 0..MOST_COLUMNS {
+            match self.next()? {
+                Next::Token(kind) => self.take(kind)?,
+                Next::Gap => self.take_gap()?,
+                Next::End => return Ok(true),
+                Next::Rest => break,
+            }
+        }
+        Ok(false)
+    }
+}
+
+/// Returns the number of columns up to the last one that lines hardly have by chance.
+fn firm_len(columns: &[Column<'_>]) -> usize {
+    let mut len = 0;
+    for (index, column) in columns.iter().enumerate() {
+        if column.is_firm() {
+            len = index.saturating_add(1);
+        }
+    }
+    len
+}
+
+/// Returns whether a column from this index on is a gap.
+fn has_gap_after(columns: &[Column<'_>], index: usize) -> bool {
+    let after = columns.get(index..).unwrap_or(&[]);
+    after.iter().any(|column| column.content == Content::Gap)
+}
+
+/// Aligns lines, of which `spare` may be left out. Columns of free text at the end, where lines agree
+/// only by chance, belong to the rest.
+///
+/// # Errors
+///
+/// If an allocation fails.
+pub(crate) fn align<'l>(
+    alloc: Global,
+    rows: Vec<Row<'l>>,
+    spare: usize,
+) -> Result<Template<'l>, AllocError> {
+    let mut aligner = Aligner {
+        alloc,
+        rows,
+        columns: Vec::new(alloc),
+        spare,
+        open: Vec::new(alloc),
+    };
+    let is_whole = aligner.align()?;
+    let Aligner { mut columns, .. } = aligner;
+    let firm = firm_len(&columns);
+    if is_whole && !has_gap_after(&columns, firm) {
+        return Ok(Template {
+            columns,
+            has_rest: false,
+            blanks: None,
+        });
+    }
+    let blanks = match columns.as_slice().get(firm) {
+        Some(column) if column.is_blank() => Some(*column),
+        _ => None,
+    };
+    columns.truncate(firm);
+    Ok(Template {
+        columns,
+        has_rest: true,
+        blanks,
+    })
+}
+
+impl Template<'_> {
+    /// Returns whether the template says much about its lines: a definition recognizes one of the
+    /// columns, or the whole line is in columns.
+    pub(crate) fn is_telling(&self) -> bool {
+        let has_known = self
+            .columns
+            .iter()
+            .any(|column: &Column<'_>| column.is_known());
+        has_known || !self.has_rest
+    }
+}

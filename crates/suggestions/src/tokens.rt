@@ -1,0 +1,146 @@
+//! Cuts lines into tokens: what definitions recognize, words, blanks, and marks.
+ghost use Rattle.std.specs.Prelude.{◌≡◌, IfOk};
+ghost use Rattle.suggestions.specs.Tokens.{joined};
+
+use crate::recognizer::{Recognized, RecognizerSearch};
+use std::alloc::{AllocError, Global};
+
+/// How many tokens of a line are told apart at most. What comes after them is one token.
+const MOST_TOKENS: usize = 200;
+
+/// What a token is.
+#[derive(Clone, Copy, PartialEq, Eq)]
+pub(crate) enum Kind {
+    /// What the definition with this index recognizes.
+    Known(usize),
+    /// Characters that are neither blanks nor marks.
+    Word,
+    /// Blanks of any kind.
+    Blank,
+    /// A bracket, a quote, or a character that often separates fields.
+    Mark(char),
+    /// The rest of a line that has too many tokens.
+    Rest,
+}
+
+/// A part of a line.
+#[derive(Clone, Copy)]
+pub(crate) struct Token<'l> {
+    pub kind: Kind,
+    pub text: &'l str,
+}
+
+/// Returns what a character belongs to that no definition recognizes.
+fn kind_of(c: char) -> Kind {
+    match c {
+        '[' | ']' | '(' | ')' | '{' | '}' | '<' | '>' => Kind::Mark(c),
+        '"' | '\'' | '=' | ',' | ';' | '|' | ':' => Kind::Mark(c),
+        _ if c.is_whitespace() => Kind::Blank,
+        _ => Kind::Word,
+    }
+}
+
+/// Returns how many bytes at the start of a text have this kind.
+fn run_len(text: &str, kind: Kind) -> usize {
+    let mut len = 0usize;
+    for c in text.chars() {
+        if kind_of(c) != kind {
+            break;
+        }
+        len = len.saturating_add(c.len_utf8());
+    }
+    len
+}
+
+/// Returns the kind and the length in bytes of the token that a text begins with, if no definition
+/// recognizes it.
+fn plain_token(text: &str) -> (Kind, usize) {
+    let Some(first) = text.chars().next() else {
+        return (Kind::Word, 0);
+    };
+    match kind_of(first) {
+        Kind::Mark(c) => (Kind::Mark(c), c.len_utf8()),
+        kind => (kind, run_len(text, kind)),
+    }
+}
+
+/// Returns whether a word goes on at this byte position of a line.
+fn is_in_word(line: &str, at: usize) -> bool {
+    let rest = line.get(at..).unwrap_or("");
+    match rest.chars().next() {
+        Some(c) => kind_of(c) == Kind::Word,
+        None => false,
+    }
+}
+
+/// Cuts lines into tokens.
+#[derive(Drop)]
+pub(crate) struct Cutter<'r> {
+    alloc: Global,
+    search: RecognizerSearch<'r>,
+    /// What is recognized next in this line.
+    next: Option<Recognized>,
+}
+
+impl<'r> Cutter<'r> {
+    /// Makes a cutter that uses this search.
+    pub(crate) fn new(alloc: Global, search: RecognizerSearch<'r>) -> Cutter<'r> {
+        Cutter {
+            alloc,
+            search,
+            next: None,
+        }
+    }
+
+    /// Returns what a definition recognizes at this byte position of the line. It has to end where no
+    /// word goes on.
+    fn recognized(&mut self, line: &str, at: usize) -> Option<Recognized> {
+        if let Some(next) = self.next
+            && next.start < at
+        {
+            self.next = self.search.find(line, at);
+        }
+        let next = self.next?;
+        if next.start == at && next.end > at && !is_in_word(line, next.end) {
+            Some(next)
+        } else {
+            None
+        }
+    }
+
+    /// Returns the kind and the length in bytes of the token at this byte position of the line.
+    fn token_at(&mut self, line: &str, at: usize) -> (Kind, usize) {
+        match self.recognized(line, at) {
+            Some(found) => (Kind::Known(found.known), found.end.saturating_sub(at)),
+            None => plain_token(line.get(at..).unwrap_or("")),
+        }
+    }
+
+    /// Cuts a line. Nothing of it is lost: the tokens, one after another, are the line.
+    ///
+    /// # Errors
+    ///
+    /// If an allocation fails.
+    pub(crate) fn cut<'l>(&mut self, line: &'l str) -> Result<Vec<Token<'l>>, AllocError>
+        ensures { IfOk result (λ tokens. joined tokens.items ≡ line.now) }
+    {
+        self.next = self.search.find(line, 0);
+        let mut tokens = Vec::new(self.alloc);
+        let mut rest = line;
+        'tokens: for _ in 0..MOST_TOKENS {
+            if rest.is_empty() {
+                return Ok(tokens);
+            }
+            let at = line.len().saturating_sub(rest.len());
+            let (kind, len) = self.token_at(line, at);
+            let Some((text, after)) = rest.split_at_checked(len) else {
+                break;
+            };
+            tokens.push(Token { kind, text })?;
+            rest = after;
+        }
+        let kind = Kind::Rest;
+        tokens.push(Token { kind, text: rest })?;
+        Ok(tokens)
+    }
+}

@@ -1,0 +1,166 @@
+"""Patterns, definitions and lines of a given size that make the reports of groklog do the most work. `tests/groklog/run` checks
+that no report takes long, and `bench/reports.py` measures each."""
+
+
+class Run:
+    """The words of a run, the file `definitions` in its folder, its input, and the status with which it ends."""
+
+    def __init__(self, words, definitions="", lines="", status=0):
+        self.words, self.definitions, self.lines, self.status = words, definitions, lines, status
+
+    def size(self):
+        """How many bytes of words, definitions and lines it has."""
+        return sum(map(len, self.words)) + len(self.definitions) + len(self.lines)
+
+
+def repeated(size, part):
+    """About `size` bytes of a part, or of what `part` returns for 0, 1, 2 .."""
+    texts = []
+    for number in range(size):
+        texts.append(part if isinstance(part, str) else part(number))
+        size -= len(texts[-1])
+        if size <= 0:
+            break
+    return "".join(texts)
+
+
+def nested(size, start, middle, end=")"):
+    """Groups in one another, with `middle` in the innermost."""
+    count = size // len(start + end)
+    return start * count + middle + end * count
+
+
+def logstash(pattern, definitions="", status=0):
+    """Rewrites a pattern, and drops what has no form. Groups in one another end with the status 1, since `regex` refuses more than
+    250 levels."""
+    return Run(["--from-logstash", "--loose", "-d", "definitions", "--explain", "--", pattern], definitions, "", status)
+
+
+def uses(count):
+    return "".join(f"%{{D{number}}}" for number in range(count))
+
+
+def chain(size, last):
+    """Definitions that each use the next one, of which there are 1,000. `last` is the innermost."""
+    filler = "x" * max(1, size // 1000 - 14)
+    return "".join(f"D{number}={filler}%{{D{number + 1}}}\n" for number in range(1000)) + f"D1000={last}\n"
+
+
+def wide(size, part, last=""):
+    """Definitions D0, D1 .. of which each has this text, and the last one `last` after it, and a pattern that uses them all."""
+    count = max(1, size // (len(part) + 15))
+    lines = [f"D{number}={part}" for number in range(count)]
+    return "\n".join(lines) + last + "\n", uses(count)
+
+
+# Each with the function that makes a run of about this many bytes.
+
+LOGSTASH = {
+    "definitions that are rewritten": lambda size: logstash(*reversed(wide(size, "(?>a|b)(?<![0-9])"))),
+    "`%{` without an end, from Logstash": lambda size: logstash("%{" * (size // 2), status=1),
+    "nested atomic groups": lambda size: logstash(nested(size, "(?>", "a|b"), status=1),
+    "nested groups with flags": lambda size: logstash(nested(size, "(?i:", "a|b"), status=1),
+    "flags for what follows": lambda size: logstash(repeated(size, "(?i)a"), status=1),
+    "nested lookaheads": lambda size: logstash(nested(size, "(?=", "a|b") + "c"),
+    "nested lookbehinds": lambda size: logstash("c" + nested(size, "(?<=", "a|b")),
+    "nested named groups": lambda size: logstash(nested(size, "(?<k>", "a|b"), status=1),
+    "nested groups with names of Logstash": lambda size: logstash(nested(size, "(?<a-b>", "a"), status=1),
+    "groups with names of Logstash": lambda size: logstash(repeated(size, lambda n: f"(?<[k][{n}]>x)(?>y|z)")),
+    "nested classes": lambda size: logstash(nested(size, "[a", "b", "]"), status=1),
+    "long classes": lambda size: logstash("[" + repeated(size, "a-z\\d") + "]"),
+    "classes and alternatives": lambda size: logstash(repeated(size, "[ab&&b]|")),
+    "quantifiers of quantifiers": lambda size: logstash("a" + repeated(size, "*+?"), status=1),
+    "possessive quantifiers": lambda size: logstash(repeated(size, "a++")),
+    "comments, then lookarounds": lambda size: logstash(repeated(size // 2, "(?#)") + repeated(size // 2, "(?!a)")),
+    "lookarounds, then comments": lambda size: logstash(repeated(size // 2, "(?<!a)") + repeated(size // 2, "(?#)")),
+    "comments after `(?x)`": lambda size: logstash("(?x)" + repeated(size, "a #b\n")),
+    "deep alternatives": lambda size: logstash(nested(size, "(?:a|", "b"), status=1),
+    "wide alternatives": lambda size: logstash(repeated(size, "ab|")),
+    "keys that are lost": lambda size: logstash(repeated(size, lambda n: f"(?=%{{WORD:k{n}}})a++")),
+    "inline definitions that are rewritten": lambda size: logstash(repeated(size, lambda n: f"%{{A{n}:k{n}=(?>x|y)++}}")),
+    "placeholders with a `?`": lambda size: logstash(repeated(size, lambda n: f"%{{A=a}}%{{A:[k][{n}]?}}{'x?' * 12}")),
+}
+
+FAULTS = {
+    "a missing name": lambda size: Run(["-D", "B" * (size // 2) + "=x", "%{" + "A" * (size // 2) + "}"], status=1),
+    "a missing name among many": lambda size: Run(["-d", "definitions", "%{" + "A" * 60 + "}"],
+                                                  repeated(size, lambda n: f"{'A' * 50}{n:09}=x\n"), status=1),
+    "`%{` without an end": lambda size: Run(["--", "%{" * (size // 2)], status=1),
+    "a malformed placeholder at the end": lambda size: Run(["--", repeated(size, "%{WORD:x}") + "%{WORD:!}"], status=1),
+    "an unclosed bracket after many uses": lambda size: Run(["-D", "A=\\w{300}", repeated(size, "%{A}") + "("], status=1),
+    "an unclosed bracket in a chain": lambda size: Run(["-d", "definitions", "%{D0}"], chain(size, "x("), status=1),
+    "an unclosed bracket in one of many": lambda size: Run(["-d", "definitions", wide(size, "a(b)c")[1]],
+                                                           wide(size, "a(b)c", "(")[0], status=1),
+    "an unclosed bracket used many times": lambda size: Run(["-D", "A=x(", repeated(size, "%{A}")], status=1),
+    "unclosed brackets": lambda size: Run(["--", "(" * size], status=1),
+    "a circle": lambda size: Run(["-d", "definitions", "%{D0}"], chain(size, "%{D0}"), status=1),
+    "a chain that is too deep": lambda size: Run(["-d", "definitions", "%{D0}"],
+                                                 repeated(size, lambda n: f"D{n}={'x' * 40}%{{D{n + 1}}}\n"), status=1),
+    "keys that clash": lambda size: Run(["--", repeated(size // 2, lambda n: f"%{{WORD:k{n}[1]}}")
+                                         + repeated(size // 2, lambda n: f"%{{WORD:k{n}}}") + "%{WORD:k0}"], status=1),
+    "a pattern that is too large": lambda size: Run(["--", repeated(size, "\\w{1000}")], status=1),
+    "a fault at the end": lambda size: Run(["--", repeated(size, "a") + "b{2,1}"], status=1),
+    "many patterns, the last with a fault": lambda size: Run(
+        [*(word for n in range(size // 100) for word in ("-e", f"%{{WORD:k{n}}}" + "x" * 80)), "-e", "("], status=1),
+    "a file of definitions with a fault at its end": lambda size: Run(["-d", "definitions", "x"],
+                                                                      repeated(size, "A=b\n# c\n") + "!", status=1),
+}
+
+# What comes after each of many keys. The engine compares the name of each group with all others, so 10,000 keys take it five seconds,
+# and 3,000 half of one.
+FILLER = "x?" * 12
+
+
+def keys(size, placeholder):
+    """Placeholders of A, which finds an `a` or nothing. `placeholder` returns the one with a number, or is the same for all."""
+    return repeated(size, lambda n: (placeholder if isinstance(placeholder, str) else placeholder(n)) + FILLER)
+
+
+def optional(words, pattern, lines="a\n"):
+    """A run of a pattern with placeholders of A."""
+    return Run(["-D", "A=a?", *words, "--", pattern], lines=lines)
+
+
+NOTES = {
+    "keys in classes": lambda size: optional([], keys(size, lambda n: f"[%{{A:k{n}}}]"), ""),
+    "keys of two groups": lambda size: optional([], keys(size, lambda n: f"(?<k{n}>a)?%{{A:k{n}}}"), ""),
+    "keys that are extracts": lambda size: optional([], keys(size, "%{A:int}"), ""),
+    "extracts that aren't known": lambda size: optional(["--typed"], keys(size, lambda n: f"%{{A:k{n}:e{n}}}"), ""),
+    "files that aren't there": lambda size: Run(["x", *(f"%{{no{n}}}" for n in range(size // 10))], status=3),
+}
+
+KEYS = {
+    "inline definitions under --explain": lambda size: optional(["--explain"], repeated(size, lambda n: f"%{{D{n}=a}}%{{D{n}}}")),
+    "keys under --explain": lambda size: optional(["--explain"], keys(size, lambda n: f"%{{A:k{n}}}")),
+    "one key under --merge": lambda size: optional(["--merge"], keys(size, "%{A:k}")),
+    "keys under --nested": lambda size: optional(["--nested"], keys(size, lambda n: f"%{{A:[a][b{n}][c]}}")),
+    "deep keys under --nested": lambda size: optional(
+        ["--nested"], keys(size, lambda n: "%{A:" + "".join(f"[n{level}]" for level in range(90)) + f"[x{n}]}}")),
+    "keys under --fields": lambda size: optional(
+        ["--fields", ",".join(f"k{n}" for n in range(size // 45))], "".join(f"%{{A:k{n}}}{FILLER}" for n in range(size // 45))),
+    "columns under --csv": lambda size: optional(["--csv"], keys(size, lambda n: f"%{{A:k{n}}}")),
+}
+
+STOPS = {
+    "a long literal under --why": lambda size: Run(["--why", "--", "a" * (size // 2) + "b"], lines="a" * (size // 2) + "c\n"),
+    "many pieces under --why": lambda size: Run(["--why", "--", repeated(size, "[a-f]+,")], lines="a," * 40 + "x\n"),
+    "many placeholders under --why": lambda size: Run(["--why", "--", repeated(size, lambda n: f"%{{USER:k{n}}},")],
+                                                      lines="a," * 40 + " x\n"),
+    "nested groups under --why": lambda size: Run(
+        ["--why", "--", "a" * (size // 2) + "(?:" * 200 + "b" + ")" * 200], lines="a" * (size // 2) + "c\n"),
+    "many patterns under --why": lambda size: Run(
+        ["--why", *(word for n in range(size // 100) for word in ("-e", f"a{n}%{{USER:k}}" + "x" * 70))], lines="a1b\n"),
+}
+
+SAMPLES = {
+    "a long line under --suggest": lambda size: Run(["--suggest"], lines="ab " * (size // 3) + "\n"),
+    "a long word under --suggest": lambda size: Run(["--suggest"], lines="a" * size + "\n"),
+    "signs under --suggest": lambda size: Run(["--suggest"], lines="-:[=\"/.,\n" * (size // 9)),
+    "a line of signs under --suggest": lambda size: Run(["--suggest"], lines="-:[=\"/.," * (size // 8) + "\n"),
+    "long lines that differ under --suggest": lambda size: Run(
+        ["--suggest"], lines="".join(" ".join(f"w{(n * k) % 97}" for k in range(250)) + "\n" for n in range(1, size // 1000 + 1))),
+    "short lines that differ under --suggest": lambda size: Run(
+        ["--suggest"], lines="".join(f"a{n}b {n * 7919 % 1000} {'xyz'[n % 3]}={n}\n" for n in range(size // 18))),
+}
+
+SHAPES = {**LOGSTASH, **FAULTS, **NOTES, **KEYS, **STOPS, **SAMPLES}
