@@ -48,7 +48,7 @@ pub use Rattle.grok.specs.Texts.{component_text}
 -- definitions, and the tree of a pattern
 pub use Rattle.grok.specs.Maps.{set_all, pair_texts}
 pub use Rattle.grok.specs.DefaultDefinitions.{default_definitions}
-pub use Rattle.grok.specs.Tree.{Definitions, Event, Fault, tree, first_structural, reached}
+pub use Rattle.grok.specs.Tree.{Definitions, Item, Event, Fault, items_of, definition_of, tree, first_structural, reached}
 pub use Rattle.grok.specs.Keys.{capturing, keys, extract_of, first_fault}
 pub use Rattle.grok.specs.Expanded.{expanded}
 -- sizes

@@ -29,3 +29,4 @@ pub mod Expansions
 pub mod Sizes
 pub mod MeasuredOnce
 pub mod MeasureCache
+pub mod FullMeasures

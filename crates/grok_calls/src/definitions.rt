@@ -21,6 +21,7 @@ pub(crate) fn call(rt: &HostRuntime, name: &str) -> Result<()> {
         "patterns" => patterns(rt),
         "names" => names(rt),
         "definition" => definition(rt),
+        "definitions_of" => definitions_of(rt),
         "with_default_patterns" => with_default_patterns(rt),
         "default" => default(rt),
         "from_iter" => from_iter(rt),
@@ -55,6 +56,12 @@ fn names(rt: &HostRuntime) -> Result<()> {
 fn definition(rt: &HostRuntime) -> Result<()> {
     let grok = Grok::from_iter(rt.alloc(), &PAIRS)?;
     twice!(rt, (grok.definition("B"), grok.definition("NEW")));
+    Ok(())
+}
+
+fn definitions_of(rt: &HostRuntime) -> Result<()> {
+    let grok = Grok::from_iter(rt.alloc(), &PAIRS)?;
+    twice!(rt, grok.definitions_of("%{A:x}%{NEW}%{C=c}%{C}"));
     Ok(())
 }
 

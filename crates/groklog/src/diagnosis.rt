@@ -3,7 +3,6 @@
 use crate::excerpt::add_excerpt;
 use crate::library::Library;
 use crate::pattern_text::{PatternText, ordinal};
-use crate::placeholder_definitions::definitions_in;
 use grok::{
     Clash, Diagnosis, Grok, Location, MAX_NESTING, MalformedReason, PathStep, RefusalReason,
     Refused,
@@ -12,6 +11,7 @@ use groklog_input::Report;
 use oniguruma_syntax::has_own_forms;
 use regex_syntax::ErrorKind;
 use std::alloc::{AllocError, Global};
+use std::collections::BTreeMap;
 use std::ops::Range;
 use strsim::osa_distance;
 
@@ -314,7 +314,11 @@ fn first_refused<'x>(
     text: &'x str,
     with_alias_only: bool,
 ) -> Result<Option<RefusedDefinition<'x>>, AllocError> {
-    for (name, definition) in &definitions_in(alloc, library, text)? {
+    let mut seen = BTreeMap::new(alloc);
+    for (name, definition) in &library.grok.definitions_of(text)? {
+        if seen.insert(*definition, ())?.is_some() {
+            continue;
+        }
         if let Some(fault) = fault_alone(alloc, library, definition, with_alias_only)? {
             return Ok(Some(RefusedDefinition {
                 name,

@@ -117,7 +117,7 @@ impl KeyAssigner {
     ///
     /// If an allocation fails.
     pub fn assign(&mut self, label: Label<'_>) -> Result<(), AllocError>
-        requires { CanAssign self.old 1 }
+        requires { CanAssign self.old }
         ensures { OnOk result ((before : List tree.Label) → HasAssigned self.old before →
             HasAssigned self.new (label_view label.entry ∷ before)) }
     {

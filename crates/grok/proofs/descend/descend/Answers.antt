@@ -3,10 +3,9 @@ use Rattle.std.proofs.lemmas.List.{nil_from_length}
 use Rattle.std.specs.FinMap as finite
 use Rattle.grok.specs.Tree.{Definitions, deepest, items_of}
 use Rattle.grok.specs.Items.{item_view, meaning_view}
-use Rattle.grok.specs.steps.PlacedItems.{IsOfLibrary, HasRead, left_in}
+use Rattle.grok.specs.steps.PlacedItems.{IsOfLibrary, left_in}
 use Rattle.grok.specs.steps.Searches.{PassesMore, StopsAt}
 use Rattle.grok.specs.steps.Descents.{IsStep, path_of}
-use Rattle.grok.specs.declared.defs.placed_items.PlacedItems.{PlacedItems}
 use Rattle.grok.specs.declared.descend.Opened.{Opened}
 use Rattle.grok.proofs.Trees.DescentFindsPlace.{descending_starts, descending_fits, descending_levels, descending_goes_on, descending_stops, descending_enters, descending_ends, closes_on, closes_here, found_at, step_fewer, enter_fewer, close_fewer, all_passed, passes_none, passes_both}
 use Rattle.grok.proofs.descend.descend.Goals as goal
@@ -122,13 +121,13 @@ items-smaller-in_ok-push-in-Entered g c =
     let stepped = subst (λ n. IsStep (PassesMore s.HasPassed) (StopsAt s.HasPassed s.IsSought) stored n item found mid new) levels
     (subst (λ (stored : Definitions). IsStep (PassesMore s.HasPassed) (StopsAt s.HasPassed s.IsSought) stored (deepest - c.len.result) item found mid new) (inv.library ∙ c.requires.library) c.in_ok-step_at_item-in-Some.ensures.step) in
     let e = rw c.in-Entered.is at stepped in
-    let opened : Opened = record { placed = placed; name = c.in-Entered.name; items = c.replace-items.result } in
+    let opened : Opened = record { placed = placed; name = c.in-Entered.name; items = c.enter-items.result } in
     let meaning = meaning_view c.in-Entered.meaning in
-    let within = c.replace-items.new.dest in
+    let within = c.enter-items.new.self in
     let deeper = c.push.new.self.items in
     let room : length around < deepest = omega (arith, e.room, descending_levels (PassesMore s.HasPassed) (StopsAt s.HasPassed s.IsSought) stored (passes_both s.HasPassed) pattern old around inner mid d) in
-    enter_fewer stored around (left_in inner) item (left_in later) e.label meaning deeper opened (left_in within) cut e.is room c.in_ok-push-in-Entered.ensures.items (ap left_in c.replace-items.ensures.value)
-    (ap left_in c.replace-items.ensures.after ∙ c.items_inside.ensures.left)
+    enter_fewer stored around (left_in inner) item (left_in later) e.label meaning deeper opened (left_in within) cut e.is room c.in_ok-push-in-Entered.ensures.items (ap left_in c.enter-items.ensures.around)
+    c.enter-items.ensures.left
 
 pub items-preserved-in_ok-push-in-Entered : goal.items-preserved-in_ok-push-in-Entered
 items-preserved-in_ok-push-in-Entered g c =
@@ -151,16 +150,15 @@ items-preserved-in_ok-push-in-Entered g c =
     let stepped = subst (λ n. IsStep (PassesMore s.HasPassed) (StopsAt s.HasPassed s.IsSought) stored n item found mid new) levels
     (subst (λ (stored : Definitions). IsStep (PassesMore s.HasPassed) (StopsAt s.HasPassed s.IsSought) stored (deepest - c.len.result) item found mid new) (inv.library ∙ c.requires.library) c.in_ok-step_at_item-in-Some.ensures.step) in
     let e = rw c.in-Entered.is at stepped in
-    let opened : Opened = record { placed = placed; name = c.in-Entered.name; items = c.replace-items.result } in
+    let opened : Opened = record { placed = placed; name = c.in-Entered.name; items = c.enter-items.result } in
     let meaning = meaning_view c.in-Entered.meaning in
-    let within = c.replace-items.new.dest in
+    let within = c.enter-items.new.self in
     let deeper = c.push.new.self.items in
-    let begun = c.replace-items.ensures.after in
     record {
       ready = c.in_ok-step_at_item-in-Some.ensures.ready;
       library = c.in_ok-step_at_item-in-Some.ensures.definitions ∙ inv.library;
-      descending = descending_enters (PassesMore s.HasPassed) (StopsAt s.HasPassed s.IsSought) stored (passes_both s.HasPassed) pattern old around inner mid d later c.in_ok-placed.ensures.text placed stands read new opened meaning deeper within e refl c.replace-items.ensures.value c.in_ok-push-in-Entered.ensures.items
-          (ap (λ (items : PlacedItems). items.text.now) begun ∙ c.items_inside.ensures.text) (subst (HasRead stored []) (sym begun) c.items_inside.ensures.read) (passes_none s.HasPassed new);
+      descending = descending_enters (PassesMore s.HasPassed) (StopsAt s.HasPassed s.IsSought) stored (passes_both s.HasPassed) pattern old around inner mid d later c.in_ok-placed.ensures.text placed stands read new opened meaning deeper within e refl c.enter-items.ensures.around c.in_ok-push-in-Entered.ensures.items
+          c.enter-items.ensures.text c.enter-items.ensures.read (passes_none s.HasPassed new);
     }
 
 pub returns-in_default-clause-found : goal.returns-in_default-clause-found
@@ -177,8 +175,8 @@ returns-in_default-clause-found g c =
     let over : items_of stored inner.text.now ≡ d.before = rw c.in-None.is at (c.in_ok-placed.ensures.stands stored d.before d.read) in
     all_passed s.HasPassed s.IsSought stored pattern old mid c.requires.begins (descending_ends (PassesMore s.HasPassed) (StopsAt s.HasPassed s.IsSought) stored (passes_both s.HasPassed) pattern old around inner mid d over (nil_from_length around (omega (arith, c.items.around.ok.0, c.in_default.ensures.cases.0))))
 
-pub returns-then-not-pass_event-clause-found : goal.returns-then-not-pass_event-clause-found
-returns-then-not-pass_event-clause-found g c =
+pub returns-then-not-is_passed-clause-found : goal.returns-then-not-is_passed-clause-found
+returns-then-not-is_passed-clause-found g c =
     let s = g.S.Search in
     let stored = finite.get c.args.grok.now in
     let pattern = c.args.pattern.now in
@@ -193,9 +191,9 @@ returns-then-not-pass_event-clause-found g c =
     let outer = c.in-Some-pop.outer in
     let new = c.pass_event.new.self in
     let place = c.in_ok-place_of-in-None in
-    let here = closes_here (PassesMore s.HasPassed) (StopsAt s.HasPassed s.IsSought) stored (passes_both s.HasPassed) pattern old around inner mid d over outside outer c.in-Some-pop.ensures.items new (c.if-not-pass_event.ensures.stopped refl, c.if-not-pass_event.ensures.same refl) in
+    let here = closes_here (PassesMore s.HasPassed) (StopsAt s.HasPassed s.IsSought) stored (passes_both s.HasPassed) pattern old around inner mid d over outside outer c.in-Some-pop.ensures.items new (c.in_ok-is_passed-in-None.ensures.stopped c.if-not-is_passed.true, c.in_ok-is_passed-in-None.ensures.same c.if-not-is_passed.true) in
     found_at s.HasPassed s.IsSought stored pattern old new c.requires.begins outside outer.items.text.now outer.placed place.field-0 here
-    (place.ensures.path ∙ ap path_of c.deref-then-not-pass_event.ensures.value) (ap (λ (text : Bor (List ℕ)). text.now) place.ensures.text) place.ensures.placed
+    (place.ensures.path ∙ ap path_of c.deref-then-not-is_passed.ensures.value) (ap (λ (text : Bor (List ℕ)). text.now) place.ensures.text) place.ensures.placed
 
 pub items-smaller : goal.items-smaller
 items-smaller g c =
@@ -223,7 +221,7 @@ items-preserved g c =
     let outer = c.in-Some-pop.outer in
     let new = c.pass_event.new.self in
     record {
-      ready = c.if-not-pass_event.ensures.ready inv.ready;
-      library = c.if-not-pass_event.ensures.definitions ∙ inv.library;
-      descending = closes_on (PassesMore s.HasPassed) (StopsAt s.HasPassed s.IsSought) stored (passes_both s.HasPassed) pattern old around inner mid d over outside outer c.in-Some-pop.ensures.items new (c.if-not-pass_event.ensures.passed refl);
+      ready = c.in_ok-is_passed-in-None.ensures.ready;
+      library = c.in_ok-is_passed-in-None.ensures.definitions ∙ inv.library;
+      descending = closes_on (PassesMore s.HasPassed) (StopsAt s.HasPassed s.IsSought) stored (passes_both s.HasPassed) pattern old around inner mid d over outside outer c.in-Some-pop.ensures.items new (c.in_ok-is_passed-in-None.ensures.passed c.if-not-is_passed.false);
     }
