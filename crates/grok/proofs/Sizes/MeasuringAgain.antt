@@ -74,14 +74,3 @@ module _ (texts : Texts) (alias_only : Bool) where
     answer_is st shows t m h =
         let answer = items_within alias_only resolve deepest (resolve pattern) st in
         h answer.0 (reads st shows).same ∙ tree_from pattern answer.0 (sym (outcome deepest pattern st t).same)
-
--- ---- the end of a reading
-
--- a text was read to its end
-pub answered_ok : (levels : ℕ) (sum : PartialSize) (frames : List Frame) (cache : MeasureCache) (answer : Reading) → StopsReading levels (Ok sum) frames cache answer → AnswersReading (Ok sum) cache answer
-answered_ok levels sum frames cache answer s = record { same = s.same; leaves = subst (ShowsState cache) (sym s.leaves) s.shows }
-
--- a fault was found, and was remembered for each open text
-pub answered_err : (levels : ℕ) (failure : Failure) (frames : List Frame) (cache after : MeasureCache) (answer : Reading) → StopsReading levels (Err failure) frames cache answer
-    → ((st : State) → ShowsState cache st → st.reach ≡ failure.height → ShowsState after (unwound levels frames (fault_view failure.fault) st)) → AnswersReading (Err failure) after answer
-answered_err levels failure frames cache after answer s remembers = record { same = s.same; leaves = subst (ShowsState after) (sym s.leaves) (remembers s.now s.shows s.reach) }
