@@ -30,3 +30,4 @@ pub mod Sizes
 pub mod MeasuredOnce
 pub mod MeasureCache
 pub mod FullMeasures
+pub mod RefusedParts

@@ -8,12 +8,12 @@ use Rattle.grok.specs.declared.settings.Settings.{Settings}
 use Rattle.grok.proofs.Keys.KeysAreDistinct.{other_fault_is_structural}
 use Rattle.grok.proofs.Trees.StepsCompile.{sized_is}
 use Rattle.grok.proofs.Trees.DiagnosisIsFirstFault.{no_clash}
-use Rattle.grok.proofs.defs.Grok.diagnose.Goals as goal
+use Rattle.grok.proofs.diagnose.diagnose_whole.Goals as goal
 
 pub diagnose_refusal-requires-clause-clean : goal.diagnose_refusal-requires-clause-clean
 diagnose_refusal-requires-clause-clean c =
-    let events = tree (finite.get c.args.self.now) c.args.pattern.now in
-    let sized = sized_is c.args.with_alias_only events c.in-Size.length c.in-Size.groups c.in-Size.nesting (sym (ap measure_view c.in-Size.is) ∙ c.in_ok-found.ensures.counted.answer) in
-    let other = no_clash (first_fault c.args.with_alias_only events) c.in_ok-clash-in-Size.field-0 c.in_ok-clash-in-Size.ensures.first c.in-None-2.is in
+    let events = tree (finite.get c.args.settings.grok.now) c.args.pattern.now in
+    let sized = sized_is c.args.settings.with_alias_only events c.in-Size.length c.in-Size.groups c.in-Size.nesting (sym (ap measure_view c.in-Size.is) ∙ c.in_ok-found.ensures.counted.answer) in
+    let other = no_clash (first_fault c.args.settings.with_alias_only events) c.in_ok-clash-in-Size.field-0 c.in_ok-clash-in-Size.ensures.first c.in-None-2.is in
     subst (λ (settings : Settings). first_fault settings.with_alias_only (tree (finite.get settings.grok.now) c.args.pattern.now) ≡ None) (sym c.in_ok-found.ensures.settings_same)
-    (other_fault_is_structural c.args.with_alias_only events other ∙ ap (option_map Structural) sized.0)
+    (other_fault_is_structural c.args.settings.with_alias_only events other ∙ ap (option_map Structural) sized.0)
