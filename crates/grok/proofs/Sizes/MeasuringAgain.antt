@@ -1,18 +1,16 @@
 -- What is remembered from earlier measurements changes no result, and stays right.
-use Rattle.std.proofs.Common.{◌≡◌, ℕ, Bool, List, length, Result, Some, Ok, Err, refl, sym, ◌∙◌, ap, subst, inl, inr}
+use Rattle.std.proofs.Common.{◌≡◌, ℕ, Bool, List, length, Result, Some, Ok, Err, refl, sym, ◌∙◌, ap, inl, inr}
 use Rattle.std.specs.FinMap as finite
 use Rattle.grok.specs.declared.measure.partial_size.Failure.{Failure}
 use Rattle.grok.specs.declared.measure.partial_size.PartialSize.{PartialSize}
 use Rattle.grok.specs.declared.measure.cache.MeasureCache.{MeasureCache}
-use Rattle.grok.specs.declared.measure.measurer.Frame.{Frame}
 use Rattle.grok.specs.Maps.{Texts}
 use Rattle.grok.specs.Tree.{Fault, Item, items_of, deepest, tree}
 use Rattle.grok.specs.Expanded.{expanded, groups, nesting}
-use Rattle.grok.specs.Items.{fault_view}
 use Rattle.grok.specs.steps.Sizes.{Size, sizes, size_or_fault}
-use Rattle.grok.specs.steps.MeasuredOnce.{State, Reading, nothing_measured, items_within}
+use Rattle.grok.specs.steps.MeasuredOnce.{State, nothing_measured, items_within}
 use Rattle.grok.specs.Measured.{Measured, size_within, fault_or, measured_tree}
-use Rattle.grok.specs.steps.MeasureCache.{shown_result, result_view, measured_size, ShowsState, AnswersReading, unwound, StopsReading, IsCorrect, ShowsCorrectState}
+use Rattle.grok.specs.steps.MeasureCache.{shown_result, result_view, measured_size, ShowsState, AnswersReading, IsCorrect, ShowsCorrectState}
 use Rattle.grok.proofs.Sizes.SizeIsThatOfTree.{tree_sizes}
 use Rattle.grok.proofs.Sizes.RememberingChangesNothing.{RightAnswer, look_right}
 use Rattle.grok.proofs.Sizes.ItemsAreSound.{sound_texts}

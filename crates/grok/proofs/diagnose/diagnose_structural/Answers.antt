@@ -38,9 +38,9 @@ returns-in-Malformed c =
     record {
       found = record {
         structural = subst (λ error. IsFirstStructural c.args.measurer.settings.grok.now c.args.measurer.settings.with_alias_only c.args.pattern.now (MalformedPiece error) location) (sym (c.malformation_at-reason.ensures.fault c.in-Malformed.field-0 at))
-          (subst (λ (fault : Fault). IsFirstStructural c.args.measurer.settings.grok.now c.args.measurer.settings.with_alias_only c.args.pattern.now (fault_view fault) location) c.in-Malformed.is
-          (first_structural_at c.args.measurer.settings.grok.now c.args.measurer.settings.with_alias_only c.args.pattern.now (fault_view c.in-Some.found.fault) location c.requires.no_clash
-          (rw c.in-Some.is at c.in_ok-found.ensures.fault) (rw c.in-Some.is at c.in_ok-found.ensures.location)));
+            (subst (λ (fault : Fault). IsFirstStructural c.args.measurer.settings.grok.now c.args.measurer.settings.with_alias_only c.args.pattern.now (fault_view fault) location) c.in-Malformed.is
+            (first_structural_at c.args.measurer.settings.grok.now c.args.measurer.settings.with_alias_only c.args.pattern.now (fault_view c.in-Some.found.fault) location c.requires.no_clash
+            (rw c.in-Some.is at c.in_ok-found.ensures.fault) (rw c.in-Some.is at c.in_ok-found.ensures.location)));
         malformed = c.malformation_at-reason.ensures.malformed;
       };
       whole = tt;

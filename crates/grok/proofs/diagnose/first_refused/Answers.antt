@@ -1,6 +1,5 @@
-use Rattle.std.proofs.Common.{◌≡◌, ℕ, List, Bor, [], ◌∷◌, ◌++◌, refl, sym, ◌∙◌, ap, subst}
+use Rattle.std.proofs.Common.{ℕ, List, Bor, [], ◌∷◌, ◌++◌, refl, ◌∙◌, ap, subst}
 use Rattle.std.specs.FinMap as finite
-use Rattle.grok.specs.Tree.{PlaceholderItem, meaning_text}
 use Rattle.grok.specs.Items.{item_view, label_view, meaning_view}
 use Rattle.grok.specs.FaultLocations.{IsPieceAt}
 use Rattle.grok.proofs.diagnose.first_refused.Goals as goal
