@@ -1,6 +1,6 @@
 //! Compiles patterns.
 
-ghost use Rattle.std.specs.Prelude.{◌≡◌, ◌≢◌, ◌⊎◌, ℕ, List, [], map, MatchResult, MatchOption, IfOk, None};
+ghost use Rattle.std.specs.Prelude.{◌≡◌, ◌≢◌, ◌⊎◌, [], map, MatchResult, MatchOption, IfOk, None};
 ghost use Rattle.std.specs.Option.{option_map};
 ghost use Rattle.std.specs.FinMap as finite;
 ghost use Rattle.std.specs.String.{string_bytes};
@@ -24,8 +24,9 @@ use crate::engine::regex_engine::RegexEngine;
 use crate::errors::Error;
 use crate::errors::error::clash_error;
 use crate::expand::first_clash::find_first_clash;
-use crate::expand::key_assigner::{KeyAssigner, numbered_key};
+use crate::expand::key_assigner::KeyAssigner;
 use crate::expand::known_parts::KnownParts;
+use crate::expand::numbered::numbered_key;
 use crate::expand::placeholder_key::PlaceholderKey;
 use crate::key_table::KeyTable;
 use crate::matches::PatternOf;

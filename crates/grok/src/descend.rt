@@ -1,11 +1,11 @@
 //! Finds one place in the tree of a pattern: goes through its events in order, passes over each
 //! definition of which enough is known, and enters the others.
-ghost use Rattle.std.specs.Prelude.{◌≡◌, ◌<◌, ◌^◌, ℕ, List, [], ◌∷◌, Some, IfOk, MatchOption, IsTrue, IsFalse, map, if◌then◌else◌};
+ghost use Rattle.std.specs.Prelude.{◌≡◌, ◌<◌, ◌^◌, List, [], ◌∷◌, Some, IfOk, IsTrue, IsFalse, if◌then◌else◌};
 ghost use Rattle.std.specs.FinMap as finite;
 ghost use Rattle.grok.specs.Tree.{PlaceholderItem, events, inside, items_of, meaning_text};
 ghost use Rattle.grok.specs.Items.{item_view, label_view, meaning_view};
 ghost use Rattle.grok.specs.steps.Events.{event_view};
-ghost use Rattle.grok.specs.steps.PlacedItems.{IsOfLibrary, HasRead, left_in};
+ghost use Rattle.grok.specs.steps.PlacedItems.{IsOfLibrary};
 ghost use Rattle.grok.specs.FaultLocations.{path_view};
 ghost use Rattle.grok.specs.steps.Searches.{PassesMore, StopsAt};
 ghost use Rattle.grok.specs.steps.Descents.{IsEventStep, IsStep, path_of, FindsPlace};

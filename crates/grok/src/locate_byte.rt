@@ -1,5 +1,5 @@
 //! Finds the piece that writes a byte of an expanded text, without expanding the pattern.
-ghost use Rattle.std.specs.Prelude.{◌≡◌, ◌<◌, ◌+◌, ◌≤◌, ℕ, List, [], ◌∷◌, ◌++◌, IfOk, IsTrue, IsFalse, length};
+ghost use Rattle.std.specs.Prelude.{◌≡◌, ◌<◌, ◌+◌, List, [], ◌∷◌, IfOk, IsTrue, IsFalse};
 ghost use Rattle.std.specs.FinMap as finite;
 ghost use Rattle.grok.specs.Tree.{Event as EventView, first_structural, tree};
 ghost use Rattle.grok.specs.Items.{item_view};

@@ -1,5 +1,5 @@
 //! Finds where the two placeholders of a clash stand, without expanding the pattern.
-ghost use Rattle.std.specs.Prelude.{◌≡◌, ◌+◌, ◌-◌, ◌^◌, ◌<◌, ◌≤◌, ℕ, List, [], ◌∷◌, Some, None, IfOk, IfSome, IsTrue, false, if◌then◌else◌};
+ghost use Rattle.std.specs.Prelude.{◌≡◌, ◌+◌, ◌-◌, ◌^◌, ◌<◌, ◌≤◌, Some, None, IfOk, IfSome, IsTrue, false, if◌then◌else◌};
 ghost use Rattle.std.specs.Str.{bytes_eq};
 ghost use Rattle.std.specs.FinMap as finite;
 ghost use Rattle.std.specs.String.{string_bytes};
@@ -19,8 +19,8 @@ use crate::descend::{Search, descend};
 use crate::expand::clash_search::FoundClash;
 use crate::expand::events::Event;
 use crate::expand::first_clash::find_first_clash;
-use crate::expand::key_assigner::{base_key, numbered_key};
 use crate::expand::known_parts::KnownParts;
+use crate::expand::numbered::{base_key, numbered_key};
 use crate::expand::uses::{Uses, count_parts};
 use crate::location::Location;
 use crate::measure::full_measure::FullMeasure;

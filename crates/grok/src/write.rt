@@ -5,7 +5,6 @@ ghost use Rattle.std.specs.FinMap as finite;
 ghost use Rattle.grok.specs.Tree as tree;
 ghost use Rattle.grok.specs.Tree.{first_structural, tree as tree_of};
 ghost use Rattle.grok.specs.Items.{label_view};
-ghost use Rattle.grok.specs.GeneratedNames.{named_head};
 ghost use Rattle.grok.specs.Expanded.{expanded};
 ghost use Rattle.grok.specs.steps.AssignedKeys.{CanAssign, HasKeys};
 ghost use Rattle.grok.specs.steps.FaultSearches.{is_fault};
@@ -16,9 +15,8 @@ use crate::defs::items::Label;
 use crate::descend::{Search, descend};
 use crate::expand::events::Event;
 use crate::expand::key_assigner::KeyAssigner;
-use crate::generated_name::{CLOSE, NAME_END, NAME_START, NAMED, UNNAMED};
+use crate::generated_name::{CLOSE, UNNAMED, push_head};
 use crate::settings::Settings;
-use itoa::Buffer;
 use std::alloc::AllocError;
 
 /// What a pattern without a fault expands to.
@@ -35,17 +33,6 @@ struct Writer<'a> {
     settings: Settings<'a>,
     text: String,
     keys: KeyAssigner,
-}
-
-/// Appends the start of the named group with this number, such as `(?<_n_0>`.
-fn push_head(text: &mut String, number: usize) -> Result<(), AllocError>
-    ensures { OnOk result (string_bytes text.new ≡ string_bytes text.old ++ named_head number) }
-{
-    let mut buffer = Buffer::new();
-    text.push_str(NAMED)?;
-    text.push_str(NAME_START)?;
-    text.push_str(buffer.format(number))?;
-    text.push_str(NAME_END)
 }
 
 impl Writer<'_> {

@@ -11,7 +11,7 @@ use crate::defs::Grok;
 use crate::defs::definition::Definition;
 use crate::defs::items::{Item, Items, Label, Meaning};
 use crate::errors::fault::LEVELS;
-use crate::expand::key_assigner::base_key;
+use crate::expand::numbered::base_key;
 use crate::expand::rows::Row;
 use crate::settings::Settings;
 use std::alloc::{AllocError, Global};

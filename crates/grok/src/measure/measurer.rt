@@ -3,7 +3,7 @@
 ghost use Rattle.std.specs.Prelude.{◌≡◌, ◌+◌, ◌<◌, ◌≤◌, ◌^◌, [], ◌∷◌, Option, Result, OnOk, IfOk, IfErr, MatchOption, length, Some, option_map};
 ghost use Rattle.std.specs.FinMap as finite;
 ghost use Rattle.grok.specs.Tree.{first_structural, inside};
-ghost use Rattle.grok.specs.steps.Sizes.{sizes, size_or_fault};
+ghost use Rattle.grok.specs.steps.Sizes.{size_or_fault};
 ghost use Rattle.grok.specs.steps.MeasuredOnce.{State, items_within, nothing_measured};
 ghost use Rattle.grok.specs.Measured.{tree_of, measured_tree, saturated, measure_view};
 ghost use Rattle.grok.specs.steps.MeasureCache.{items_in, shown_result, result_view, ShowsState, unwound, AreLow, StopsReading, AnswersReading, HasCorrectCache};

@@ -1,6 +1,6 @@
 use Rattle.grok.proofs.KeyTables.NamesMeanKeys.{stripped, read_back}
 use Rattle.grok.specs.GeneratedNames.{name_start}
-use Rattle.grok.proofs.key_table.number_of.Goals as goal
+use Rattle.grok.proofs.generated_name.number_of.Goals as goal
 
 pub returns : goal.returns
 returns c =

@@ -4,7 +4,7 @@ use Rattle.std.specs.String.{string_bytes}
 use Rattle.grok.specs.GeneratedNames.{name_start, named_head}
 use Rattle.grok.specs.Numeral.{numeral}
 use Rattle.grok.proofs.Texts.NumeralsAreDecimal.{numeral_is_decimal}
-use Rattle.grok.proofs.write.push_head.Goals as goal
+use Rattle.grok.proofs.generated_name.push_head.Goals as goal
 
 pub returns : goal.returns
 returns c = elim c.push_str-4.result as (λ r. (string_bytes c.push_str-4.new.self ≡ (if is_ok r then string_bytes c.push_str-3.new.self ++ codes ">" else string_bytes c.push_str-3.new.self)) → OnOk r (string_bytes c.push_str-4.new.self ≡ string_bytes c.args.text.now ++ named_head c.args.number)) [
