@@ -1,7 +1,7 @@
 //! Calls that compile patterns, over `RegexEngine` and over engines for tests.
-use crate::LABELS;
+use crate::twice;
 use anyhow::{Result, bail};
-use grok::{Engine, Error, Grok, PatternOf, RegexEngine};
+use grok::{Engine, Grok, RegexEngine};
 use grok_engines::{Bare, Heads, Refuser};
 
 const TWO_LEVELS: [(&str, &str); 2] = [("A", "a"), ("B", "%{A}%{A}")];
@@ -30,39 +30,9 @@ pub(crate) fn call(rt: &HostRuntime, name: &str) -> Result<()> {
     }
 }
 
-/// Prints what the keys of a pattern are, twice.
 fn keys(rt: &HostRuntime) -> Result<()> {
     let grok = Grok::from_iter(rt.alloc(), &TWO_LEVELS)?;
-    twice!(rt, grok.keys("%{B:x}%{A}%{A:x}", true));
-    Ok(())
-}
-
-fn show_key(rt: &HostRuntime, name: &str, extract: Option<&str>) -> Result<()> {
-    print!(rt; ", {name:?} {extract:?}")?;
-    Ok(())
-}
-
-/// Prints the text of a pattern, its keys, and the extract of each.
-fn show_pattern<E: Engine>(rt: &HostRuntime, pattern: &PatternOf<E>) -> Result<()> {
-    print!(rt; "Ok({:?}", pattern.text())?;
-    'names: for name in pattern.capture_names() {
-        show_key(rt, name, pattern.get_extract(name))?;
-    }
-    println!(rt; ")")?;
-    Ok(())
-}
-
-fn show_returned<E: Engine>(
-    rt: &HostRuntime,
-    label: &str,
-    returned: &Result<PatternOf<E>, Error>,
-) -> Result<()> {
-    print!(rt; "{label}: ")?;
-    match returned {
-        Ok(pattern) => show_pattern(rt, pattern)?,
-        Err(error) => println!(rt; "Err({error:?})")?,
-    }
-    Ok(())
+    twice(rt, || grok.keys("%{B:x}%{A}%{A:x}", true))
 }
 
 /// Compiles the pattern twice over these definitions.
@@ -73,20 +43,11 @@ fn compile<E: Engine>(
     with_alias_only: bool,
 ) -> Result<()> {
     let grok = Grok::from_iter(rt.alloc(), definitions)?;
-    'calls: for label in LABELS {
-        eprintln!(rt; "[call")?;
-        let returned = grok.compile_with::<E>(pattern, with_alias_only);
-        eprintln!(rt; "[done")?;
-        show_returned(rt, label, &returned)?;
-    }
-    Ok(())
+    twice(rt, || grok.compile_with::<E>(pattern, with_alias_only))
 }
 
 /// Compiles `count` regular pieces `%a`, over an engine that makes one allocation.
 fn compile_repeated(rt: &HostRuntime, count: usize) -> Result<()> {
-    let mut pattern = String::new(rt.alloc());
-    'pieces: for _ in 0..count {
-        pattern.push_str("%a")?;
-    }
+    let pattern = "%a".repeat(rt.alloc(), count)?;
     compile::<Bare>(rt, &[], pattern.as_str(), false)
 }

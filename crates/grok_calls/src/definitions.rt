@@ -1,5 +1,5 @@
 //! Calls on libraries of definitions.
-use crate::{LABELS, finish};
+use crate::{LABELS, finish, twice};
 use anyhow::{Result, bail};
 use grok::Grok;
 use grok_engines::Heads;
@@ -16,30 +16,17 @@ const PAIRS: [(&str, &str); 3] = [
 const PATTERNS: [&str; 3] = ["%{A}", "%{B:key}-%{A}", "%{NEW}"];
 
 pub(crate) fn call(rt: &HostRuntime, name: &str) -> Result<()> {
+    let alloc = rt.alloc();
     match name {
-        "empty" => empty(rt),
-        "patterns" => patterns(rt),
-        "names" => names(rt),
-        "definition" => definition(rt),
-        "definitions_of" => definitions_of(rt),
-        "with_default_patterns" => with_default_patterns(rt),
-        "default" => default(rt),
-        "from_iter" => from_iter(rt),
-        "clone" => clone(rt),
-        "add_new" => add_pattern(rt, "NEW"),
-        "add_again" => add_pattern(rt, "A"),
-        _ => bail!("no call has this name"),
+        "empty" => twice(rt, || Grok::empty(alloc)),
+        "patterns" => twice(rt, || grok::patterns()),
+        "with_default_patterns" => twice(rt, || Grok::with_default_patterns(alloc)),
+        "default" => twice(rt, || Grok::default(alloc)),
+        "from_iter" => twice(rt, || Grok::from_iter(alloc, &PAIRS)),
+        "add_new" => add_to_library(rt, "NEW"),
+        "add_again" => add_to_library(rt, "A"),
+        _ => call_on_library(rt, name, &Grok::from_iter(alloc, &PAIRS)?),
     }
-}
-
-fn empty(rt: &HostRuntime) -> Result<()> {
-    twice!(rt, Grok::empty(rt.alloc()));
-    Ok(())
-}
-
-fn patterns(rt: &HostRuntime) -> Result<()> {
-    twice!(rt, grok::patterns());
-    Ok(())
 }
 
 fn first_names(grok: &Grok) -> [Option<&str>; 3] {
@@ -47,43 +34,14 @@ fn first_names(grok: &Grok) -> [Option<&str>; 3] {
     [names.next(), names.next(), names.next()]
 }
 
-fn names(rt: &HostRuntime) -> Result<()> {
-    let grok = Grok::from_iter(rt.alloc(), &PAIRS)?;
-    twice!(rt, first_names(&grok));
-    Ok(())
-}
-
-fn definition(rt: &HostRuntime) -> Result<()> {
-    let grok = Grok::from_iter(rt.alloc(), &PAIRS)?;
-    twice!(rt, (grok.definition("B"), grok.definition("NEW")));
-    Ok(())
-}
-
-fn definitions_of(rt: &HostRuntime) -> Result<()> {
-    let grok = Grok::from_iter(rt.alloc(), &PAIRS)?;
-    twice!(rt, grok.definitions_of("%{A:x}%{NEW}%{C=c}%{C}"));
-    Ok(())
-}
-
-fn with_default_patterns(rt: &HostRuntime) -> Result<()> {
-    twice!(rt, Grok::with_default_patterns(rt.alloc()));
-    Ok(())
-}
-
-fn default(rt: &HostRuntime) -> Result<()> {
-    twice!(rt, Grok::default(rt.alloc()));
-    Ok(())
-}
-
-fn from_iter(rt: &HostRuntime) -> Result<()> {
-    twice!(rt, Grok::from_iter(rt.alloc(), &PAIRS));
-    Ok(())
-}
-
-fn clone(rt: &HostRuntime) -> Result<()> {
-    let grok = Grok::from_iter(rt.alloc(), &PAIRS)?;
-    twice!(rt, grok.clone());
-    Ok(())
+fn call_on_library(rt: &HostRuntime, name: &str, grok: &Grok) -> Result<()> {
+    match name {
+        "names" => twice(rt, || first_names(grok)),
+        "definition" => twice(rt, || (grok.definition("B"), grok.definition("NEW"))),
+        "definitions_of" => twice(rt, || grok.definitions_of("%{A:x}%{NEW}%{C=c}%{C}")),
+        "clone" => twice(rt, || grok.clone()),
+        _ => bail!("no call has this name"),
+    }
 }
 
 fn show<T: fmt::Debug + Drop>(rt: &HostRuntime, when: &str, value: T) -> Result<()> {
@@ -101,15 +59,20 @@ fn show_library(rt: &HostRuntime, when: &str, grok: &Grok) -> Result<()> {
     Ok(())
 }
 
+/// Sets the definition of `name`, and prints the library after that.
+fn add_pattern(rt: &HostRuntime, label: &str, grok: &mut Grok, name: &str) -> Result<()> {
+    eprintln!(rt; "[call")?;
+    finish(rt, label, grok.add_pattern(name, "x%{C=c}%{D:key:int=d}"))?;
+    let when = format!(in rt.alloc(); "after {label}")?;
+    show_library(rt, when.as_str(), grok)
+}
+
 /// Sets the definition of `name` twice, and prints the library before the first call and after each of them.
-fn add_pattern(rt: &HostRuntime, name: &str) -> Result<()> {
+fn add_to_library(rt: &HostRuntime, name: &str) -> Result<()> {
     let mut grok = Grok::from_iter(rt.alloc(), &PAIRS)?;
     show_library(rt, "before", &grok)?;
     'calls: for label in LABELS {
-        eprintln!(rt; "[call")?;
-        finish(rt, label, grok.add_pattern(name, "x%{C=c}%{D:key:int=d}"))?;
-        let when = format!(in rt.alloc(); "after {label}")?;
-        show_library(rt, when.as_str(), &grok)?;
+        add_pattern(rt, label, &mut grok, name)?;
     }
     Ok(())
 }

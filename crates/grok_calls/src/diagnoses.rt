@@ -1,4 +1,5 @@
 //! Calls of `diagnose`, one for each kind of fault that it measures or searches for, and a call of `locate_byte`.
+use crate::twice;
 use anyhow::{Result, bail};
 use grok::Grok;
 
@@ -17,13 +18,11 @@ pub(crate) fn call(rt: &HostRuntime, name: &str) -> Result<()> {
 /// Diagnoses a pattern in alias-only mode.
 fn diagnose(rt: &HostRuntime, definitions: &[(&str, &str)], pattern: &str) -> Result<()> {
     let grok = Grok::from_iter(rt.alloc(), definitions)?;
-    twice!(rt, grok.diagnose(pattern, true));
-    Ok(())
+    twice(rt, || grok.diagnose(pattern, true))
 }
 
 /// Locates the byte that the second placeholder of a definition writes.
 fn locate_byte(rt: &HostRuntime) -> Result<()> {
     let grok = Grok::from_iter(rt.alloc(), &[("A", "a"), ("B", "%{A}%{A}")])?;
-    twice!(rt, grok.locate_byte("%{A}%{B:key}", false, 36));
-    Ok(())
+    twice(rt, || grok.locate_byte("%{A}%{B:key}", false, 36))
 }

@@ -1,14 +1,13 @@
 //! Calls on engines, without a pattern.
+use crate::twice;
 use anyhow::{Result, bail};
 use grok::{Engine, RegexEngine};
 use grok_engines::Bare;
 
 pub(crate) fn call(rt: &HostRuntime, name: &str) -> Result<()> {
     match name {
-        "bare_captures" => bare_captures(rt),
-        "regex_text" => regex_text(rt),
-        "regex_names" => regex_names(rt),
-        _ => bail!("no call has this name"),
+        "bare_captures" => capture(rt, &built::<Bare>(rt, "(?<_n_0>a)")?),
+        _ => call_on_regex(rt, name, &built::<RegexEngine>(rt, "(?<key>a)(b)")?),
     }
 }
 
@@ -19,20 +18,15 @@ fn built<E: Engine>(rt: &HostRuntime, text: &str) -> Result<E> {
     }
 }
 
-fn bare_captures(rt: &HostRuntime) -> Result<()> {
-    let engine = built::<Bare>(rt, "(?<_n_0>a)")?;
-    twice!(rt, engine.captures(rt.alloc(), "q"));
-    Ok(())
+fn capture(rt: &HostRuntime, engine: &Bare) -> Result<()> {
+    let alloc = rt.alloc();
+    twice(rt, || engine.captures(alloc, "q"))
 }
 
-fn regex_text(rt: &HostRuntime) -> Result<()> {
-    let engine = built::<RegexEngine>(rt, "(?<key>a)(b)")?;
-    twice!(rt, engine.text());
-    Ok(())
-}
-
-fn regex_names(rt: &HostRuntime) -> Result<()> {
-    let engine = built::<RegexEngine>(rt, "(?<key>a)(b)")?;
-    twice!(rt, engine.names());
-    Ok(())
+fn call_on_regex(rt: &HostRuntime, name: &str, engine: &RegexEngine) -> Result<()> {
+    match name {
+        "regex_text" => twice(rt, || engine.text()),
+        "regex_names" => twice(rt, || engine.names()),
+        _ => bail!("no call has this name"),
+    }
 }

@@ -1,25 +1,12 @@
 //! Makes one call of the library or of the program's commands, the one that the words name.
 //!
-//! `timed` calls are what `bench/` times, and `pairs` compares the ways to match for `tests/pairs/run`. Each other call is
-//! made twice, for `tests/refusals/run`, which refuses each request for memory of the first one in turn. The lines `[call`
-//! and `[done` on standard error mark where a call begins and ends, so that no request of the preparations is counted.
-//! Standard output has what the calls return.
+//! `timed` calls are what `bench/` times, `pairs` compares the ways to match for `tests/pairs/run`, and `compiled` shows what a
+//! pattern is compiled to, for `tests/rows/run`. Each other call is made twice, for `tests/refusals/run`, which refuses each
+//! request for memory of the first one in turn. The lines `[call` and `[done` on standard error mark where a call begins and
+//! ends, so that no request of the preparations is counted. Standard output has what the calls return.
 #![tactic(auto)]
 
-/// The labels of what a call returns the first time, and the second.
-const LABELS: [&str; 2] = ["first", "again"];
-
-/// Makes the call `$call` twice and prints what it returns.
-macro_rules! twice {
-    ($rt:expr, $call:expr) => {
-        'calls: for label in $crate::LABELS {
-            eprintln!($rt; "[call")?;
-            $crate::finish($rt, label, $call)?;
-        }
-    };
-}
-
-mod chains;
+mod compiled;
 mod compiles;
 mod definitions;
 mod diagnoses;
@@ -35,10 +22,24 @@ mod timed;
 use anyhow::{Result, bail};
 use std::{env, fmt};
 
+/// The labels of what a call returns the first time, and the second.
+const LABELS: [&str; 2] = ["first", "again"];
+
 /// Marks the end of a call on standard error, and prints what it returned after the label.
 fn finish<T: fmt::Debug + Drop>(rt: &HostRuntime, label: &str, returned: T) -> Result<()> {
     eprintln!(rt; "[done")?;
     println!(rt; "{label}: {returned:?}")?;
+    Ok(())
+}
+
+/// Makes a call twice, and prints what it returns.
+fn twice<T: fmt::Debug + Drop, F: FnMut() -> T>(rt: &HostRuntime, mut call: F) -> Result<()>
+    requires { F.IsAlwaysCallable call }
+{
+    'calls: for label in LABELS {
+        eprintln!(rt; "[call")?;
+        finish(rt, label, call())?;
+    }
     Ok(())
 }
 
@@ -60,7 +61,6 @@ fn make_call(rt: &HostRuntime, group: &str, name: &str) -> Result<()> {
         "diagnoses" => diagnoses::call(rt, name),
         "errors" => errors::call(rt, name),
         "engines" => engines::call(rt, name),
-        "chains" => chains::call(rt, name),
         "compiles" => compiles::call(rt, name),
         "matches" => matches::call(rt, name),
         "runs" => runs::call(rt, name),
@@ -70,15 +70,18 @@ fn make_call(rt: &HostRuntime, group: &str, name: &str) -> Result<()> {
 
 fn main(rt: HostRuntime) -> Result<()> {
     let words = read_words(&rt)?;
-    let group = words.first().map(|word| word.as_str());
-    let name = words.get(1).map(|word| word.as_str());
-    let pattern = words.get(2).map(|word| word.as_str());
-    match (group, name) {
-        (Some("pairs"), None) => pairs::call(&rt),
-        (Some("timed"), Some(name)) => timed::call(&rt, name, pattern),
-        (Some(group), Some(name)) => make_call(&rt, group, name),
+    match words.as_slice() {
+        [group] if group.as_str() == "pairs" => pairs::call(&rt),
+        [group, call, pattern, names @ ..] if group.as_str() == "compiled" => {
+            compiled::call(&rt, call.as_str(), pattern.as_str(), names)
+        }
+        [group, call] if group.as_str() == "timed" => timed::call(&rt, call.as_str(), None),
+        [group, call, pattern] if group.as_str() == "timed" => {
+            timed::call(&rt, call.as_str(), Some(pattern.as_str()))
+        }
+        [group, call] => make_call(&rt, group.as_str(), call.as_str()),
         _ => bail!(
-            "usage: grok_calls CALLS CALL | grok_calls timed CALL [PATTERN] < TEXT | grok_calls pairs < TEXT"
+            "usage: grok_calls CALLS CALL | grok_calls timed CALL [PATTERN] < TEXT | grok_calls compiled CALL PATTERN [KEY].. < TEXT | grok_calls pairs < TEXT"
         ),
     }
 }

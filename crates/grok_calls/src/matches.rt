@@ -1,7 +1,7 @@
 //! Calls that match lines with the pattern `%{MAC}` over the default definitions, and calls on the matches.
-use crate::LABELS;
+use crate::{LABELS, finish, twice};
 use anyhow::{Result, bail};
-use grok::{Engine, Grok, Matcher, Matches, Pattern, PatternOf};
+use grok::{Engine, Grok, Matcher, Matches, MatchesIter, MatchesRef, Pattern, PatternOf};
 use grok_engines::Bare;
 use std::alloc::{AllocError, Global};
 
@@ -26,14 +26,16 @@ const LARGE_LENGTH: usize = 4000;
 const WARM: usize = 100;
 
 pub(crate) fn call(rt: &HostRuntime, name: &str) -> Result<()> {
-    let grok = Grok::with_default_patterns(rt.alloc())?;
+    call_on_library(rt, name, &Grok::with_default_patterns(rt.alloc())?)
+}
+
+fn call_on_library(rt: &HostRuntime, name: &str, grok: &Grok) -> Result<()> {
     match name {
-        "bare" => return match_bare(rt, &grok),
-        "dropped" => return match_and_drop(rt, &grok),
-        "large" => return match_large(rt),
-        _ => {}
+        "bare" => match_against(rt, &grok.compile_with::<Bare>("%{MAC}", false)?, "q"),
+        "dropped" => twice(rt, || count_and_drop(grok)),
+        "large" => match_large(rt, grok),
+        _ => call_on_pattern(rt, name, &grok.compile("%{MAC::text}", false)?),
     }
-    call_on_pattern(rt, name, &grok.compile("%{MAC::text}", false)?)
 }
 
 fn call_on_pattern(rt: &HostRuntime, name: &str, pattern: &Pattern) -> Result<()> {
@@ -47,43 +49,67 @@ fn call_on_pattern(rt: &HostRuntime, name: &str, pattern: &Pattern) -> Result<()
         "no_match_with_full_caches" => {
             match_after(rt, pattern, CALLS_TO_FILL, HALF_A_LINE, HALF_A_LINE)
         }
-        "matcher" => matcher(rt, pattern),
+        "matcher" => twice(rt, || is_found(pattern, LINE)),
         "line_found" => find_lines(rt, pattern, LINE, 0),
         "line_not_found" => find_lines(rt, pattern, HALF_A_LINE, 0),
         "warm_line_found" => find_lines(rt, pattern, LINE, WARM),
-        "text" => text(rt, pattern),
-        "capture_names" => capture_names(rt, pattern),
-        "get_extract" => get_extract(rt, pattern),
-        "group_of" => group_of(rt, pattern),
-        "group_names" => group_names(rt, pattern),
-        "range" => ranges(rt, pattern),
-        _ => match pattern.match_against(LINE)? {
-            Some(matches) => call_on_matches(rt, name, &matches),
-            None => bail!("the line should match"),
-        },
+        "range" => ranges(rt, &mut pattern.matcher()?),
+        _ => call_on_keys(rt, name, pattern),
     }
 }
 
-fn call_on_matches(rt: &HostRuntime, name: &str, matches: &Matches) -> Result<()> {
+fn first_names(pattern: &Pattern) -> [Option<&str>; 4] {
+    let mut names = pattern.capture_names();
+    [names.next(), names.next(), names.next(), names.next()]
+}
+
+fn call_on_keys(rt: &HostRuntime, name: &str, pattern: &Pattern) -> Result<()> {
     match name {
-        "collect" => collect(rt, matches),
-        "collect_map" => collect_map(rt, matches),
-        "get" => get(rt, matches),
-        "iter" => iter(rt, matches),
-        "into_iter" => into_iter(rt, matches),
-        "pattern" => pattern_of(rt, matches),
+        "text" => twice(rt, || pattern.text()),
+        "capture_names" => twice(rt, || first_names(pattern)),
+        "get_extract" => twice(rt, || {
+            (pattern.get_extract("MAC"), pattern.get_extract("USER"))
+        }),
+        "group_of" => twice(rt, || {
+            (pattern.group_of("COMMONMAC"), pattern.group_of("nobody"))
+        }),
+        "group_names" => twice(rt, || pattern.group_names()),
+        _ => call_on_match(rt, name, &pattern.match_against(LINE)?),
+    }
+}
+
+fn call_on_match(rt: &HostRuntime, name: &str, found: &Option<Matches>) -> Result<()> {
+    match found {
+        Some(matches) => call_on_matches(rt, name, matches),
+        None => bail!("the line should match"),
+    }
+}
+
+fn first_pairs<'a>(mut pairs: MatchesIter<'a>) -> [Option<(&'a str, &'a str)>; 3] {
+    [pairs.next(), pairs.next(), pairs.next()]
+}
+
+fn call_on_matches(rt: &HostRuntime, name: &str, matches: &Matches) -> Result<()> {
+    let alloc = rt.alloc();
+    match name {
+        "collect" => twice(rt, || matches.collect(alloc)),
+        "collect_map" => twice(rt, || matches.collect_map(alloc)),
+        "get" => twice(rt, || {
+            (
+                matches.get("MAC"),
+                matches.get("CISCOMAC"),
+                matches.get("nobody"),
+            )
+        }),
+        "iter" => twice(rt, || first_pairs(matches.iter())),
+        "into_iter" => twice(rt, || first_pairs(matches.into_iter())),
+        "pattern" => twice(rt, || matches.pattern()),
         _ => bail!("no call has this name"),
     }
 }
 
-fn match_bare(rt: &HostRuntime, grok: &Grok) -> Result<()> {
-    let pattern = grok.compile_with::<Bare>("%{MAC}", false)?;
-    match_against(rt, &pattern, "q")
-}
-
 fn match_against<E: Engine>(rt: &HostRuntime, pattern: &PatternOf<E>, line: &str) -> Result<()> {
-    twice!(rt, pattern.match_against(line));
-    Ok(())
+    twice(rt, || pattern.match_against(line))
 }
 
 /// Matches `line` twice, after `count` calls for the line `earlier`.
@@ -95,50 +121,54 @@ fn match_after(
     line: &str,
 ) -> Result<()> {
     'calls: for _ in 0..count {
-        pattern.match_against(earlier)?;
+        is_match(pattern, earlier)?;
     }
     match_against(rt, pattern, line)
 }
 
-/// Compiles a pattern, matches a line four times by the pattern and once by a matcher, and drops all of them.
-fn match_and_drop(rt: &HostRuntime, grok: &Grok) -> Result<()> {
-    twice!(rt, count_and_drop(grok));
-    Ok(())
+/// Returns whether the pattern itself finds a match in the line.
+fn is_match(pattern: &Pattern, line: &str) -> Result<bool, AllocError> {
+    Ok(pattern.match_against(line)?.is_some())
 }
 
-/// Returns how many of the five calls find a match.
-fn count_and_drop(grok: &Grok) -> Result<u32, grok::Error> {
-    let pattern = grok.compile("%{MAC}", false)?;
+/// Returns whether a new matcher of the pattern finds a match in the line.
+fn is_found(pattern: &Pattern, line: &str) -> Result<bool, AllocError> {
+    let mut matcher = pattern.matcher()?;
+    Ok(matcher.find(line)?.is_some())
+}
+
+/// Matches a line four times by the pattern and once by a matcher, and returns how many of these find a match.
+fn count_found(pattern: &Pattern) -> Result<u32, AllocError> {
     let mut found = 0u32;
     for _ in 0..4u32 {
-        if pattern.match_against(LINE)?.is_some() {
-            found = found.saturating_add(1);
-        }
+        found = found.saturating_add(u32::from(is_match(pattern, LINE)?));
     }
-    let mut matcher = pattern.matcher()?;
-    if matcher.find(LINE)?.is_some() {
-        found = found.saturating_add(1);
-    }
-    Ok(found)
+    Ok(found.saturating_add(u32::from(is_found(pattern, LINE)?)))
+}
+
+/// Compiles a pattern, matches a line with it, and drops all of that.
+fn count_and_drop(grok: &Grok) -> Result<u32, grok::Error> {
+    Ok(count_found(&grok.compile("%{MAC}", false)?)?)
 }
 
 /// Matches lines that lead to ever more states of the pattern's automata: a state has to know at which of the last 20
 /// letters an `a` was.
-fn match_large(rt: &HostRuntime) -> Result<()> {
-    let grok = Grok::empty(rt.alloc());
+fn match_large(rt: &HostRuntime, grok: &Grok) -> Result<()> {
     let text = letters(rt.alloc(), LARGE_LINES * LARGE_LENGTH)?;
-    twice!(rt, count_large(&grok, text.as_str()));
-    Ok(())
+    let text = text.as_str();
+    twice(rt, || count_large(grok, text))
+}
+
+/// Compiles the pattern, and returns how many lines of the text match.
+fn count_large(grok: &Grok, text: &str) -> Result<usize, grok::Error> {
+    Ok(count_lines(&grok.compile("(?<last>a[ab]{20})c", true)?, text)?)
 }
 
 /// Returns how many lines of the text match.
-fn count_large(grok: &Grok, text: &str) -> Result<usize, grok::Error> {
-    let pattern = grok.compile("(?<last>a[ab]{20})c", true)?;
+fn count_lines(pattern: &Pattern, text: &str) -> Result<usize, AllocError> {
     let mut found = 0usize;
     for line in text.lines() {
-        if pattern.match_against(line)?.is_some() {
-            found = found.saturating_add(1);
-        }
+        found = found.saturating_add(usize::from(is_match(pattern, line)?));
     }
     Ok(found)
 }
@@ -157,151 +187,42 @@ fn letters(alloc: Global, count: usize) -> Result<String, AllocError> {
     Ok(text)
 }
 
-/// Makes a matcher twice, and prints what each of them finds.
-fn matcher(rt: &HostRuntime, pattern: &Pattern) -> Result<()> {
-    'calls: for label in LABELS {
-        eprintln!(rt; "[call")?;
-        let returned = pattern.matcher();
-        eprintln!(rt; "[done")?;
-        show_matcher(rt, label, returned)?;
-    }
-    Ok(())
-}
-
-/// Prints what a matcher finds, or that it couldn't be made.
-fn show_matcher(
-    rt: &HostRuntime,
-    label: &str,
-    returned: Result<Matcher, AllocError>,
-) -> Result<()> {
-    match returned {
-        Ok(mut matcher) => println!(rt; "{label}: {:?}", matcher.find(LINE))?,
-        Err(error) => println!(rt; "{label}: Err({error:?})")?,
-    }
-    Ok(())
-}
-
 /// Calls `find` for `line` twice with one matcher, after `before` calls for the same line. If an allocation failed in the
 /// first call, that doesn't change the result of the second one.
-fn find_lines<'t>(
-    rt: &HostRuntime,
-    pattern: &'t Pattern,
-    line: &'t str,
-    before: usize,
-) -> Result<()> {
+fn find_lines(rt: &HostRuntime, pattern: &Pattern, line: &str, before: usize) -> Result<()> {
     let mut matcher = pattern.matcher()?;
-    for _ in 0..before {
-        let _found = matcher.find(line)?;
-    }
+    warm_up(&mut matcher, line, before)?;
     find_twice(rt, &mut matcher, line)
 }
 
-fn find_twice(rt: &HostRuntime, matcher: &mut Matcher<'_>, line: &str) -> Result<()> {
-    twice!(rt, matcher.find(line));
+fn warm_up(matcher: &mut Matcher<'_>, line: &str, count: usize) -> Result<(), AllocError> {
+    for _ in 0..count {
+        let _found = matcher.find(line)?;
+    }
     Ok(())
 }
 
-fn ranges(rt: &HostRuntime, pattern: &Pattern) -> Result<()> {
-    let mut matcher = pattern.matcher()?;
-    let Some(found) = matcher.find(LINE)? else {
-        bail!("the line should match");
-    };
-    twice!(
-        rt,
+fn find_twice(rt: &HostRuntime, matcher: &mut Matcher<'_>, line: &str) -> Result<()> {
+    'calls: for label in LABELS {
+        eprintln!(rt; "[call")?;
+        finish(rt, label, matcher.find(line))?;
+    }
+    Ok(())
+}
+
+fn ranges(rt: &HostRuntime, matcher: &mut Matcher<'_>) -> Result<()> {
+    match matcher.find(LINE)? {
+        Some(found) => ranges_of(rt, found),
+        None => bail!("the line should match"),
+    }
+}
+
+fn ranges_of(rt: &HostRuntime, found: MatchesRef<'_>) -> Result<()> {
+    twice(rt, || {
         (
             found.range("MAC"),
             found.range("CISCOMAC"),
-            found.range("nobody")
+            found.range("nobody"),
         )
-    );
-    Ok(())
-}
-
-fn text(rt: &HostRuntime, pattern: &Pattern) -> Result<()> {
-    twice!(rt, pattern.text());
-    Ok(())
-}
-
-fn first_names(pattern: &Pattern) -> [Option<&str>; 4] {
-    let mut names = pattern.capture_names();
-    [names.next(), names.next(), names.next(), names.next()]
-}
-
-fn capture_names(rt: &HostRuntime, pattern: &Pattern) -> Result<()> {
-    twice!(rt, first_names(pattern));
-    Ok(())
-}
-
-fn get_extract(rt: &HostRuntime, pattern: &Pattern) -> Result<()> {
-    twice!(
-        rt,
-        (
-            pattern.get_extract("MAC"),
-            pattern.get_extract("USER"),
-            pattern.get_extract("nobody")
-        )
-    );
-    Ok(())
-}
-
-fn group_of(rt: &HostRuntime, pattern: &Pattern) -> Result<()> {
-    twice!(
-        rt,
-        (pattern.group_of("COMMONMAC"), pattern.group_of("nobody"))
-    );
-    Ok(())
-}
-
-fn group_names(rt: &HostRuntime, pattern: &Pattern) -> Result<()> {
-    twice!(rt, pattern.group_names());
-    Ok(())
-}
-
-fn collect(rt: &HostRuntime, matches: &Matches) -> Result<()> {
-    twice!(rt, (&*matches).collect(rt.alloc()));
-    Ok(())
-}
-
-fn collect_map(rt: &HostRuntime, matches: &Matches) -> Result<()> {
-    twice!(rt, (&*matches).collect_map(rt.alloc()));
-    Ok(())
-}
-
-fn get(rt: &HostRuntime, matches: &Matches) -> Result<()> {
-    twice!(
-        rt,
-        (
-            matches.get("MAC"),
-            matches.get("CISCOMAC"),
-            matches.get("nobody")
-        )
-    );
-    Ok(())
-}
-
-fn iter(rt: &HostRuntime, matches: &Matches) -> Result<()> {
-    twice!(
-        rt,
-        {
-            let mut pairs = (&*matches).iter();
-            [pairs.next(), pairs.next(), pairs.next()]
-        }
-    );
-    Ok(())
-}
-
-fn into_iter(rt: &HostRuntime, matches: &Matches) -> Result<()> {
-    twice!(
-        rt,
-        {
-            let mut pairs = (&*matches).into_iter();
-            [pairs.next(), pairs.next(), pairs.next()]
-        }
-    );
-    Ok(())
-}
-
-fn pattern_of(rt: &HostRuntime, matches: &Matches) -> Result<()> {
-    twice!(rt, matches.pattern());
-    Ok(())
+    })
 }

@@ -56,26 +56,20 @@ impl fmt::Display for MatchesByWay {
     }
 }
 
-fn own_match<'a>(alloc: Global, pattern: &'a Pattern, line: &'a str) -> Result<String, AllocError> {
-    let found = pattern.match_against(line)?;
+fn shown<T: fmt::Debug>(alloc: Global, found: &T) -> Result<String, AllocError> {
     format!(in alloc; "{found:?}")
 }
 
-fn kept_match<'p, 'm>(
-    alloc: Global,
-    matcher: &'m mut Matcher<'p>,
-    line: &'m str,
-) -> Result<String, AllocError>
-where
-    'p: 'm,
-{
-    let found = matcher.find(line)?;
-    format!(in alloc; "{found:?}")
+fn own_match(alloc: Global, pattern: &Pattern, line: &str) -> Result<String, AllocError> {
+    shown(alloc, &pattern.match_against(line)?)
+}
+
+fn kept_match(alloc: Global, matcher: &mut Matcher<'_>, line: &str) -> Result<String, AllocError> {
+    shown(alloc, &matcher.find(line)?)
 }
 
 fn uncached_match(alloc: Global, pattern: &Pattern, line: &str) -> Result<String, AllocError> {
-    let mut matcher = pattern.matcher()?;
-    kept_match(alloc, &mut matcher, line)
+    kept_match(alloc, &mut pattern.matcher()?, line)
 }
 
 /// How many lines of a pattern were matched, how many of them match, and for how many the ways to match differ.
@@ -136,16 +130,33 @@ fn compare_pattern(rt: &HostRuntime, grok: &Grok, parts: &str) -> Result<()> {
     }
 }
 
-fn compare_lines(rt: &HostRuntime, pattern: &Pattern, text: &str, lines: &str) -> Result<()> {
-    let mut matcher = pattern.matcher()?;
+/// Reports the line if the ways to match differ on it.
+fn check_line(rt: &HostRuntime, matches: &MatchesByWay, text: &str, line: &str) -> Result<()> {
+    if !matches.are_the_same() {
+        println!(rt; "different: {text:?} on {line:?}: {matches}")?;
+    }
+    Ok(())
+}
+
+/// Compares the ways to match for each of these lines, and returns the counts.
+fn count_lines(
+    rt: &HostRuntime,
+    pattern: &Pattern,
+    matcher: &mut Matcher<'_>,
+    text: &str,
+    lines: &str,
+) -> Result<Counts> {
     let mut counts = Counts::default();
     for line in lines.split(BETWEEN_PARTS) {
-        let matches = MatchesByWay::of(rt.alloc(), pattern, &mut matcher, line)?;
-        if !matches.are_the_same() {
-            println!(rt; "different: {text:?} on {line:?}: {matches}")?;
-        }
+        let matches = MatchesByWay::of(rt.alloc(), pattern, matcher, line)?;
         counts.add(&matches);
+        check_line(rt, &matches, text, line)?;
     }
+    Ok(counts)
+}
+
+fn compare_lines(rt: &HostRuntime, pattern: &Pattern, text: &str, lines: &str) -> Result<()> {
+    let counts = count_lines(rt, pattern, &mut pattern.matcher()?, text, lines)?;
     println!(rt; "{counts}")?;
     Ok(())
 }

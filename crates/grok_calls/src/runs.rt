@@ -1,4 +1,5 @@
 //! Runs the commands of `grok_tool`, without input.
+use crate::twice;
 use anyhow::{Result, bail};
 use grok_commands::run;
 use std::io;
@@ -13,9 +14,6 @@ pub(crate) fn call(rt: &HostRuntime, name: &str) -> Result<()> {
 
 /// Runs these words. Nothing is read, and the output is discarded.
 fn run_words(rt: &HostRuntime, words: &[&str]) -> Result<()> {
-    twice!(
-        rt,
-        run(rt.alloc(), words, &mut io::empty(), &mut io::sink())
-    );
-    Ok(())
+    let alloc = rt.alloc();
+    twice(rt, || run(alloc, words, &mut io::empty(), &mut io::sink()))
 }

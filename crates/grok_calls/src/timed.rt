@@ -17,14 +17,8 @@ pub(crate) fn call(rt: &HostRuntime, name: &str, pattern: Option<&str>) -> Resul
     match (name, pattern) {
         ("split", None) => time_split(rt),
         ("regex", None) => time_regex(rt),
-        ("measure", Some(pattern)) => {
-            let grok = time_library(rt)?;
-            time_measure(rt, &grok, pattern)
-        }
-        ("compile", Some(pattern)) => {
-            let grok = time_library(rt)?;
-            time_measure(rt, &grok, pattern)?;
-            time_compile(rt, &grok, pattern)
+        ("measure" | "keys" | "compile", Some(pattern)) => {
+            call_on_library(rt, name, &time_library(rt)?, pattern)
         }
         ("match", Some(pattern)) => lines::call(rt, pattern, Asked::Ways),
         ("own_and_find", Some(pattern)) => lines::call(rt, pattern, Asked::OwnAndFind),
@@ -32,6 +26,18 @@ pub(crate) fn call(rt: &HostRuntime, name: &str, pattern: Option<&str>) -> Resul
         ("few", Some(pattern)) => lines::call(rt, pattern, Asked::Calls(20_000)),
         ("many", Some(pattern)) => lines::call(rt, pattern, Asked::Calls(2_000_000)),
         _ => bail!("no timed call has this name and this number of words"),
+    }
+}
+
+/// Times a call for a pattern over this library. Before it compiles the pattern, it measures it.
+fn call_on_library(rt: &HostRuntime, name: &str, grok: &Grok, pattern: &str) -> Result<()> {
+    match name {
+        "measure" => time_measure(rt, grok, pattern),
+        "keys" => time_keys(rt, grok, pattern),
+        _ => {
+            time_measure(rt, grok, pattern)?;
+            time_compile(rt, grok, pattern)
+        }
     }
 }
 
@@ -89,6 +95,16 @@ fn time_measure(rt: &HostRuntime, grok: &Grok, pattern: &str) -> Result<()> {
     let (measure, looks) = grok.measure_counted(pattern, false)?;
     report_time(rt, "measure", &start)?;
     println!(rt; "{measure:?} {looks:?}")?;
+    Ok(())
+}
+
+/// Lists the keys of the placeholders with an alias, and prints how many they are and the last of them.
+fn time_keys(rt: &HostRuntime, grok: &Grok, pattern: &str) -> Result<()> {
+    let start = Instant::now(rt)?;
+    let keys = grok.keys(pattern, true)?;
+    report_time(rt, "keys", &start)?;
+    let last = keys.last().map(|key| key.key.as_str());
+    println!(rt; "keys {} last {last:?}", keys.len())?;
     Ok(())
 }
 

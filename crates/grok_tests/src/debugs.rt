@@ -2,7 +2,8 @@
 //! pair, as derived structs and maps do. A library, a piece and a fault stay on one line.
 
 use grok::parser::{GrokPatternError, grok_split};
-use grok::{Grok, Pattern};
+use grok::{Grok, Matcher, Pattern};
+use std::alloc::{AllocError, Global};
 use std::fmt;
 use std::process::Abort;
 use std::test::Fail;
@@ -18,19 +19,11 @@ fn check_shown<T: fmt::Debug>(
     Ok(())
 }
 
-#[test]
-fn patterns_by_field(rt: HostRuntime) -> Result<(), Fail> {
-    let grok = Grok::from_iter(rt.alloc(), &[("A", "a")])?;
-    let bare = grok.compile("a", false)?;
-    check_shown(
-        &rt,
-        &bare,
-        "Pattern {\n    text: \"a\",\n    extracts: {},\n}",
-    )?;
-    let pattern = grok.compile("%{A:x:t}%{A:y:u-1}%{A}", false)?;
-    check_shown(
-        &rt,
-        &pattern,
+/// Patterns over the library of `library_of_a`, with their debug texts.
+const PATTERNS: &[(&str, &str)] = &[
+    ("a", "Pattern {\n    text: \"a\",\n    extracts: {},\n}"),
+    (
+        "%{A:x:t}%{A:y:u-1}%{A}",
         r#"Pattern {
     text: "(?<_n_0>a)(?<_n_1>a)(?<_n_2>a)",
     extracts: {
@@ -38,44 +31,80 @@ fn patterns_by_field(rt: HostRuntime) -> Result<(), Fail> {
         "y": "u-1",
     },
 }"#,
-    )
+    ),
+];
+
+/// Returns a library in which `A` is `a`.
+fn library_of_a(alloc: Global) -> Result<Grok, AllocError> {
+    Grok::from_iter(alloc, &[("A", "a")])
 }
 
-/// The debug text of a match of `aa`, by the pattern and by a matcher.
-const TWO_PAIRS: &str = r#"Some(
+fn check_pattern(
+    rt: &(impl Abort + AllocGlobal),
+    grok: &Grok,
+    text: &str,
+    expected: &str,
+) -> Result<(), Fail> {
+    check_shown(rt, &grok.compile(text, false)?, expected)
+}
+
+#[test]
+fn patterns_by_field(rt: HostRuntime) -> Result<(), Fail> {
+    let grok = library_of_a(rt.alloc())?;
+    for (text, expected) in PATTERNS {
+        check_pattern(&rt, &grok, text, expected)?;
+    }
+    Ok(())
+}
+
+/// Patterns over the same library, lines, and the debug text of the match by the pattern and by a matcher.
+const MATCHES: &[(&str, &str, &str)] = &[
+    (
+        "%{A:x:t}%{A}",
+        "aa",
+        r#"Some(
     {
         "A": "a",
         "x": "a",
     },
-)"#;
-
-/// The debug text of a match without pairs.
-const NO_PAIRS: &str = "Some(\n    {},\n)";
+)"#,
+    ),
+    ("%{A:x:t}%{A}", "ab", "None"),
+    ("a", "aa", "Some(\n    {},\n)"),
+];
 
 /// Checks that the match of the line has this debug text, whichever of the two calls returned it.
 fn check_match(
     rt: &(impl Abort + AllocGlobal),
     pattern: &Pattern,
+    matcher: &mut Matcher<'_>,
     line: &str,
     expected: &str,
 ) -> Result<(), Fail> {
-    let mut matcher = pattern.matcher()?;
     check_shown(rt, &pattern.match_against(line)?, expected)?;
     check_shown(rt, &matcher.find(line)?, expected)
 }
 
-#[test]
-fn matches_by_pair(rt: HostRuntime) -> Result<(), Fail> {
-    let grok = Grok::from_iter(rt.alloc(), &[("A", "a")])?;
-    let pattern = grok.compile("%{A:x:t}%{A}", false)?;
-    check_match(&rt, &pattern, "aa", TWO_PAIRS)?;
-    check_match(&rt, &pattern, "ab", "None")?;
-    check_match(&rt, &grok.compile("a", false)?, "aa", NO_PAIRS)
+fn check_matches(
+    rt: &(impl Abort + AllocGlobal),
+    pattern: &Pattern,
+    line: &str,
+    expected: &str,
+) -> Result<(), Fail> {
+    check_match(rt, pattern, &mut pattern.matcher()?, line, expected)
 }
 
 #[test]
-fn libraries_on_one_line(rt: HostRuntime) -> Result<(), Fail> {
-    check_shown(&rt, &Grok::empty(rt.alloc()), "Grok {}")?;
+fn matches_by_pair(rt: HostRuntime) -> Result<(), Fail> {
+    let grok = library_of_a(rt.alloc())?;
+    for (text, line, expected) in MATCHES {
+        check_matches(&rt, &grok.compile(text, false)?, line, expected)?;
+    }
+    Ok(())
+}
+
+#[test]
+fn a_library_on_one_line(rt: HostRuntime) -> Result<(), Fail> {
     let grok = Grok::from_iter(rt.alloc(), &[("B", "%{A}\n"), ("A", "\"a\"")])?;
     check_shown(&rt, &grok, r#"Grok {"A": "\"a\"", "B": "%{A}\n"}"#)
 }
@@ -110,16 +139,7 @@ fn pieces_on_one_line(rt: HostRuntime) -> Result<(), Fail> {
 }
 
 #[test]
-fn faults_on_one_line(rt: HostRuntime) -> Result<(), Fail> {
-    check_shown(
-        &rt,
-        &GrokPatternError::InvalidCharacter('\''),
-        r"InvalidCharacter('\'')",
-    )?;
-    check_shown(&rt, &GrokPatternError::InvalidPattern, "InvalidPattern")?;
-    check_shown(
-        &rt,
-        &GrokPatternError::InvalidPatternDefinition,
-        "InvalidPatternDefinition",
-    )
+fn a_fault_on_one_line(rt: HostRuntime) -> Result<(), Fail> {
+    let fault = GrokPatternError::InvalidCharacter('\'');
+    check_shown(&rt, &fault, r"InvalidCharacter('\'')")
 }

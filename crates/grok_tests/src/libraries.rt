@@ -1,17 +1,7 @@
-//! Makes libraries with the default definitions, with long chains of definitions, and with doublings (definitions that use
-//! the one before twice).
+//! Makes libraries with long chains of definitions, and with doublings (definitions that use the one before twice).
 
 use grok::Grok;
 use std::alloc::{AllocError, Global};
-
-/// Returns a library with the default definitions and then these.
-pub(crate) fn library(alloc: Global, definitions: &[(&str, &str)]) -> Result<Grok, AllocError> {
-    let mut grok = Grok::with_default_patterns(alloc)?;
-    for (name, text) in definitions {
-        grok.add_pattern(name, text)?;
-    }
-    Ok(grok)
-}
 
 /// Adds the definition with this text, whose name is the letter and the number, as in `C1`.
 fn add_link(

@@ -1,7 +1,7 @@
 //! The beginnings of a regular expression.
 ghost use Rattle.std.specs.Prelude.{◌≡◌, IfOk, MatchOption, ⊤, string_bytes};
 ghost use Rattle.regex.specs.Strings.{regex_source};
-ghost use Rattle.regex_beginnings.specs.Pieces.{beginning_text, text_upto};
+ghost use Rattle.regex_beginnings.specs.Pieces.{ArePiecesOf, beginning_text, text_upto};
 ghost use Rattle.regex_beginnings.specs.Finds.{IsAnswer, IsFirstMatchIn};
 ghost use Rattle.regex_beginnings.specs.Beginnings.{pieces_of, groups_of, IsLongestIn};
 
@@ -41,7 +41,9 @@ impl<'a> Beginnings<'a> {
     /// # Errors
     ///
     /// If an allocation fails.
-    pub fn new(alloc: Global, text: &'a str) -> Result<Beginnings<'a>, AllocError> {
+    pub fn new(alloc: Global, text: &'a str) -> Result<Beginnings<'a>, AllocError>
+        ensures { IfOk result (λ beginnings. ArePiecesOf text.now (pieces_of beginnings)) }
+    {
         let Pieces { pieces, groups } = cut(alloc, text)?;
         Ok(Beginnings {
             alloc,

@@ -1,4 +1,8 @@
 //! Cuts the text of a regular expression into pieces.
+ghost use Rattle.std.specs.Prelude.{◌≡◌, ◌≤◌, ◌⊎◌, length, take, IfOk};
+ghost use Rattle.std.specs.List.{All};
+ghost use Rattle.std.specs.List.Sorted.{IsNonDecreasingBy};
+ghost use Rattle.regex_beginnings.specs.Pieces.{ArePiecesOf, IsPieceOf, end_of};
 
 use crate::scan::{Opening, after, atom_len, is_literal, quantifiers_len, read_opening};
 use std::alloc::{AllocError, Global};
@@ -63,10 +67,26 @@ struct Cutter<'a> {
     captures: usize,
     /// Whether the text has alternatives outside all groups.
     has_alternatives: bool,
+    ghost parts: { All (IsPieceOf text.now) pieces.items },
+    ghost ordered: { IsNonDecreasingBy end_of pieces.items },
+    ghost cut: { All (λ piece. end_of piece ≤ at) pieces.items },
+}
+
+/// Returns what a text has before this byte position, or the whole text if no character ends there.
+fn before(text: &str, end: usize) -> &str
+    ensures beginning { take (length result.now) text.now ≡ result.now }
+    ensures long { (end ≤ length result.now) ⊎ (result.now ≡ text.now) }
+{
+    match text.get(..end) {
+        Some(beginning) => beginning,
+        None => text,
+    }
 }
 
 impl<'a> Cutter<'a> {
-    fn new(alloc: Global, text: &'a str) -> Cutter<'a> {
+    fn new(alloc: Global, text: &'a str) -> Cutter<'a>
+        ensures { result.text.now ≡ text.now }
+    {
         Cutter {
             text,
             at: 0,
@@ -78,31 +98,46 @@ impl<'a> Cutter<'a> {
         }
     }
 
-    /// Adds a piece that begins at `start` and has this length, and continues after it.
-    fn add_piece(&mut self, start: usize, len: usize, is_literal: bool) -> Result<(), AllocError> {
-        let end = start.saturating_add(len);
-        self.at = end;
-        self.pieces.push(Piece {
-            start,
-            upto: self.text.get(..end).unwrap_or(self.text),
+    /// Returns the index of the innermost group that isn't closed, if there is one.
+    fn innermost(&self) -> Option<usize> {
+        self.open.as_slice().last().map(|open| open.group)
+    }
+
+    /// Adds a piece that begins at `start` and ends at `end`, or after all that is cut, if that is
+    /// later. Continues after it. If no character ends there, the piece is the rest of the text.
+    fn add_piece(&mut self, start: usize, end: usize, is_literal: bool) -> Result<(), AllocError>
+        ensures { self.new.text.now ≡ self.old.text.now }
+    {
+        let upto = before(self.text, end.max(self.at));
+        let piece = Piece {
+            start: start.min(upto.len()),
+            upto,
             is_literal,
-            around: self.open.as_slice().last().map(|open| open.group),
+            around: self.innermost(),
             depth: self.open.len(),
-        })?;
+        };
+        self.at = upto.len();
+        self.pieces.push(piece)?;
         Ok(())
     }
 
     /// Cuts a character, a class or an escape with its quantifiers.
-    fn cut_atom(&mut self) -> Result<(), AllocError> {
-        let rest = after(self.text, self.at);
+    fn cut_atom(&mut self) -> Result<(), AllocError>
+        ensures { self.new.text.now ≡ self.old.text.now }
+    {
+        let start = self.at;
+        let rest = after(self.text, start);
         let len = atom_len(rest);
         let quantifiers = quantifiers_len(after(rest, len));
         let is_literal = is_literal(rest) && quantifiers == 0;
-        self.add_piece(self.at, len.saturating_add(quantifiers), is_literal)
+        let end = start.saturating_add(len).saturating_add(quantifiers);
+        self.add_piece(start, end, is_literal)
     }
 
     /// Makes one piece of all that follows, together with the outermost group that isn't closed.
-    fn take_rest(&mut self) -> Result<(), AllocError> {
+    fn take_rest(&mut self) -> Result<(), AllocError>
+        ensures { self.new.text.now ≡ self.old.text.now }
+    {
         let mut start = self.at;
         if let Some(outermost) = self.open.as_slice().first()
             && let Some(group) = self.groups.as_slice().get(outermost.group)
@@ -111,14 +146,16 @@ impl<'a> Cutter<'a> {
             self.pieces.truncate(outermost.pieces_before);
         }
         self.open.clear();
-        self.add_piece(start, self.text.len().saturating_sub(start), false)
+        self.add_piece(start, self.text.len(), false)
     }
 
     /// Begins a group at a `(`, or cuts a setting of flags.
-    fn begin_group(&mut self) -> Result<(), AllocError> {
+    fn begin_group(&mut self) -> Result<(), AllocError>
+        ensures { self.new.text.now ≡ self.old.text.now }
+    {
         let start = self.at;
         match read_opening(after(self.text, start)) {
-            Opening::Setting(len) => self.add_piece(start, len, false),
+            Opening::Setting(len) => self.add_piece(start, start.saturating_add(len), false),
             Opening::Verbose => self.take_rest(),
             Opening::Group { len, is_capturing } => {
                 self.captures = self.captures.saturating_add(usize::from(is_capturing));
@@ -132,10 +169,11 @@ impl<'a> Cutter<'a> {
                     pieces_before: self.pieces.len(),
                     has_alternatives: false,
                 };
+                let around = self.innermost();
                 self.groups.push(Group {
                     start,
                     end: self.text.len(),
-                    around: self.open.as_slice().last().map(|open| open.group),
+                    around,
                     number,
                 })?;
                 self.open.push(open)?;
@@ -147,7 +185,9 @@ impl<'a> Cutter<'a> {
 
     /// Ends a group at its `)`. It becomes a piece of its own if it has quantifiers or
     /// alternatives, or if it is empty.
-    fn end_group(&mut self) -> Result<(), AllocError> {
+    fn end_group(&mut self) -> Result<(), AllocError>
+        ensures { self.new.text.now ≡ self.old.text.now }
+    {
         let inside_end = self.at.saturating_add(1);
         let quantifiers = quantifiers_len(after(self.text, inside_end));
         let end = inside_end.saturating_add(quantifiers);
@@ -163,13 +203,15 @@ impl<'a> Cutter<'a> {
         let is_empty = self.pieces.len() == open.pieces_before;
         if is_empty || open.has_alternatives || quantifiers > 0 {
             self.pieces.truncate(open.pieces_before);
-            self.add_piece(start, end.saturating_sub(start), false)?;
+            self.add_piece(start, end, false)?;
         }
         Ok(())
     }
 
     /// Notes at a `|` that the innermost open group has alternatives, or the whole text.
-    fn note_alternatives(&mut self) {
+    fn note_alternatives(&mut self)
+        ensures { self.new.text.now ≡ self.old.text.now }
+    {
         self.at = self.at.saturating_add(1);
         match self.open.as_mut_slice().last_mut() {
             Some(open) => open.has_alternatives = true,
@@ -178,7 +220,9 @@ impl<'a> Cutter<'a> {
     }
 
     /// Cuts what comes next.
-    fn cut_next(&mut self) -> Result<(), AllocError> {
+    fn cut_next(&mut self) -> Result<(), AllocError>
+        ensures { self.new.text.now ≡ self.old.text.now }
+    {
         let rest = after(self.text, self.at);
         if rest.starts_with('(') {
             self.begin_group()
@@ -196,10 +240,12 @@ impl<'a> Cutter<'a> {
 /// Cuts the text of a regular expression that `regex` takes into pieces. If the text has
 /// alternatives outside all groups, it is one piece. If it sets the flag `x`, the part from there on
 /// is one piece, together with the outermost group that is open there.
-pub(crate) fn cut<'a>(alloc: Global, text: &'a str) -> Result<Pieces<'a>, AllocError> {
+pub(crate) fn cut<'a>(alloc: Global, text: &'a str) -> Result<Pieces<'a>, AllocError>
+    ensures { IfOk result (λ cut. ArePiecesOf text.now cut.pieces.items) }
+{
     let mut cutter = Cutter::new(alloc, text);
     // Each step takes a byte at least.
-    for _ in 0..text.len() {
+    'steps: for _ in 0..text.len() {
         if cutter.at >= text.len() {
             break;
         }

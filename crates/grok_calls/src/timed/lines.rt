@@ -1,7 +1,7 @@
 //! Matches the lines of a log in three ways.
 use crate::timed::library;
 use anyhow::{Result, bail};
-use grok::{Matcher, Matches, MatchesIter, MatchesRef, Pattern};
+use grok::{Matcher, MatchesIter, Pattern};
 use std::alloc::{AllocError, Global};
 use std::time::Instant;
 use std::{fmt, io};
@@ -32,21 +32,16 @@ impl<'p> Way<'p> {
     /// Matches a line in this way, and adds its match to `summary`.
     fn match_line(&mut self, line: &str, summary: &mut MatchSummary) -> Result<(), AllocError> {
         match self {
-            Way::Shared(pattern) => {
-                if let Some(found) = ask_pattern(pattern, line)? {
-                    summary.add(found.iter());
-                }
-            }
-            Way::Kept(matcher) => summary.add_borrowed(matcher.find(line)?),
-            Way::New(pattern) => summary.add_borrowed(pattern.matcher()?.find(line)?),
+            Way::Shared(pattern) => summary.add_own(pattern, line),
+            Way::Kept(matcher) => summary.add_found(matcher, line),
+            Way::New(pattern) => summary.add_found(&mut pattern.matcher()?, line),
         }
-        Ok(())
     }
 
     /// Returns whether a line matches.
     fn is_match(&mut self, line: &str) -> Result<bool, AllocError> {
         match self {
-            Way::Shared(pattern) => Ok(ask_pattern(pattern, line)?.is_some()),
+            Way::Shared(pattern) => ask_own(pattern, line),
             Way::Kept(matcher) => ask_kept(matcher, line),
             Way::New(pattern) => ask_new(pattern, line),
         }
@@ -56,8 +51,8 @@ impl<'p> Way<'p> {
 // These are functions of their own so that each has a name in a profile, as `count_matches` has.
 
 #[inline(never)]
-fn ask_pattern<'a>(pattern: &'a Pattern, line: &'a str) -> Result<Option<Matches<'a>>, AllocError> {
-    pattern.match_against(line)
+fn ask_own(pattern: &Pattern, line: &str) -> Result<bool, AllocError> {
+    Ok(pattern.match_against(line)?.is_some())
 }
 
 #[inline(never)]
@@ -100,10 +95,20 @@ impl MatchSummary {
         }
     }
 
-    fn add_borrowed(&mut self, found: Option<MatchesRef<'_>>) {
-        if let Some(found) = found {
+    /// Adds the match that the pattern itself finds in a line, if there is one.
+    fn add_own(&mut self, pattern: &Pattern, line: &str) -> Result<(), AllocError> {
+        if let Some(found) = pattern.match_against(line)? {
             self.add(found.iter());
         }
+        Ok(())
+    }
+
+    /// Adds the match that a matcher finds in a line, if there is one.
+    fn add_found(&mut self, matcher: &mut Matcher<'_>, line: &str) -> Result<(), AllocError> {
+        if let Some(found) = matcher.find(line)? {
+            self.add(found.iter());
+        }
+        Ok(())
     }
 }
 
@@ -143,13 +148,13 @@ fn time_pass(rt: &HostRuntime, way: &mut Way<'_>, lines: &[&str], pass: &str) ->
 /// that the lines have the expected matches.
 fn time_way(
     rt: &HostRuntime,
-    mut way: Way<'_>,
+    way: &mut Way<'_>,
     lines: &[&str],
     expected: MatchSummary,
 ) -> Result<()> {
-    let first = time_pass(rt, &mut way, lines, " first")?;
-    let found = ask_all(&mut way, lines)?;
-    let warm = time_pass(rt, &mut way, lines, "")?;
+    let first = time_pass(rt, way, lines, " first")?;
+    let found = ask_all(way, lines)?;
+    let warm = time_pass(rt, way, lines, "")?;
     if found != expected || first != expected.matches || warm != expected.matches {
         let name = way.name();
         bail!("other matches by `{name}`");
@@ -160,9 +165,9 @@ fn time_way(
 /// Measures the time of each way to match.
 fn time_ways(rt: &HostRuntime, pattern: &Pattern, lines: &[&str]) -> Result<()> {
     let expected = ask_all(&mut Way::New(pattern), lines)?;
-    time_way(rt, Way::Shared(pattern), lines, expected)?;
-    time_way(rt, Way::Kept(pattern.matcher()?), lines, expected)?;
-    time_way(rt, Way::New(pattern), lines, expected)?;
+    time_way(rt, &mut Way::Shared(pattern), lines, expected)?;
+    time_way(rt, &mut Way::Kept(pattern.matcher()?), lines, expected)?;
+    time_way(rt, &mut Way::New(pattern), lines, expected)?;
     println!(rt; "{expected}")?;
     Ok(())
 }
@@ -170,8 +175,8 @@ fn time_ways(rt: &HostRuntime, pattern: &Pattern, lines: &[&str]) -> Result<()> 
 /// Measures the time of the pattern's own call and of `find` of a kept matcher.
 fn time_own_and_find(rt: &HostRuntime, pattern: &Pattern, lines: &[&str]) -> Result<()> {
     let expected = ask_all(&mut Way::Kept(pattern.matcher()?), lines)?;
-    time_way(rt, Way::Shared(pattern), lines, expected)?;
-    time_way(rt, Way::Kept(pattern.matcher()?), lines, expected)?;
+    time_way(rt, &mut Way::Shared(pattern), lines, expected)?;
+    time_way(rt, &mut Way::Kept(pattern.matcher()?), lines, expected)?;
     println!(rt; "{expected}")?;
     Ok(())
 }
@@ -180,7 +185,7 @@ fn time_own_and_find(rt: &HostRuntime, pattern: &Pattern, lines: &[&str]) -> Res
 fn time_first_calls(rt: &HostRuntime, pattern: &Pattern, lines: &[&str]) -> Result<()> {
     for (index, line) in lines.iter().take(FIRST_CALLS).enumerate() {
         let start = Instant::now(rt)?;
-        let is_match = pattern.match_against(line)?.is_some();
+        let is_match = ask_own(pattern, line)?;
         let time = start.elapsed(rt)?.as_nanos();
         eprintln!(rt; "call {index} {time} ns")?;
         println!(rt; "match {is_match}")?;
@@ -193,7 +198,7 @@ fn repeat(pattern: &Pattern, lines: &[&str], calls: usize) -> Result<()> {
     for number in 0..calls {
         let index = number.checked_rem(lines.len()).unwrap_or(0);
         if let Some(line) = lines.get(index) {
-            pattern.match_against(line)?;
+            ask_own(pattern, line)?;
         }
     }
     Ok(())
@@ -228,12 +233,16 @@ pub(crate) fn call(rt: &HostRuntime, pattern: &str, asked: Asked) -> Result<()> 
     let Some((definitions, log)) = text.split_once("\n\n") else {
         bail!("no empty line after the definitions");
     };
-    let pattern = library(rt.alloc(), definitions)?.compile(pattern, true)?;
     let lines = lines_of(rt.alloc(), log)?;
+    let pattern = library(rt.alloc(), definitions)?.compile(pattern, true)?;
+    ask(rt, &pattern, &lines, asked)
+}
+
+fn ask(rt: &HostRuntime, pattern: &Pattern, lines: &[&str], asked: Asked) -> Result<()> {
     match asked {
-        Asked::Ways => time_ways(rt, &pattern, &lines),
-        Asked::OwnAndFind => time_own_and_find(rt, &pattern, &lines),
-        Asked::FirstCalls => time_first_calls(rt, &pattern, &lines),
-        Asked::Calls(calls) => repeat(&pattern, &lines, calls),
+        Asked::Ways => time_ways(rt, pattern, lines),
+        Asked::OwnAndFind => time_own_and_find(rt, pattern, lines),
+        Asked::FirstCalls => time_first_calls(rt, pattern, lines),
+        Asked::Calls(calls) => repeat(pattern, lines, calls),
     }
 }

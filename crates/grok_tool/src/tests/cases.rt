@@ -1,5 +1,4 @@
 //! One successful run of each command, with its whole output.
-use super::default_sizes::EVERY;
 use super::devices::{FakeReader, FakeWriter};
 use super::outcome::{Ending, Outcome, check_outcome, outcome_of};
 use std::process::Abort;
@@ -9,25 +8,6 @@ pub const KEYED: &str = "(?<k>[a-z]\\s?)";
 
 /// Three lines: one that matches `KEYED`, one that doesn't, and one that isn't UTF-8 and has no line feed at its end.
 pub const LINES: &[u8] = b"p\n#\n\xff";
-
-/// A run of the program with its input, and its expected output.
-#[derive(Clone, Copy)]
-pub struct Run {
-    /// What this run tests.
-    pub name: &'static str,
-    pub words: &'static [&'static str],
-    pub input: &'static [u8],
-    /// What the run writes, or the text of its fault.
-    pub output: &'static str,
-}
-
-/// The run with no words. Other runs take what they don't set from here: an input that isn't read, and no output.
-pub const UNREAD: Run = Run {
-    name: "no words",
-    words: &[],
-    input: b"left alone",
-    output: "",
-};
 
 /// The words of a run on `LINES`, whether the run reads these lines, and its output.
 #[derive(Clone, Copy)]
@@ -82,7 +62,16 @@ pub const CASES: [Case; 5] = [
         name: "the sizes of the default definitions",
         words: &["check"],
         reads: false,
-        output: EVERY,
+        output: "CISCOMAC: length 50 groups 1 nesting 1\n\
+            COMMONMAC: length 49 groups 1 nesting 1\n\
+            DAY: length 104 groups 1 nesting 1\n\
+            MAC: length 163 groups 4 nesting 2\n\
+            MONTH: length 157 groups 1 nesting 1\n\
+            SPACE: length 12 groups 1 nesting 1\n\
+            USER: length 33 groups 2 nesting 2\n\
+            USERNAME: length 24 groups 1 nesting 1\n\
+            WINDOWSMAC: length 49 groups 1 nesting 1\n\
+            YEAR: length 20 groups 1 nesting 1\n",
     },
 ];
 

@@ -1,6 +1,5 @@
 //! Devices, which are readers and writers, that behave as a test asks them to. The calls of each are numbered from 0.
 use std::alloc::Global;
-use std::cell::RefCell;
 use std::io;
 use std::io::{ErrorKind, Read, Write};
 
@@ -130,63 +129,5 @@ impl Write for FakeWriter {
             return Err(io::Error::from(ErrorKind::BrokenPipe));
         }
         Ok(())
-    }
-}
-
-/// A writer that forwards to a fake writer, which the test can read meanwhile.
-#[derive(Drop)]
-pub struct SharedWriter<'a> {
-    pub writer: &'a RefCell<FakeWriter>,
-}
-
-impl Write for SharedWriter<'_> {
-    fn write(&mut self, buf: &[u8]) -> io::Result<usize> {
-        let Ok(mut writer) = self.writer.try_borrow_mut() else {
-            return Err(io::Error::from(ErrorKind::Other));
-        };
-        writer.write(buf)
-    }
-
-    fn flush(&mut self) -> io::Result<()> {
-        let Ok(mut writer) = self.writer.try_borrow_mut() else {
-            return Err(io::Error::from(ErrorKind::Other));
-        };
-        writer.flush()
-    }
-}
-
-/// A reader that returns one byte in each call, and notes in `seen` how many bytes a fake writer has accepted by then.
-#[derive(Drop)]
-pub struct WatchingReader<'a> {
-    left: &'a [u8],
-    writer: &'a RefCell<FakeWriter>,
-    pub seen: Vec<usize>,
-}
-
-impl<'a> WatchingReader<'a> {
-    /// Makes a reader of these bytes. Nothing was read from it yet, so `seen` is empty.
-    pub(crate) fn new(
-        alloc: Global,
-        left: &'a [u8],
-        writer: &'a RefCell<FakeWriter>,
-    ) -> WatchingReader<'a> {
-        WatchingReader {
-            left,
-            writer,
-            seen: Vec::new(alloc),
-        }
-    }
-}
-
-impl Read for WatchingReader<'_> {
-    fn read(&mut self, buf: &mut [u8]) -> io::Result<usize> {
-        let Ok(writer) = self.writer.try_borrow() else {
-            return Err(io::Error::from(ErrorKind::Other));
-        };
-        self.seen.push(writer.taken.len())?;
-        let n = self.left.len().min(buf.len()).min(1);
-        buf[..n].copy_from_slice(&self.left[..n]);
-        self.left = &self.left[n..];
-        Ok(n)
     }
 }

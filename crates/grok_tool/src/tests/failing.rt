@@ -1,9 +1,7 @@
 //! Tests each command on devices that fail: no byte is lost without an error.
-use super::cases::{CASES, Case, KEYED, LINES, Run, check_run};
-use super::devices::{Failing, FakeReader, FakeWriter, SharedWriter, WatchingReader};
-use super::outcome::{Ending, Outcome, check_outcome, ending_of, outcome_of};
-use grok_commands::run;
-use std::cell::RefCell;
+use super::cases::{CASES, Case, KEYED, LINES, check_run};
+use super::devices::{Failing, FakeReader, FakeWriter};
+use super::outcome::{Ending, Outcome, check_outcome, outcome_of};
 use std::process::Abort;
 use std::test::Fail;
 
@@ -33,18 +31,6 @@ const FAILED_READS: &[FailedRead] = &[
         ],
     },
     FailedRead {
-        name: "a line that is not UTF-8, and an answer",
-        words: &["match", KEYED],
-        input: b"\xff\np\n",
-        before: &[
-            "",
-            "",
-            "not UTF-8\n\n",
-            "not UTF-8\n\n",
-            "not UTF-8\n\nk=p\n\n",
-        ],
-    },
-    FailedRead {
         name: "answers, and a last line without a line feed",
         words: &["match", "(?<k>.)"],
         input: b"p\nq",
@@ -64,56 +50,10 @@ const FAILED_READS: &[FailedRead] = &[
         ],
     },
     FailedRead {
-        name: "a line that is not UTF-8, and an object",
-        words: &["json", KEYED],
-        input: b"\xff\np\n",
-        before: &["", "", "false\n", "false\n", "false\n{\"k\":\"p\"}\n"],
-    },
-    FailedRead {
         name: "objects, and a last line without a line feed",
         words: &["json", "(?<k>.)"],
         input: b"p\nq",
         before: &["", "", "{\"k\":\"p\"}\n", "{\"k\":\"p\"}\n"],
-    },
-    FailedRead {
-        name: "answers of a pattern that could take a line feed",
-        words: &["match", KEYED],
-        input: b"p\nq",
-        before: &["", "", "k=p\n\n", "k=p\n\n"],
-    },
-    FailedRead {
-        name: "objects of a pattern that could take a line feed",
-        words: &["json", KEYED],
-        input: b"p\nq",
-        before: &["", "", "{\"k\":\"p\"}\n", "{\"k\":\"p\"}\n"],
-    },
-];
-
-/// Test runs for a writer that accepts one byte in each call until one of its calls fails.
-const FAILED_WRITES: &[Run] = &[
-    Run {
-        name: "two answers",
-        words: &["match", "(?<k>.)"],
-        input: b"p\nq\nr\n",
-        output: "k=p\n\nk=q\n\n",
-    },
-    Run {
-        name: "two objects",
-        words: &["json", "(?<k>.)"],
-        input: b"p\nq\nr\n",
-        output: "{\"k\":\"p\"}\n{\"k\":\"q\"}\n",
-    },
-    Run {
-        name: "two answers of a pattern that could take a line feed",
-        words: &["match", KEYED],
-        input: b"p\nq\nr\n",
-        output: "k=p\n\nk=q\n\n",
-    },
-    Run {
-        name: "two objects of a pattern that could take a line feed",
-        words: &["json", KEYED],
-        input: b"p\nq\nr\n",
-        output: "{\"k\":\"p\"}\n{\"k\":\"q\"}\n",
     },
 ];
 
@@ -280,32 +220,6 @@ fn a_failed_write_of_an_answer(rt: HostRuntime) -> Result<(), Fail> {
     Ok(())
 }
 
-/// Runs the row on a writer that accepts one byte in each call, and that fails from call number `bad` on. Checks that
-/// the first `bad` bytes of the output were written.
-fn check_failed_byte(rt: &(impl Abort + AllocGlobal), row: &Run, bad: usize) {
-    let mut writer = FakeWriter::new(rt.alloc());
-    writer.most = 1;
-    writer.failing = Failing::since(bad);
-    let reader = FakeReader::new(row.input);
-    let outcome = outcome_of(rt, row.words, reader, writer, row.output);
-    let expected = Outcome {
-        ending: Ending::Write,
-        taken: bad,
-        ..outcome
-    };
-    check_outcome(rt, row.name, outcome, expected);
-}
-
-#[test]
-fn a_failed_write_in_an_answer(rt: HostRuntime) -> Result<(), Fail> {
-    for row in FAILED_WRITES {
-        for bad in 0..row.output.len() {
-            check_failed_byte(&rt, row, bad);
-        }
-    }
-    Ok(())
-}
-
 #[test]
 fn a_writer_that_takes_nothing(rt: HostRuntime) -> Result<(), Fail> {
     for case in CASES {
@@ -334,65 +248,5 @@ fn a_failed_flush(rt: HostRuntime) -> Result<(), Fail> {
         };
         check_outcome(&rt, case.name, outcome, expected);
     }
-    Ok(())
-}
-
-/// At each read, the answers to all lines that were read before have been written.
-#[test]
-fn answers_go_out_before_each_read(rt: HostRuntime) -> Result<(), Fail> {
-    let writer = RefCell::new(FakeWriter::new(rt.alloc()));
-    let mut input = WatchingReader::new(rt.alloc(), b"p\n#\n\xff\nq", &writer);
-    let mut output = SharedWriter { writer: &writer };
-    let ran = run(rt.alloc(), &["match", KEYED], &mut input, &mut output);
-    assert!(rt; ran.is_ok());
-    assert_eq!(rt;
-        input.seen.as_slice(),
-        [0, 0, 5, 5, 15, 15, 26, 26].as_slice()
-    );
-    Ok(())
-}
-
-/// Returns how a run of these words ends on a writer that accepts 50,000 bytes in each call and fails as `failing`
-/// says.
-fn failed_ending(rt: &impl AllocGlobal, words: &[&str], input: &[u8], failing: Failing) -> Ending {
-    let mut writer = FakeWriter::new(rt.alloc());
-    writer.most = 50_000;
-    writer.failing = failing;
-    ending_of(rt.alloc(), words, &mut FakeReader::new(input), &mut writer)
-}
-
-/// Runs these words on a writer that is called `calls` times. Checks that the run succeeds if no call fails, and that
-/// it reports a failed write if one of them fails.
-fn check_each_write(rt: &(impl Abort + AllocGlobal), words: &[&str], input: &[u8], calls: usize) {
-    for bad in 0..calls {
-        assert_eq!(rt;
-            failed_ending(rt, words, input, Failing::since(bad)),
-            Ending::Write
-        );
-        assert_eq!(rt;
-            failed_ending(rt, words, input, Failing::blocking_at(bad)),
-            Ending::Write
-        );
-    }
-    assert_eq!(rt;
-        failed_ending(rt, words, input, Failing::since(calls)),
-        Ending::Well
-    );
-}
-
-/// A command that reads its input writes before its second read and at its end. Any other command writes once.
-#[test]
-fn a_failed_write_of_what_was_held(rt: HostRuntime) -> Result<(), Fail> {
-    for case in CASES {
-        check_each_write(&rt, case.words, LINES, case.expected_writes());
-    }
-    Ok(())
-}
-
-/// The answer is longer than the buffer for output that is held back.
-#[test]
-fn a_failed_write_in_a_long_answer(rt: HostRuntime) -> Result<(), Fail> {
-    let line = vec![in rt.alloc(); b'a'; 300_000]?;
-    check_each_write(&rt, &["match", "(?<k>a+)"], &line, 7);
     Ok(())
 }

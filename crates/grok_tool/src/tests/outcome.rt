@@ -1,8 +1,7 @@
 //! The outcome of a run on a fake reader and a fake writer.
-use super::cases::Run;
 use super::devices::{FakeReader, FakeWriter};
 use grok_commands::{ToolFault, run};
-use std::alloc::{AllocError, Global};
+use std::alloc::Global;
 use std::process::Abort;
 
 /// How a run ended: it succeeded, or it had a fault of this kind.
@@ -86,42 +85,6 @@ pub(crate) fn outcome_of<'a>(
     outcome_at(ending, &reader, &writer)
 }
 
-/// Returns the text of a fault of a pattern, or an empty text for any other fault.
-fn pattern_words(alloc: Global, fault: &ToolFault) -> Result<String, AllocError> {
-    match fault {
-        ToolFault::Pattern(error) => error.to_string(alloc),
-        _ => Ok(String::new(alloc)),
-    }
-}
-
-/// Runs the words on these devices, and returns the text of the fault of their pattern, or an empty text if the run
-/// ended in another way.
-fn words_of_pattern(
-    alloc: Global,
-    words: &[&str],
-    reader: &mut FakeReader<'_>,
-    writer: &mut FakeWriter,
-) -> Result<String, AllocError> {
-    match run(alloc, words, reader, writer) {
-        Ok(()) => Ok(String::new(alloc)),
-        Err(fault) => pattern_words(alloc, &fault),
-    }
-}
-
-/// Runs a row whose pattern has a fault. Checks the text of the fault, and that no device is called.
-pub(crate) fn check_pattern_fault(
-    rt: &(impl Abort + AllocGlobal),
-    row: &Run,
-) -> Result<(), AllocError> {
-    let mut reader = FakeReader::new(row.input);
-    let mut writer = FakeWriter::new(rt.alloc());
-    let printed = words_of_pattern(rt.alloc(), row.words, &mut reader, &mut writer)?;
-    assert_eq!(rt; printed.as_str(), row.output, "{}", row.name);
-    let outcome = outcome_at(Ending::Pattern, &reader, &writer);
-    check_untouched(rt, row, outcome, Ending::Pattern);
-    Ok(())
-}
-
 /// Checks that the outcome of the run with this name is the expected one.
 pub(crate) fn check_outcome(
     rt: &(impl Abort + AllocGlobal),
@@ -130,22 +93,4 @@ pub(crate) fn check_outcome(
     expected: Outcome<'_>,
 ) {
     assert_eq!(rt; outcome, expected, "{name}");
-}
-
-/// Checks that `outcome` is that of a run of the row which ended as `ending` says, and which called no device.
-pub(crate) fn check_untouched(
-    rt: &(impl Abort + AllocGlobal),
-    row: &Run,
-    outcome: Outcome<'_>,
-    ending: Ending,
-) {
-    let expected = Outcome {
-        ending,
-        left: row.input,
-        reads: 0,
-        taken: 0,
-        writes: 0,
-        flushes: 0,
-    };
-    check_outcome(rt, row.name, outcome, expected);
 }

@@ -1,0 +1,646 @@
+"""Patterns, and what was worked out by hand for them from the rules of docs/DEFINITIONS.md: the text that a pattern expands to,
+its keys, their extracts, or the error, and what it finds in lines. `run` beside this file compares the programs with them.
+
+Definitions are words `NAME=DEF`, which come after the default ones.
+"""
+import sys
+
+sys.path.insert(0, sys.path[0] + "/..")
+import model
+
+# The modes that a row holds in: all placeholders capture, or only those with an alias.
+EVERY, ALIASED, BOTH = (False,), (True,), (False, True)
+
+
+class Row:
+    """A pattern with its definitions, and what is expected of it. `lines` has lines with their pairs, in the byte order of their
+    keys, or `no match`."""
+
+    def __init__(self, name, pattern, compiled, definitions=(), modes=BOTH, extracts=None, lines=None):
+        self.name, self.pattern, self.compiled, self.definitions, self.modes = name, pattern, compiled, definitions, modes
+        self.extracts, self.lines = extracts or {}, lines or {}
+
+    def __str__(self):
+        return self.name
+
+    def library(self):
+        """The definitions by name. The later one of a name counts."""
+        return {**model.DEFAULTS, **dict(each.split("=", 1) for each in self.definitions)}
+
+
+class Pattern:
+    """A pattern with this expanded text, and with these keys, in byte order."""
+
+    def __init__(self, text, keys):
+        self.text, self.keys = text, keys.split()
+
+
+class Keys(Pattern):
+    """A pattern with these keys. Its text isn't stated, because default definitions make it long."""
+
+    def __init__(self, keys):
+        super().__init__(None, keys)
+
+
+class Refused:
+    """The error that `regex` refuses this expanded text."""
+
+    def __init__(self, text):
+        self.text = text
+
+
+class Error:
+    """The error with this debug text."""
+
+    def __init__(self, debug):
+        self.debug = debug
+
+
+def generic(words):
+    return Error(f'GenericCompilationFailure("{words}")')
+
+
+def clash(key):
+    return generic(f"Alias {key} already exists")
+
+
+def malformed(fault):
+    return generic(fault)
+
+
+def missing(name):
+    return Error(f'DefinitionNotFound("{name}")')
+
+
+TOO_DEEP, MEMORY = Error("RecursionTooDeep"), Error("Memory")
+
+# A pattern over an engine that takes each text. What `regex` makes of the text isn't stated.
+ACCEPTED = None
+
+
+def words_of(library):
+    return [f"{name}={text}" for name, text in library.items()]
+
+
+def chain(name, length, last):
+    return words_of(model.chain(name, length, last))
+
+
+def doublings(first):
+    """`D0` with this text, and `D1` to `D70`, each of which uses the one before twice."""
+    return words_of(model.doubled(70, first))
+
+
+A = ["A=a"]
+AB = ["A=a", "B=%{A}%{A}"]
+CIRCLE_OF_THREE = ["A=%{B}", "B=%{C}", "C=%{A}"]
+USER_WITH_EXTRACT = ["USERNAME=[a-zA-Z0-9._-]+", "USER=%{USERNAME::text}"]
+
+ELEVEN_GROUPS = "(?<_n_0>a)(?<_n_1>a)(?<_n_2>a)(?<_n_3>a)(?<_n_4>a)(?<_n_5>a)(?<_n_6>a)(?<_n_7>a)(?<_n_8>a)(?<_n_9>a)(?<_n_10>a)"
+
+# Definitions that together use a key 2^64 - 1 times, followed by a missing one.
+MOST_USES = "%{A:x[18446744073709551616]}" + "".join(f"%{{D{level}}}" for level in range(63, -1, -1)) + "%{missing}"
+
+# Patterns without a placeholder.
+PLAIN = [
+    Row("the empty pattern", "", Error('CompiledPatternIsEmpty("")')),
+    Row("a letter, beside a malformed definition", "x", Pattern("x", ""), ["BAD=%{"]),
+    Row("a few letters", "abc", Pattern("abc", ""), lines={"xabc": "", "ab": "no match"}),
+    Row("a group that is never closed", "(", Refused("(")),
+    Row("no placeholder after two percent signs", "é%%{A}", Refused("é%%{A}")),
+    Row("percent signs between letters", "a%b%", Pattern("a%b%", ""), lines={"a%b%": "", "ab": "no match"}),
+    Row("a percent sign at the end", "100%", Pattern("100%", ""), lines={"100%": "", "100": "no match"}),
+    Row("a percent sign in a group", "(?<p>(%){2})", Pattern("(?<p>(%){2})", "p"), lines={"100%%": "p=%%", "100%": "no match"}),
+    Row("a percent sign in a group without a number", "(?<p>(?:%){2})", Pattern("(?<p>(?:%){2})", "p"),
+        lines={"100%%": "p=%%", "100%": "no match"}),
+    Row("a percent sign by its number", r"(?<p>\x25{2})", Pattern(r"(?<p>\x25{2})", "p"),
+        lines={"100%%": "p=%%", "100%": "no match"}),
+    Row("a group that may match nothing", "(?<k>x*)", Pattern("(?<k>x*)", "k"), lines={"": "k=", "xxy": "k=xx", "y": "k="}),
+    Row("a carriage return is part of the line", r"(?<k>[a-z]\s?)", Pattern(r"(?<k>[a-z]\s?)", "k"),
+        lines={"p\r": "k=p\r", "é": "no match"}),
+    Row("a quotation mark in a value", "(?<q>.*)", Pattern("(?<q>.*)", "q"), lines={'a"b': 'q=a"b'}),
+    Row("a group written by hand", r"\[(?<threadname>[^\]]+)\]", Pattern(r"\[(?<threadname>[^\]]+)\]", "threadname"),
+        lines={"[thread1]": "threadname=thread1"}),
+]
+
+# Named groups that the pattern itself writes, beside placeholders. If several groups have one key, its value is that of the
+# last one.
+GROUPS = [
+    Row("a generated name without a placeholder", "(?<_n_0>b)", Pattern("(?<_n_0>b)", "_n_0"), lines={"b": "_n_0=b"}),
+    Row("a generated name past the last one", "(?<_n_1>b)%{A}", Pattern("(?<_n_1>b)(?<_n_0>a)", "A _n_1"), A, modes=EVERY,
+        lines={"ba": "A=a, _n_1=b"}),
+    Row("a generated name with a leading zero", "(?<_n_01>b)%{A}", Pattern("(?<_n_01>b)(?<_n_0>a)", "A _n_01"), A, modes=EVERY,
+        lines={"ba": "A=a, _n_01=b"}),
+    Row("a generated name that is taken", "(?<_n_0>b)%{A}", Refused("(?<_n_0>b)(?<_n_0>a)"), A, modes=EVERY),
+    Row("in brackets a placeholder has no group", "[%{A}]", Pattern("[(?<_n_0>a)]", ""), A, modes=EVERY,
+        lines={"a": "", "z": "no match"}),
+    Row("a group takes the key of a placeholder in brackets", "[%{A}](?<_n_0>b)", Pattern("[(?<_n_0>a)](?<_n_0>b)", "A"), A,
+        modes=EVERY, lines={"ab": "A=b"}),
+    Row("the last group of a key counts, taking part or not", "(?:%{A:x}|b(?<x>c))", Pattern("(?:(?<_n_0>a)|b(?<x>c))", "x"), A,
+        lines={"a": "", "bc": "x=c"}),
+    Row("a group written by hand has the alias as its name", "%{A:x}(?<x>b)", Pattern("(?<_n_0>a)(?<x>b)", "x"), A,
+        lines={"ab": "x=b"}),
+    Row("a group written by hand counts after the placeholder", r"(?<capture>\w+) %{GREEDYDATA:capture}",
+        Pattern(r"(?<capture>\w+) (?<_n_0>.*)", "capture"), ["GREEDYDATA=.*"], lines={"word1 word2": "capture=word2"}),
+]
+
+# Placeholders of definitions.
+PLACEHOLDERS = [
+    Row("a placeholder", "%{A}", Pattern("(?<_n_0>a)", "A"), A, modes=EVERY, lines={"ba": "A=a", "b": "no match"}),
+    Row("a placeholder without an alias", "%{A}", Pattern("(?:a)", ""), A, modes=ALIASED, lines={"ba": "", "b": "no match"}),
+    Row("the later definition of a name counts", "%{A}", Pattern("(?<_n_0>b)", "A"), ["A=a%{B}", "A=b"], modes=EVERY,
+        lines={"ab": "A=b"}),
+    Row("a placeholder, beside a malformed definition", "%{A}", Pattern("(?<_n_0>a)", "A"), ["BAD=x%{", "A=a"], modes=EVERY),
+    Row("a definition that regex refuses", "%{A}", Refused("(?:()"), ["A=("], modes=ALIASED),
+    Row("a name twice", "%{A}%{A}", Pattern("(?<_n_0>a)(?<_n_1>a)", "A A[1]"), A, modes=EVERY,
+        lines={"aa": "A=a, A[1]=a", "a": "no match"}),
+    Row("a name twice without an alias", "%{A}%{A}", Pattern("(?:a)(?:a)", ""), A, modes=ALIASED,
+        lines={"aa": "", "a": "no match"}),
+    Row("placeholders in a placeholder", "%{B}", Pattern("(?<_n_0>(?<_n_1>a)(?<_n_2>a))", "A A[1] B"), AB, modes=EVERY,
+        lines={"aa": "A=a, A[1]=a, B=aa", "baaa": "A=a, A[1]=a, B=aa", "a": "no match", "": "no match"}),
+    Row("placeholders in a placeholder without an alias", "%{B}", Pattern("(?:(?:a)(?:a))", ""), AB, modes=ALIASED,
+        lines={"aa": "", "a": "no match"}),
+    Row("definitions of names that are used again are not read again", "%{B}%{B}-%{A}",
+        Pattern("(?<_n_0>(?<_n_1>a)(?<_n_2>a))(?<_n_3>(?<_n_4>a)(?<_n_5>a))-(?<_n_6>a)", "A A[1] A[2] A[3] A[4] B B[1]"), AB,
+        modes=EVERY),
+    Row("names used again without an alias", "%{B}%{B}-%{A}", Pattern("(?:(?:a)(?:a))(?:(?:a)(?:a))-(?:a)", ""), AB,
+        modes=ALIASED),
+    Row("the eleventh group has a number of two digits", "%{A}" * 11,
+        Pattern(ELEVEN_GROUPS, "A A[10] A[1] A[2] A[3] A[4] A[5] A[6] A[7] A[8] A[9]"),
+        A, modes=EVERY),
+    Row("eleven placeholders without an alias", "%{A}" * 11,
+        Pattern("(?:a)(?:a)(?:a)(?:a)(?:a)(?:a)(?:a)(?:a)(?:a)(?:a)(?:a)", ""), A, modes=ALIASED),
+    Row("the eleventh placeholder has an alias", "%{A}%{A}%{A}%{A}%{A}%{A}%{A}%{A}%{A}%{A}%{A:B}",
+        Pattern(ELEVEN_GROUPS, "A A[1] A[2] A[3] A[4] A[5] A[6] A[7] A[8] A[9] B"),
+        A, modes=EVERY),
+    Row("a letter of two bytes before a placeholder", "é%{A}", Pattern("é(?<_n_0>a)", "A"), A, modes=EVERY,
+        lines={"éa": "A=a", "a": "no match"}),
+    Row("a letter of two bytes in a definition", "%{N}", Pattern("(?<_n_0>é(?<_n_1>a))", "A N"), ["N=é%{A}", "A=a"], modes=EVERY),
+    Row("an empty definition", "%{E}", Pattern("(?<_n_0>)", "E"), ["E="], modes=EVERY, lines={"": "E=", "q": "E="}),
+    Row("an empty definition without an alias", "%{E}", Pattern("(?:)", ""), ["E="], modes=ALIASED, lines={"": "", "q": ""}),
+    Row("the last round of a repeated group counts", "%{INT}{1,3}", Pattern("(?<_n_0>(?:[+-]?(?:[0-9]+))){1,3}", "INT"),
+        ["INT=(?:[+-]?(?:[0-9]+))"], modes=EVERY, lines={"+1+2+3": "INT=+3"}),
+]
+
+# Inline definitions.
+INLINE = [
+    Row("a definition in the text", "%{W=ab}", Pattern("(?<_n_0>ab)", "W"), modes=EVERY),
+    Row("a definition in the text is part of its placeholder", "%{W=a%b}", Pattern("(?<_n_0>a%b)", "W"), modes=EVERY),
+    Row("a definition in the text of a placeholder without an alias", "%{W=a%b}", Pattern("(?:a%b)", ""), modes=ALIASED),
+    Row("the last definition in the text counts", "%{W=a}%{W=b}%{W}", Pattern("(?<_n_0>a)(?<_n_1>b)(?<_n_2>b)", "W W[1] W[2]"),
+        modes=EVERY, lines={"abb": "W=a, W[1]=b, W[2]=b"}),
+    Row("a definition in the text counts from there on", "%{W}%{W=a}%{W}",
+        Pattern("(?<_n_0>w)(?<_n_1>a)(?<_n_2>a)", "W W[1] W[2]"), ["W=w"], modes=EVERY, lines={"waa": "W=w, W[1]=a, W[2]=a"}),
+    Row("a percent sign in a definition in the text", "%{W}%{W=a%b}%{W}",
+        Pattern("(?<_n_0>w)(?<_n_1>a%b)(?<_n_2>a%b)", "W W[1] W[2]"), ["W=w"], modes=EVERY),
+    Row("a percent sign in a definition in the text without an alias", "%{W}%{W=a%b}%{W}", Pattern("(?:w)(?:a%b)(?:a%b)", ""),
+        ["W=w"], modes=ALIASED),
+    Row("a definition and an alias in the text", "%{W:k=a}%{W}", Pattern("(?<_n_0>a)(?:a)", "k"), modes=ALIASED,
+        lines={"aa": "k=a"}),
+    Row("a new name with a definition in the text", r"%{NEW_PATTERN:first=\w+} %{NEW_PATTERN:second}",
+        Pattern(r"(?<_n_0>\w+) (?<_n_1>\w+)", "first second"), lines={"word1 word2": "first=word1, second=word2"}),
+    Row("a definition in the text does not hold in another one", "%{W=a}%{P}", missing("W"), ["P=%{W}"]),
+    Row("a definition in another text does not hold in the pattern", "%{P}%{W}", missing("W"), ["P=%{W=a}"]),
+    Row("a definition in the text does not hold before it", "%{W}%{W=a}", missing("W")),
+]
+
+# Keys that several placeholders ask for.
+KEYS = [
+    Row("an alias twice, and another between", "%{A:x}%{A:y}%{A:x}", Pattern("(?<_n_0>a)(?<_n_1>a)(?<_n_2>a)", "x x[1] y"), A,
+        lines={"aaa": "x=a, x[1]=a, y=a"}),
+    Row("an alias with a number twice", "%{A:x[1]}%{A:x[1]}", Pattern("(?<_n_0>a)(?<_n_1>a)", "x[1] x[1][1]"), A,
+        lines={"aa": "x[1]=a, x[1][1]=a"}),
+    Row("a numbered key is an earlier alias", "%{A:x[1]}%{A:x}%{A:x}", clash("x[1]"), A),
+    Row("an alias is an earlier numbered key", "%{A:x}%{A:x}%{A:x[1]}", clash("x[1]"), A),
+    Row("an alias is an earlier numbered key with an extract", "%{P:x=a}%{P:x:int=b}%{P:x[1]=c}", clash("x[1]")),
+    Row("an alias with an extract is an earlier numbered key", "%{P:x=a}%{P:x:int=b}%{P:x[1]:text=c}", clash("x[1]")),
+    Row("a numbered key inside a definition is an earlier alias", "%{A:x[1]}%{B}", clash("x[1]"), ["A=a", "B=%{A:x}%{A:x}"],
+        modes=ALIASED),
+    Row("a clash before a missing definition", "%{A:x[1]}%{A:x}%{A:x}%{missing}", clash("x[1]"), A),
+    Row("a clash of an alias before a missing definition", "%{A:x}%{A:x}%{A:x[1]}%{missing}", clash("x[1]"), A),
+    Row("a missing definition where its key would clash", "%{A:x[1]}%{A:x}%{nope:x}", missing("nope"), A),
+    Row("a missing definition where its alias would clash", "%{A:x}%{A:x}%{nope:x[1]}", missing("nope"), A),
+]
+
+# Missing definitions, and circles (definitions that use themselves).
+FAULTS = [
+    Row("a missing definition", "%{nope}", missing("nope")),
+    Row("a missing definition before a malformed placeholder", "%{nope}%{", missing("nope")),
+    Row("a missing definition between letters", "a%{nope}b%{", missing("nope")),
+    Row("a missing definition after a placeholder", "%{A}%{nope}", missing("nope"), A),
+    Row("a missing definition after two placeholders", "%{A}%{A}%{nope}", missing("nope"), A),
+    Row("a missing definition in a definition", "%{A}%{A}", missing("nope"), ["A=%{nope}"]),
+    Row("a missing definition between the letters of a definition", "%{A}%{A}", missing("nope"), ["A=a%{nope}b"]),
+    Row("a circle of one name", "%{A}", TOO_DEEP, ["A=%{A}"]),
+    Row("a circle of one name that stands twice", "%{A}", TOO_DEEP, ["A=%{A}%{A}"]),
+    Row("a circle before a missing definition", "%{A}", TOO_DEEP, ["A=%{A}%{missing}"]),
+    Row("a missing definition before a circle", "%{A}", missing("missing"), ["A=%{missing}%{A}"]),
+    Row("a circle after another name", "%{A}", TOO_DEEP, ["A=%{B}%{A}%{nope}", "B=b"]),
+    Row("a circle of three names", "%{A}", TOO_DEEP, CIRCLE_OF_THREE),
+    Row("a circle of three names after a letter", "x%{C}", TOO_DEEP, CIRCLE_OF_THREE),
+    Row("a circle whose key does not clash", "%{A:x}%{A:x}", TOO_DEEP, ["A=%{A:x[1]}%{missing}"]),
+]
+
+# Malformed placeholders, in the pattern and in a definition.
+MALFORMED = [
+    Row("a placeholder that is not closed, after another one", "%{A}%{", malformed("InvalidPattern"), A),
+    Row("a space in a name", "%{a b}", malformed("InvalidCharacter(' ')")),
+    Row("a space in a name after a letter", "x%{a b}", malformed("InvalidCharacter(' ')")),
+    Row("a letter of two bytes in a name", "%{né}", malformed("InvalidCharacter('é')")),
+    Row("a brace in a definition in the text", "%{N=a{2}}", malformed("InvalidPatternDefinition")),
+    Row("a malformed definition", "%{BAD}", malformed("InvalidPattern"), ["BAD=%{"]),
+    Row("a malformed definition that begins with a letter", "%{BAD}", malformed("InvalidPattern"), ["BAD=x%{", "A=a"]),
+    Row("a malformed definition before a missing one", "%{A}%{BAD}%{nope}", malformed("InvalidPattern"), ["BAD=x%{", "A=a"]),
+]
+
+# Extracts, whether or not their key has a group.
+EXTRACTS = [
+    Row("extracts by key", "%{A:x}%{A:x:int}%{A:y:text}%{A:z}[%{A::t}]",
+        Pattern("(?<_n_0>a)(?<_n_1>a)(?<_n_2>a)(?<_n_3>a)[(?<_n_4>a)]", "x x[1] y z"), A, modes=EVERY,
+        extracts={"x": None, "x[1]": "int", "y": "text", "z": None, "A": "t", "nope": None}),
+    Row("an extract of a key without a group", "[%{A::t}]", Pattern("[(?<_n_0>a)]", ""), A, modes=EVERY, extracts={"A": "t"}),
+    Row("an extract of an alias", "%{A:x:t}", Pattern("(?<_n_0>a)", "x"), A, extracts={"x": "t"}),
+    Row("an extract of the second placeholder of an alias", "%{P:x=a}%{P:x:int=b}", Pattern("(?<_n_0>a)(?<_n_1>b)", "x x[1]"),
+        extracts={"x": None, "x[1]": "int"}),
+    Row("an extract of other characters", "%{P:x:[-.]=a}", Pattern("(?<_n_0>a)", "x"), extracts={"x": "[-.]"}),
+    Row("an extract of a name", "%{P::int=a}", Pattern("(?<_n_0>a)", "P"), modes=EVERY, extracts={"P": "int"}),
+    Row("an extract of a placeholder without an alias", "%{P::int=a}", Pattern("(?:a)", ""), modes=ALIASED, extracts={"P": None}),
+    Row("a group written by hand has no extract", "%{A:x:int}(?<y>b)", Pattern("(?<_n_0>a)(?<y>b)", "x y"), A,
+        extracts={"x": "int", "y": None}),
+    Row("extracts in a definition", "%{USER:usr:text}", Pattern("(?<_n_0>(?<_n_1>[a-zA-Z0-9._-]+))", "USERNAME usr"),
+        USER_WITH_EXTRACT, modes=EVERY, extracts={"usr": "text", "USERNAME": "text", "USER": None}),
+    Row("extracts in a definition without an alias", "%{USER:usr:text}", Pattern("(?<_n_0>(?:[a-zA-Z0-9._-]+))", "usr"),
+        USER_WITH_EXTRACT, modes=ALIASED, extracts={"usr": "text", "USERNAME": None, "USER": None, "doesn't exist": None},
+        lines={"root": "usr=root"}),
+]
+
+# The default definitions.
+DEFAULTS = [
+    Row("a default definition", "%{USERNAME}", Pattern("(?<_n_0>[a-zA-Z0-9._-]+)", "USERNAME"), modes=EVERY,
+        lines={"root": "USERNAME=root", "john doe": "USERNAME=john", "###": "no match"}),
+    Row("a default definition with an alias", "%{USERNAME:usr}", Pattern("(?<_n_0>[a-zA-Z0-9._-]+)", "usr"),
+        lines={"root": "usr=root", "john doe": "usr=john"}),
+    Row("a default definition in another one", "%{USER}", Pattern("(?<_n_0>(?<_n_1>[a-zA-Z0-9._-]+))", "USER USERNAME"),
+        modes=EVERY, lines={"root": "USER=root, USERNAME=root", "john doe": "USER=john, USERNAME=john"}),
+    Row("an alias over a default definition in another one", "%{USER:usr}",
+        Pattern("(?<_n_0>(?<_n_1>[a-zA-Z0-9._-]+))", "USERNAME usr"), modes=EVERY,
+        lines={"root": "USERNAME=root, usr=root", "john doe": "USERNAME=john, usr=john"}),
+    Row("one of three default definitions", "%{MAC}", Keys("CISCOMAC COMMONMAC MAC WINDOWSMAC"), modes=EVERY,
+        lines={
+            "5E:FF:56:A2:AF:15": "COMMONMAC=5E:FF:56:A2:AF:15, MAC=5E:FF:56:A2:AF:15",
+            "5EFF.56A2.AF15": "CISCOMAC=5EFF.56A2.AF15, MAC=5EFF.56A2.AF15",
+            "5E-FF-56-A2-AF-15": "MAC=5E-FF-56-A2-AF-15, WINDOWSMAC=5E-FF-56-A2-AF-15",
+            "hello! 5E:FF:56:A2:AF:15 what?": "COMMONMAC=5E:FF:56:A2:AF:15, MAC=5E:FF:56:A2:AF:15",
+            "5E:FF": "no match",
+        }),
+    Row("an alias over one of three default definitions", "%{MAC:macaddr}", Keys("macaddr"), modes=ALIASED,
+        lines={
+            "5E:FF:56:A2:AF:15": "macaddr=5E:FF:56:A2:AF:15",
+            "hello! 5E:FF:56:A2:AF:15 what?": "macaddr=5E:FF:56:A2:AF:15",
+            "5E:FF": "no match",
+        }),
+    Row("default definitions with spaces between", "%{DAY} %{MONTH} %{YEAR}", Keys("DAY MONTH YEAR"), modes=EVERY,
+        lines={"Monday March 2012": "DAY=Monday, MONTH=March, YEAR=2012", "Monday": "no match"}),
+    Row("a default definition repeated at most once", "%{YEAR}%{SPACE}%{USERNAME:user}?",
+        Pattern(r"(?<_n_0>(\d\d){1,2})(?<_n_1>\s*)(?<_n_2>[a-zA-Z0-9._-]+)?", "SPACE YEAR user"), modes=EVERY),
+    Row("default definitions with aliases, and one without", "%{DAY:day} %{MONTH:month} %{YEAR:year}%{SPACE}%{USERNAME:user}?",
+        Keys("day month user year"), modes=ALIASED,
+        lines={
+            "Monday March 2012 user": "day=Monday, month=March, user=user, year=2012",
+            "Monday March 2012 username": "day=Monday, month=March, user=username, year=2012",
+        }),
+]
+
+# Long chains, doublings, and keys that are used very often.
+LIMITS = [
+    Row("1,023 placeholders in one another", "%{C1}", ACCEPTED, chain("C", 1023, "x")),
+    Row("1,024 placeholders in one another", "%{C1}", TOO_DEEP, chain("C", 1024, "x")),
+    Row("1,023 of 1,024 links", "%{C2}", ACCEPTED, chain("C", 1024, "x")),
+    Row("a definition in the text takes the last level", "%{C1}", ACCEPTED, chain("C", 1022, "%{W=x}")),
+    Row("a definition in the text takes a level too many", "%{C1}", TOO_DEEP, chain("C", 1023, "%{W=x}")),
+    Row("a missing definition comes before the depth", "%{C1}", missing("nope"), chain("C", 1023, "%{nope}")),
+    Row("a malformed placeholder comes before the depth", "%{C1}", malformed("InvalidPattern"), chain("C", 1023, "%{")),
+    Row("a clash comes before the depth", "%{A:x[1]}%{A:x}%{C1}", clash("x[1]"), A + chain("C", 1023, "%{A:x}")),
+    Row("an alias with a number that is not reached is no clash", "%{A:x[2]}%{A:x}%{C1}", TOO_DEEP,
+        A + chain("C", 1023, "%{A:x}")),
+    Row("a chain alone and then below another one", "%{H1}%{C1}", TOO_DEEP, chain("H", 500, "x") + chain("C", 600, "%{H1}")),
+    Row("a chain below another one", "%{C1}", TOO_DEEP, chain("H", 500, "x") + chain("C", 600, "%{H1}")),
+    Row("a chain alone", "%{H1}", ACCEPTED, chain("H", 500, "x") + chain("C", 600, "%{H1}")),
+    Row("a chain below 523 links, which are as many as are allowed", "%{H1}%{C78}", ACCEPTED,
+        chain("H", 500, "x") + chain("C", 600, "%{H1}")),
+    Row("a chain below 524 links", "%{H1}%{C77}", TOO_DEEP, chain("H", 500, "x") + chain("C", 600, "%{H1}")),
+    Row("a circle after a long chain", "%{A}", TOO_DEEP, ["A=%{B1}%{A}%{missing}"] + chain("B", 600, "x")),
+    Row("a text that doubles ten times", "%{D10}", ACCEPTED, doublings("a")),
+    Row("a text that is too long with its groups, and larger than the memory without", "%{D60}", MEMORY, doublings("a")),
+    Row("a text that is too long without its groups", "%{D61}", MEMORY, doublings("a")),
+    Row("a text that is far too long", "%{D70}", MEMORY, doublings("a")),
+    Row("a clash before a text that is far too long", "%{A:x[1]}%{A:x}%{A:x}%{D70}", MEMORY, A + doublings("a")),
+    Row("a missing definition after a text that is far too long", "%{D70}%{missing}", missing("missing"), doublings("a")),
+    Row("a space in a name after a text that is far too long", "%{D70}%{a b}", malformed("InvalidCharacter(' ')"),
+        doublings("a")),
+    Row("a placeholder that is not closed after a text that is far too long", "%{D70}%{", malformed("InvalidPattern"),
+        doublings("a")),
+    Row("a clash, a text that is far too long, and a missing definition", "%{A:x[1]}%{A:x}%{A:x}%{D70}%{missing}", clash("x[1]"),
+        A + doublings("a")),
+    Row("a text that is far too long, and again below 952 links", "%{D70}%{K1}", MEMORY,
+        chain("K", 952, "%{D70}") + doublings("a")),
+    Row("a text that is far too long, and again below 953 links", "%{D70}%{K1}", TOO_DEEP,
+        chain("K", 953, "%{D70}") + doublings("a")),
+    Row("a key that is used 2^44 times", "%{A:x[17592186044416]}%{D44}%{missing}", missing("missing"), A + doublings("%{A:x}")),
+    Row("a key that the second of 2^44 placeholders is to get", "%{A:x[1]}%{D44}%{missing}", clash("x[1]"),
+        A + doublings("%{A:x}")),
+    Row("a key that the second of 2^44 placeholders has", "%{D44}%{A:x[1]}%{missing}", clash("x[1]"), A + doublings("%{A:x}")),
+    Row("the key of the last of 2^22 placeholders, before them", "%{A:x[4194303]}%{D22}%{missing}", clash("x[4194303]"),
+        A + doublings("%{A:x}")),
+    Row("the key of the last of 2^22 placeholders, after them", "%{D22}%{A:x[4194303]}%{missing}", clash("x[4194303]"),
+        A + doublings("%{A:x}")),
+    Row("the key that one placeholder more than 2^22 would get", "%{A:x[4194304]}%{D22}%{missing}", missing("missing"),
+        A + doublings("%{A:x}")),
+    Row("the key that one placeholder more than 2^22 gets", "%{A:x[4194304]}%{D22}%{A:x}%{missing}", clash("x[4194304]"),
+        A + doublings("%{A:x}")),
+    Row("a key with a number that is used 2^44 times", "%{A:x}%{D44}%{A:x}%{missing}", clash("x[1]"), A + doublings("%{A:x[1]}")),
+    Row("a key that is used 2^70 times, and a number that is used before", "%{A:x[1]}%{D70}%{missing}", clash("x[1]"),
+        A + doublings("%{A:x}")),
+    Row("a clash in a definition whose keys are used too often in all", "%{D62}%{D62}%{D62}%{D61}%{T}%{missing}", clash("y[1]"),
+        ["A=a", "T=%{A:y}%{A:y}%{A:y[1]}%{D61}"] + doublings("%{A:x}")),
+    Row("a key that one of 2^64 placeholders is to get", "%{A:x[18446744073709551000]}%{D62}%{D62}%{D62}%{D62}%{missing}",
+        clash("x[18446744073709551000]"), A + doublings("%{A:x}")),
+    Row("the greatest number that is compared with the uses of a key",
+        "%{A:x[18446744073709551614]}%{D62}%{D62}%{D62}%{D62}%{missing}", clash("x[18446744073709551614]"),
+        A + doublings("%{A:x}")),
+    Row("a key that is used 2^64 - 1 times", MOST_USES, missing("missing"), A + doublings("%{A:x}")),
+    Row("a key that is used 2^64 times", "%{A:x[18446744073709551616]}%{D62}%{D62}%{D62}%{D62}%{missing}", MEMORY,
+        A + doublings("%{A:x}")),
+    Row("a key that is used 2^70 times", "%{A:x[18446744073709551616]}%{D70}%{missing}", MEMORY, A + doublings("%{A:x}")),
+    Row("a key that is used 2^70 times and can't clash", "%{A:y[1]}%{D70}%{missing}", missing("missing"),
+        A + doublings("%{A:x}")),
+]
+
+# Clashes in patterns without a structural fault. They are found before memory for the expanded text is reserved.
+CLASHES = [
+    Row("a clash in a text that is far too long", "%{A:x[1]}%{A:x}%{A:x}%{D70}", MEMORY, A + doublings("a")),
+    Row("an alias with a number, no clash, and a text that is far too long", "%{A:x[1]}%{A:x}%{D70}", MEMORY, A + doublings("a")),
+    Row("a clash before a text of 238 GB", "%{A:x[1]}%{A:x}%{A:x}%{D32}", clash("x[1]"), A + doublings("%{A}")),
+    Row("a clash after a text of 238 GB", "%{D32}%{A:x[1]}", clash("x[1]"), A + doublings("%{A:x}")),
+    Row("an alias with a number, no clash, and a text that fits no memory", "%{A:x[1]}%{A:x}%{D50}", MEMORY,
+        A + doublings("%{A}")),
+]
+
+TABLES = {
+    "without placeholders": PLAIN,
+    "with groups written by hand": GROUPS,
+    "with placeholders": PLACEHOLDERS,
+    "with inline definitions": INLINE,
+    "with keys that are used again": KEYS,
+    "with missing definitions and circles": FAULTS,
+    "with malformed placeholders": MALFORMED,
+    "with extracts": EXTRACTS,
+    "with default definitions": DEFAULTS,
+    "with chains, doublings and many keys": LIMITS,
+    "with clashes before long texts": CLASHES,
+}
+
+NUM_AND_WORD = ["NUM=[0-9]+", "WORD=[a-z]+"]
+
+# Lines that are matched over and over, in this order and in the reverse order. What is found in one would be wrong if something of
+# an earlier line were left behind.
+REPEATED = [
+    Row("a group that takes no part in each line", "^%{NUM:number}%{WORD:word}?;", None, NUM_AND_WORD, ALIASED, lines={
+        "12ab;": "number=12, word=ab",
+        "3;": "number=3",
+        "ab;": "no match",
+        "456c; d": "number=456, word=c",
+        "": "no match",
+    }),
+    Row("one of two groups", "(?:%{NUM:number}|%{WORD:word})$", None, NUM_AND_WORD, ALIASED, lines={
+        "-- 7": "number=7",
+        "-- seven": "word=seven",
+        "--": "no match",
+    }),
+    Row("characters of many bytes", "%{ONE:left}é%{ONE:right}", None, ["ONE=[^ ]"], ALIASED, lines={
+        "aéb": "left=a, right=b",
+        "日é本": "left=日, right=本",
+        "é": "no match",
+        " ééé": "left=é, right=é",
+        "日本": "no match",
+    }),
+    Row("a match that starts at the first word or later", r"%{WORD:word} is %{NUM:number} \(ok\)", None,
+        NUM_AND_WORD, ALIASED, lines={
+        "tea is 12 (ok)": "number=12, word=tea",
+        "water is 3 (ok)": "number=3, word=water",
+        "the tea is 3 (ok)": "number=3, word=tea",
+        "tea was 3 (ok)": "no match",
+        "tea is 3 (no)": "no match",
+        "tea is 3 (no), tea is 4 (ok)": "number=4, word=tea",
+        "(ok) tea is 5": "no match",
+        "": "no match",
+    }),
+    Row("a match that ends where the line ends", "%{NUM:number} %{WORD:word}$", None, NUM_AND_WORD, ALIASED, lines={
+        "12 tea": "number=12, word=tea",
+        "3 water": "number=3, word=water",
+        "2 3 tea": "number=3, word=tea",
+        "12 tea;": "no match",
+        "tea": "no match",
+    }),
+    Row("empty matches", "(?<all>x*)", None, [], ALIASED, lines={
+        "xxy": "all=xx",
+        "": "all=",
+        "y": "all=",
+        "éx": "all=",
+    }),
+    Row("the first of many matches, and the longest or the shortest of it", "(?<long>a+)(?<short>b+?)(?<rest>b*)", None, [], ALIASED,
+        lines={
+        "baab ab": "long=aa, rest=, short=b",
+        "aabbb": "long=aa, rest=bb, short=b",
+        "ba": "no match",
+    }),
+    Row("words and their ends", r"^(?<word>\w+)\b(?<rest>.?)$", None, [], ALIASED, lines={
+        "ab": "rest=, word=ab",
+        "é-": "rest=-, word=é",
+        "ab--": "no match",
+        "aé": "rest=, word=aé",
+        "-ab": "no match",
+    }),
+    Row("words on lines that aren't ASCII, of over 100 bytes and shorter", r"\b%{WORD:word}\b!", None,
+        ["WORD=[a-z]+"], ALIASED, lines={
+        "日本語 日本語 日本語 日本語 日本語 日本語 日本語 日本語 日本語 日本語 日本語 ab!": "word=ab",
+        "日本語 ab!": "word=ab",
+        "日本語 日本語 日本語 日本語 日本語 日本語 日本語 日本語 日本語 日本語 日本語ab!": "no match",
+        "日本語ab!": "no match",
+        "ab!": "word=ab",
+    }),
+]
+
+# Malformed placeholders, and the character of the fault as Rust's `Debug` writes it. No word of a command line has U+0000.
+ODD_CHARACTERS = {
+    "%{'}": r"'\''",
+    '%{"}': "'\"'",
+    "%{\\}": r"'\\'",
+    "%{\n}": r"'\n'",
+    "%{\x7f}": r"'\u{7f}'",
+    "%{ñ}": "'ñ'",
+    "%{\u0301}": r"'\u{301}'",
+    "%{\u200b}": r"'\u{200b}'",
+    "%{😀}": "'😀'",
+}
+
+# Malformed placeholders, with their faults.
+FAULTY = {
+    "%{name": "InvalidPattern",
+    "%{name=": "InvalidPatternDefinition",
+    "%{name=}": "InvalidPatternDefinition",
+    "%{name=a": "InvalidPatternDefinition",
+    "%{name:": "InvalidPattern",
+    "%{name:}": "InvalidPatternDefinition",
+    "%{name:a": "InvalidPattern",
+    "%{name:a:b": "InvalidPattern",
+    "%{name::": "InvalidPattern",
+    "%{name::b": "InvalidPattern",
+    "%{name:a:}": "InvalidPatternDefinition",
+    "%{name::}": "InvalidPatternDefinition",
+    "%{na.me:a:b}": "InvalidCharacter('.')",
+    "%{name:a:b:c}": "InvalidPattern",
+    "%{name:a:b:c:d}": "InvalidPattern",
+    "%{name:=x}": "InvalidPatternDefinition",
+    "%{name:a:=x}": "InvalidPatternDefinition",
+    "%{!}": "InvalidCharacter('!')",
+    "%{name:a:b:c!": "InvalidCharacter('!')",
+    "%{}": "InvalidPattern",
+}
+
+# Patterns without a fault, cut into their pieces.
+CUT = [
+    ["Hello, ", "%{name}", "!"],
+    ["%{n:a[1]:x=it's \"\\\"}"],
+    ["é\t"],
+    [r"(?:\(Views: ", "%{NUMBER:viewms}", r"ms \| ActiveRecord: ", "%{NUMBER:activerecordms}", r"ms|\(ActiveRecord: ",
+     "%{NUMBER:activerecordms}", "ms)?"],
+    ["%{NUMBER:ts}", r"\t", "%{NOTSPACE:uid}", r"\t", "%{IP:orig_h}", r"\t", "%{INT:orig_p}", r"\t", "%{IP:resp_h}", r"\t",
+     "%{INT:resp_p}", r"\t", "%{WORD:proto}", r"\t", "%{INT:trans_id}", r"\t", "%{GREEDYDATA:query}"],
+]
+
+# What `measure` writes for many placeholders side by side, whose numbers have up to four digits.
+LONG_NUMBERS = {101: "length 1102 groups 101 nesting 1", 1001: "length 11903 groups 1001 nesting 1"}
+
+# For 60, 54, and so on down to 6 the doubling with that number and the two below it, without groups. With 135 letters more the
+# length is 2^64 - 1, the greatest that is a number.
+TURNS = "".join(f"%{{D{top - down}}}" for top in range(60, 0, -6) for down in range(3))
+GREATEST = {
+    134: "length 18446744073709551614 groups 0 nesting 61",
+    135: "length 18446744073709551615 groups 0 nesting 61",
+    136: "too long",
+    137: "too long",
+}
+
+# What `check` writes for the default definitions, if all placeholders capture and if only those with an alias do, of which there
+# are none.
+DEFAULT_SIZES = """CISCOMAC: length 50 groups 1 nesting 1
+COMMONMAC: length 49 groups 1 nesting 1
+DAY: length 104 groups 1 nesting 1
+MAC: length 163 groups 4 nesting 2
+MONTH: length 157 groups 1 nesting 1
+SPACE: length 12 groups 1 nesting 1
+USER: length 33 groups 2 nesting 2
+USERNAME: length 24 groups 1 nesting 1
+WINDOWSMAC: length 49 groups 1 nesting 1
+YEAR: length 20 groups 1 nesting 1
+"""
+DEFAULT_SIZES_OF_ALIASES = """CISCOMAC: length 45 groups 0 nesting 1
+COMMONMAC: length 44 groups 0 nesting 1
+DAY: length 99 groups 0 nesting 1
+MAC: length 143 groups 0 nesting 2
+MONTH: length 152 groups 0 nesting 1
+SPACE: length 7 groups 0 nesting 1
+USER: length 23 groups 0 nesting 2
+USERNAME: length 19 groups 0 nesting 1
+WINDOWSMAC: length 44 groups 0 nesting 1
+YEAR: length 15 groups 0 nesting 1
+"""
+
+NO_NOPE_TEXT = 'The given pattern definition name "nope" could not be found in the definition map'
+NO_HYPHEN = model.compile_error("InvalidCharacter('-')")
+
+# A pattern that matches each line with a lowercase letter, and that could take a line feed.
+KEYED = r"(?<k>[a-z]\s?)"
+
+# Words of grok_tool with what they write, and the input if they read one.
+RUNS = [
+    (["split", "Hello, %{name}!"], "Hello, \n%{name}\n!\n"),
+    (["split", "a%{b c}d"], "a\n<error InvalidCharacter(' ')>\n"),
+    (["split", "%{né}"], "<error InvalidCharacter('é')>\n"),
+    (["split", "é%{A}"], "é\n%{A}\n"),
+    (["split", ""], ""),
+    (["split", "-a"], "-a\n"),
+    (["split", "a%{b}%{c!}"], "a\n%{b}\n<error InvalidCharacter('!')>\n"),
+    (["measure", "%{A}%{A}", "A=a"], "length 20 groups 2 nesting 1\n"),
+    (["measure", "-a", "%{A}%{A}", "A=a"], "length 10 groups 0 nesting 1\n"),
+    (["measure", "-a", "%{A:k}%{A}", "A=a"], "length 15 groups 1 nesting 1\n"),
+    (["measure", "%{MAC}"], "length 163 groups 4 nesting 2\n"),
+    (["measure", "%{W=ab}"], "length 11 groups 1 nesting 1\n"),
+    (["measure", "é%{A}", "A=a"], "length 12 groups 1 nesting 1\n"),
+    (["measure", ""], "length 0 groups 0 nesting 0\n"),
+    (["measure", "-a", "-a"], "length 2 groups 0 nesting 0\n"),
+    (["measure", "%{A}", "A=a", "A=bcd"], "length 12 groups 1 nesting 1\n"),
+    (["measure", "%{A}", "A=b=c"], "length 12 groups 1 nesting 1\n"),
+    (["measure", "%{A}", "A="], "length 9 groups 1 nesting 1\n"),
+    (["measure", "%{DAY}", "DAY=x"], "length 10 groups 1 nesting 1\n"),
+    (["check"], DEFAULT_SIZES),
+    (["check", "-a"], DEFAULT_SIZES_OF_ALIASES),
+    (["match", "%{USERNAME}"], "USERNAME=john\n\nno match\n\n", b"john doe\n###"),
+    (["match", "[%{A}]", "A=a"], "\n", b"a\n"),
+    (["match", "(?<k>x*)"], "k=\n\n", b"\n"),
+    (["match", KEYED], "", b""),
+    (["match", KEYED], "not UTF-8\n\nk=p\n\n", b"\xff\np"),
+    (["match", KEYED], "k=p\r\n\n", b"p\r\n"),
+    (["match", KEYED], "k=p\n\nnot UTF-8\n\n", b"p\n\xc3"),
+    (["match", "-a", "%{A:k}%{A}", "A=a"], "k=a\n\n", b"aa\n"),
+    (["match", "(?<k>.)"], "k=p\n\nk=q\n\n", b"p\nq"),
+    (["match", KEYED], "k=p\n\nk=q\n\n", b"p\nq"),
+    (["json", "%{DAY} %{MONTH} %{YEAR}"],
+     '{"DAY":"Monday","MONTH":"March","YEAR":"2012"}\nnull\nfalse\n', b"Monday March 2012\nMonday\n\xff\n"),
+    (["json", "(?<q>.*)"], '{"q":"a\\"b"}\n', b"a\"b"),
+    (["json", "[%{A}]", "A=a"], "{}\n", b"a"),
+    (["json", "(?<q>.*)"], "", b""),
+    (["json", "(?<q>.*)"], '{"q":"a\\\\b\\tc\\u0001"}\n', b"a\\b\tc\x01\n"),
+    (["json", "(?<q>.*)"], '{"q":"\x7f\u2028"}\n', b"\x7f\xe2\x80\xa8\n"),
+    (["json", "(?<q>.*)"], '{"q":"😀"}\n', b"\xf0\x9f\x98\x80\n"),
+    (["json", "-a", "%{A:k}%{A}", "A=a"], '{"k":"a"}\n', b"aa"),
+    (["json", "%{A}%{A}", "A=a"], '{"A":"a","A[1]":"a"}\nnull\n', b"aa\n\n"),
+    (["json", "(?<k>.)"], '{"k":"p"}\n{"k":"q"}\n', b"p\nq"),
+    (["json", KEYED], '{"k":"p"}\n{"k":"q"}\n', b"p\nq"),
+    (["check", "B=%{nope}", "A=%{A}", "=x", "a-b=x"],
+     f": {model.compile_error(model.INVALID)}\nA: {model.DEPTH_TEXT}\nB: {NO_NOPE_TEXT}\n{DEFAULT_SIZES}"
+     f"a-b: {NO_HYPHEN}\n"),
+    (["check", "A=a", "B=x", "A=bcd"],
+     "A: length 12 groups 1 nesting 1\nB: length 10 groups 1 nesting 1\n" + DEFAULT_SIZES),
+    (["check", "DAY=x"], DEFAULT_SIZES.replace("DAY: length 104", "DAY: length 10")),
+]
+
+# Words of grok_tool whose pattern has a fault, and the text of the fault.
+FAULTY_RUNS = [
+    (["measure", "%{nope}"], NO_NOPE_TEXT),
+    (["measure", "%{A}", "A=%{A}"], model.DEPTH_TEXT),
+    (["measure", "-a", "x%{a b}"], model.compile_error("InvalidCharacter(' ')")),
+    (["measure", "%{BAD}", "BAD=%{"], model.compile_error("InvalidPattern")),
+    (["measure", "%{nope}%{A}", "A=%{A}"], NO_NOPE_TEXT),
+    (["match", "%{A}", "A=%{A}"], model.DEPTH_TEXT),
+    (["match", "%{P:x=a}%{P:x=b}%{P:x[1]=c}"], model.compile_error("Alias x[1] already exists")),
+    (["json", "%{A:x}%{A:x}%{A:x[1]}", "A=a"], model.compile_error("Alias x[1] already exists")),
+    (["match", "%{nope}", "A=a"], NO_NOPE_TEXT),
+]
+
+# Words that are no command.
+MISUSES = [
+    [],
+    [""],
+    ["-a"],
+    ["split"],
+    ["split", "a", "b"],
+    ["spli", "x"],
+    ["measure"],
+    ["match", "-a"],
+    ["match", "x", "A"],
+    ["json", "-a"],
+    ["json", "-a", "x", "A=a", "B"],
+    ["check", "x"],
+]
