@@ -33,7 +33,7 @@ stepped g c =
     let item = item_view c.in-Some.placed.item in
     let found = c.in_ok-step_at_item-in-Some.field-0 in
     let levels : deepest - c.len.result ≡ inv.descending.levels = ap (λ n. deepest - n) (c.len.ensures ∙ c.items.around.ok.0)
-        ∙ sym (descending_levels (PassesMore s.HasPassed) (StopsAt s.HasPassed s.IsSought) stored (passes_both s.HasPassed) c.args.pattern.now c.args.search.now c.items.around.items c.items.inner c.items.search inv.descending) in
+    ∙ sym (descending_levels (PassesMore s.HasPassed) (StopsAt s.HasPassed s.IsSought) stored (passes_both s.HasPassed) c.args.pattern.now c.args.search.now c.items.around.items c.items.inner c.items.search inv.descending) in
     subst (λ n. IsStep (PassesMore s.HasPassed) (StopsAt s.HasPassed s.IsSought) stored n item found c.items.search c.step_at_item.new.search) levels
     (subst (λ (stored : Definitions). IsStep (PassesMore s.HasPassed) (StopsAt s.HasPassed s.IsSought) stored (deepest - c.len.result) item found c.items.search c.step_at_item.new.search) (inv.library ∙ c.requires.library) c.in_ok-step_at_item-in-Some.ensures.step)
 
