@@ -1,5 +1,5 @@
 -- What is wrong with a pattern, and where.
-use Rattle.std.specs.Prelude.{◌≡◌, ◌≢◌, ℕ, ◌+◌, ◌-◌, min, Bool, List, [], Option, Some, None, MatchOption, string_bytes}
+use Rattle.std.specs.Prelude.{◌≡◌, ◌≢◌, ℕ, ◌+◌, ◌-◌, min, Bool, List, [], ◌∷◌, ◌++◌, Option, Some, None, MatchOption, string_bytes}
 use Rattle.std.specs.FinMap as finite
 use Rattle.grok.specs.Maps.{Texts}
 use Rattle.grok.specs.Tree as tree
@@ -8,7 +8,7 @@ use Rattle.grok.specs.Keys.{Structural, first_fault}
 use Rattle.grok.specs.Keys as keys
 use Rattle.grok.specs.Expanded.{expanded}
 use Rattle.grok.specs.Compiled.{expansion_of, Fits, CanBuild}
-use Rattle.grok.specs.FaultLocations.{IsFaultOf, path_view}
+use Rattle.grok.specs.FaultLocations.{Step, IsPieceAt, IsFaultOf, path_view}
 use Rattle.grok.specs.ByteLocations.{HasByte, IsByteLocation}
 use Rattle.grok.specs.ClashLocations.{IsClashAt}
 use Rattle.grok.specs.Malformations.{fault_of, IsMalformedAt}
@@ -71,13 +71,32 @@ pub record IsFirstClashOf (texts : Texts) (alias_only : Bool) (pattern : List �
   pub stands : IsClashAt (finite.get texts) alias_only pattern clash
   pub fits : first_structural (tree.tree (finite.get texts) pattern) ≡ None → Fits (expansion_of texts alias_only pattern)
 
--- The pattern has no fault, and `regex` may refuse its expanded text for this reason.
+-- The path leads from the text `start` to the text `part`: each step is a placeholder, and the next text is what that
+-- placeholder stands for.
+pub data LeadsTo (stored : Definitions) (start : List ℕ) : (path : List Step) (part : List ℕ) → Type 0 where
+  Here : LeadsTo stored start [] start
+  Further : (path : List Step) (text : List ℕ) (before : List tree.Item) (from to : ℕ) (label : tree.Label) (meaning : tree.Meaning)
+      → LeadsTo stored start path text
+      → IsPieceAt stored text before from to (tree.PlaceholderItem label meaning)
+      → LeadsTo stored start (path ++ record { name = label.name; from = from; to = to } ∷ []) (tree.meaning_text meaning)
+
+-- Taken as a pattern of its own, the part has no fault, and `regex` may refuse its expanded text for this reason.
+pub record IsRefusedPart (texts : Texts) (alias_only : Bool) (refused : Refused) : Type 0 where
+  pub some : refused.part.now ≢ []
+  pub can : CanBuild (expansion_of texts alias_only refused.part.now)
+  pub text : string_bytes refused.text ≡ expanded alias_only (tree.tree (finite.get texts) refused.part.now)
+  pub reason : IsReasonFor (string_bytes refused.text) refused.reason
+  pub location : LocatesReason (finite.get texts) alias_only refused.part.now refused.reason refused.location
+
+-- The pattern has no fault, and `regex` may refuse its expanded text. The refused part is the pattern, or a definition to
+-- which its path leads.
 pub record IsRefusedAs (texts : Texts) (alias_only : Bool) (pattern : List ℕ) (refused : Refused) : Type 0 where
   pub some : pattern ≢ []
   pub can : CanBuild (expansion_of texts alias_only pattern)
-  pub text : string_bytes refused.text ≡ expanded alias_only (tree.tree (finite.get texts) pattern)
-  pub reason : IsReasonFor (string_bytes refused.text) refused.reason
-  pub location : LocatesReason (finite.get texts) alias_only pattern refused.reason refused.location
+  pub whole : RefusalReason
+  pub refuses : IsReasonFor (expanded alias_only (tree.tree (finite.get texts) pattern)) whole
+  pub leads : LeadsTo (finite.get texts) pattern (path_view refused.path.items) refused.part.now
+  pub part : IsRefusedPart texts alias_only refused
 
 -- The pattern has no structural fault, and its expanded text is longer than the greatest `usize`.
 pub record IsTooLong (texts : Texts) (alias_only : Bool) (pattern : List ℕ) : Type 0 where

@@ -48,7 +48,7 @@ pub use Rattle.grok.specs.Texts.{component_text}
 -- definitions, and the tree of a pattern
 pub use Rattle.grok.specs.Maps.{set_all, pair_texts}
 pub use Rattle.grok.specs.DefaultDefinitions.{default_definitions}
-pub use Rattle.grok.specs.Tree.{Definitions, Event, Fault, tree, first_structural, reached}
+pub use Rattle.grok.specs.Tree.{Definitions, Item, Event, Fault, items_of, definition_of, tree, first_structural, reached}
 pub use Rattle.grok.specs.Keys.{capturing, keys, extract_of, first_fault}
 pub use Rattle.grok.specs.Expanded.{expanded}
 -- sizes
@@ -60,7 +60,7 @@ pub use Rattle.grok.specs.FaultLocations.{IsFaultAt, IsFaultOf, path_view}
 pub use Rattle.grok.specs.ByteLocations.{HasByte, IsEventAt, IsByteLocation, LocatesByte}
 pub use Rattle.grok.specs.ClashLocations.{HasKeyAt, IsClashAt}
 pub use Rattle.grok.specs.Malformations.{IsMalformedAt}
-pub use Rattle.grok.specs.Diagnoses.{FindsDiagnosis, IsDiagnosis, IsFine, IsFirstStructural, IsFirstMalformed, IsFirstClashOf, IsRefusedAs, IsTooLong, LocatesReason, IsOriginOf}
+pub use Rattle.grok.specs.Diagnoses.{FindsDiagnosis, IsDiagnosis, IsFine, IsFirstStructural, IsFirstMalformed, IsFirstClashOf, IsRefusedAs, IsRefusedPart, LeadsTo, IsTooLong, LocatesReason, IsOriginOf}
 -- errors, and what compiling returns
 pub use Rattle.grok.specs.Items.{fault_view}
 pub use Rattle.grok.specs.Errors.{ErrorValue, error_value, error_text}

@@ -41,6 +41,12 @@ pub data Item : Type 0 where
   FaultItem : (fault : Fault) → Item
   PlaceholderItem : (label : Label) (meaning : Meaning) → Item
 
+-- the name of a placeholder and the definition that it stands for
+abbrev pub definition_of : Item → Option (List ℕ × List ℕ)
+definition_of (TextItem text) = None
+definition_of (FaultItem fault) = None
+definition_of (PlaceholderItem label meaning) = Some (label.name, meaning_text meaning)
+
 -- the definition of each name that has one
 abbrev pub Definitions : Type 0
 Definitions = List ℕ → Option (List ℕ)

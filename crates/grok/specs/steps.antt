@@ -29,3 +29,5 @@ pub mod Expansions
 pub mod Sizes
 pub mod MeasuredOnce
 pub mod MeasureCache
+pub mod FullMeasures
+pub mod RefusedParts

@@ -1,18 +1,18 @@
 //! Compiles patterns.
 
-ghost use Rattle.std.specs.Prelude.{◌≡◌, ◌≢◌, ◌⊎◌, ℕ, List, [], map, length as len, MatchResult, MatchOption, IfOk, None};
+ghost use Rattle.std.specs.Prelude.{◌≡◌, ◌≢◌, ◌⊎◌, [], map, MatchResult, MatchOption, IfOk, None};
 ghost use Rattle.std.specs.Option.{option_map};
 ghost use Rattle.std.specs.FinMap as finite;
 ghost use Rattle.std.specs.String.{string_bytes};
 ghost use Rattle.std.specs.BTreeMap.{get_by_text};
-ghost use Rattle.grok.specs.Tree.{tree as tree_of, first_structural, reached};
-ghost use Rattle.grok.specs.Keys.{Structural, first_fault, has_numbered_alias};
-ghost use Rattle.grok.specs.Expanded.{expanded};
+ghost use Rattle.grok.specs.Tree.{tree as tree_of, first_structural};
+ghost use Rattle.grok.specs.Keys.{Structural, first_fault};
 ghost use Rattle.grok.specs.KeyNumbers.{key_text};
 ghost use Rattle.grok.specs.PlaceholderKeys.{AreKeysOf};
 ghost use Rattle.grok.specs.Errors.{error_value, Memory as memory};
 ghost use Rattle.grok.specs.Compiled.{IsExpansionError, IsFirstError, IsBuilt, IsRefusal, Compiles, expansion_of};
 ghost use Rattle.grok.specs.steps.Expansions.{Expands, IsExpansionOf};
+ghost use Rattle.grok.specs.steps.FullMeasures.{IsFullMeasure};
 ghost use Rattle.grok.specs.RegexFinds.{IsReadByDefault, MayRefuse};
 ghost use Rattle.grok.specs.Engines.{engine_regex};
 ghost use Rattle.regex.specs.Strings.{regex_source, regex_names};
@@ -24,14 +24,16 @@ use crate::engine::regex_engine::RegexEngine;
 use crate::errors::Error;
 use crate::errors::error::clash_error;
 use crate::expand::first_clash::find_first_clash;
-use crate::expand::key_assigner::{KeyAssigner, numbered_key};
-use crate::expand::known_parts::{CompileSettings, KnownParts};
+use crate::expand::key_assigner::KeyAssigner;
+use crate::expand::known_parts::KnownParts;
+use crate::expand::numbered::numbered_key;
 use crate::expand::placeholder_key::PlaceholderKey;
-use crate::expand::write::{ExpandedPattern, write};
 use crate::key_table::KeyTable;
 use crate::matches::PatternOf;
 use crate::measure::Measure;
 use crate::measure::full_measure::FullMeasure;
+use crate::settings::Settings;
+use crate::write::{ExpandedPattern, write};
 use std::alloc::{AllocError, Global};
 
 /// Builds an engine from `text`, and returns the pattern with the keys and extracts in `given`.
@@ -50,65 +52,61 @@ fn build<E: Engine>(alloc: Global, text: &str, given: KeyAssigner) -> Result<Pat
     Ok(PatternOf::new(alloc, engine, keys, given.extracts))
 }
 
+/// Returns the error of the first clash of a pattern, given what measuring it `found`. Returns `None`
+/// if its first fault isn't a clash. Then that is the structural fault that measuring found, if any.
+/// If no alias that the pattern reaches ends in a number in brackets, nothing can clash, and nothing
+/// is searched.
+///
+/// # Errors
+///
+/// If an allocation fails, or if before a fault a base key `x` is used 2^64 times or more and the
+/// least number `n` of an alias `x[n]` is `usize::MAX` or more.
+fn error_of_clash<'a>(
+    settings: Settings<'a>,
+    pattern: &'a str,
+    found: &FullMeasure<'a>,
+) -> Result<Option<Error>, AllocError>
+    requires { IsFullMeasure settings pattern.now found.now }
+    ensures { IfOk result (λ error. MatchOption error
+        (first_fault settings.entry.with_alias_only (tree_of (finite.get settings.entry.grok.now) pattern.now)
+        ≡ option_map Structural (first_structural (tree_of (finite.get settings.entry.grok.now) pattern.now)))
+        (λ error. IsFirstError settings.entry.with_alias_only
+        (tree_of (finite.get settings.entry.grok.now) pattern.now) (error_value error))) }
+{
+    if !found.has_numbered() {
+        return Ok(None);
+    }
+    let alloc = settings.grok.alloc();
+    let names = found.read_names(alloc)?;
+    let parts = KnownParts::of_names(settings, &names)?;
+    let Some(clash) = find_first_clash(settings, &parts, pattern)? else {
+        return Ok(None);
+    };
+    let key = numbered_key(alloc, clash.base, clash.number)?;
+    Ok(Some(clash_error(alloc, key.as_str())?))
+}
+
+/// Expands a pattern that has no fault, into a text that has room for `length` bytes at first.
+///
+/// # Errors
+///
+/// If an allocation fails.
+pub(crate) fn expand_clean(
+    settings: Settings<'_>,
+    pattern: &str,
+    length: usize,
+) -> Result<ExpandedPattern, AllocError>
+    requires some { pattern.now ≢ [] }
+    requires clean { first_fault settings.with_alias_only
+        (tree_of (finite.get settings.grok.now) pattern.now) ≡ None }
+    ensures { IfOk result (IsExpansionOf (expansion_of settings.entry.grok.now
+        settings.entry.with_alias_only pattern.now)) }
+{
+    let text = String::with_capacity(settings.grok.alloc(), length)?;
+    write(settings, pattern, text)
+}
+
 impl Grok {
-    /// Returns the error of the first clash of a pattern, given what measuring it `found`. Returns
-    /// `None` if its first fault isn't a clash. Then that is the structural fault that measuring
-    /// found, if any. If no alias that the pattern reaches ends in a number in brackets, nothing can
-    /// clash, and nothing is searched.
-    ///
-    /// # Errors
-    ///
-    /// If an allocation fails, or if before a fault a base key `x` is used 2^64 times or more and the
-    /// least number `n` of an alias `x[n]` is `usize::MAX` or more.
-    fn error_of_clash<'a>(
-        &'a self,
-        pattern: &'a str,
-        with_alias_only: bool,
-        found: &FullMeasure<'a>,
-    ) -> Result<Option<Error>, AllocError>
-        requires { found.now.has_numbered ≡ has_numbered_alias (reached
-            (tree_of (finite.get self.now) pattern.now)) }
-        ensures { IfOk result (λ error. MatchOption error
-            (first_fault with_alias_only (tree_of (finite.get self.now) pattern.now)
-            ≡ option_map Structural (first_structural (tree_of (finite.get self.now) pattern.now)))
-            (λ error. IsFirstError with_alias_only (tree_of (finite.get self.now) pattern.now)
-            (error_value error))) }
-    {
-        if !found.has_numbered {
-            return Ok(None);
-        }
-        let alloc = self.alloc();
-        let settings = CompileSettings {
-            grok: self,
-            with_alias_only,
-        };
-        let names = found.read_names(alloc)?;
-        let parts = KnownParts::of_names(settings, &names)?;
-        let Some(clash) = find_first_clash(settings, &parts, pattern)? else {
-            return Ok(None);
-        };
-        let key = numbered_key(alloc, clash.base, clash.number)?;
-        Ok(Some(clash_error(alloc, key.as_str())?))
-    }
-
-    /// Expands a pattern that has no fault. Its expanded text has `length` bytes.
-    pub(crate) fn expand_clean(
-        &self,
-        pattern: &str,
-        with_alias_only: bool,
-        length: usize,
-    ) -> Result<ExpandedPattern, AllocError>
-        requires some { pattern.now ≢ [] }
-        requires clean { first_fault with_alias_only
-            (tree_of (finite.get self.now) pattern.now) ≡ None }
-        requires long { length ≡ len (expanded with_alias_only
-            (tree_of (finite.get self.now) pattern.now)) }
-        ensures { IfOk result (IsExpansionOf (expansion_of self.now with_alias_only pattern.now)) }
-    {
-        let text = String::with_capacity(self.alloc(), length)?;
-        write(self, pattern, with_alias_only, text)
-    }
-
     /// Expands a pattern: returns its expanded text and its keys.
     ///
     /// # Errors
@@ -124,22 +122,26 @@ impl Grok {
         if pattern.is_empty() {
             return Err(Error::CompiledPatternIsEmpty(String::new(self.alloc())));
         }
-        let found = self.measure_fully(pattern, with_alias_only)?;
+        let settings = Settings {
+            grok: self,
+            with_alias_only,
+        };
+        let found = FullMeasure::of_pattern(settings, pattern)?;
         match found.measure {
             // own error: the text of the pattern would be longer than `usize::MAX` bytes, so no
             // allocation could hold it.
             Measure::TooLong => Err(Error::Memory),
-            Measure::Fault(fault) => match self.error_of_clash(pattern, with_alias_only, &found)? {
+            Measure::Fault(fault) => match error_of_clash(settings, pattern, &found)? {
                 Some(error) => Err(error),
                 None => Err(fault.to_error(self.alloc())?),
             },
             Measure::Size { length, .. } => {
-                if let Some(error) = self.error_of_clash(pattern, with_alias_only, &found)? {
+                if let Some(error) = error_of_clash(settings, pattern, &found)? {
                     return Err(error);
                 }
                 // Frees what measuring remembers before the text is allocated.
                 drop(found);
-                Ok(self.expand_clean(pattern, with_alias_only, length)?)
+                Ok(expand_clean(settings, pattern, length)?)
             }
         }
     }

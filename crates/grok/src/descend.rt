@@ -1,11 +1,11 @@
 //! Finds one place in the tree of a pattern: goes through its events in order, passes over each
 //! definition of which enough is known, and enters the others.
-ghost use Rattle.std.specs.Prelude.{◌≡◌, ◌<◌, ◌^◌, ℕ, List, [], ◌∷◌, Some, IfOk, MatchOption, IsTrue, IsFalse, map, if◌then◌else◌};
+ghost use Rattle.std.specs.Prelude.{◌≡◌, ◌<◌, ◌^◌, List, [], ◌∷◌, Some, IfOk, IsTrue, IsFalse, if◌then◌else◌};
 ghost use Rattle.std.specs.FinMap as finite;
 ghost use Rattle.grok.specs.Tree.{PlaceholderItem, events, inside, items_of, meaning_text};
 ghost use Rattle.grok.specs.Items.{item_view, label_view, meaning_view};
 ghost use Rattle.grok.specs.steps.Events.{event_view};
-ghost use Rattle.grok.specs.steps.PlacedItems.{IsOfLibrary, HasRead, left_in};
+ghost use Rattle.grok.specs.steps.PlacedItems.{IsOfLibrary};
 ghost use Rattle.grok.specs.FaultLocations.{path_view};
 ghost use Rattle.grok.specs.steps.Searches.{PassesMore, StopsAt};
 ghost use Rattle.grok.specs.steps.Descents.{IsEventStep, IsStep, path_of, FindsPlace};
@@ -18,7 +18,6 @@ use crate::errors::fault::{Fault, LEVELS};
 use crate::expand::events::Event;
 use crate::location::{Location, PathStep};
 use std::alloc::AllocError;
-use std::mem;
 
 /// A search for an event in the tree of a pattern.
 pub(crate) trait Search<'a> {
@@ -41,12 +40,13 @@ pub(crate) trait Search<'a> {
     ghost IsSought: { Self → List EventView → EventView → Type 0 };
 
     /// Passes over an event, unless it is the sought one. Returns whether it passed over it.
-    fn pass_event(&mut self, event: Event<'a>) -> bool
-        ensures passed { IsTrue result → PassesMore HasPassed self.old (event_view event.entry ∷ []) self.new }
-        ensures stopped { IsFalse result → StopsAt HasPassed IsSought self.old (event_view event.entry) }
-        ensures same { IsFalse result → self.new ≡ self.old }
-        ensures ready { IsReady self.old → IsReady self.new }
-        ensures definitions { definitions self.new ≡ definitions self.old };
+    fn pass_event(&mut self, event: Event<'a>) -> Result<bool, AllocError>
+        requires { IsReady self.old }
+        ensures passed { IfOk result (λ is_passed. IsTrue is_passed → PassesMore HasPassed self.old (event_view event.entry ∷ []) self.new) }
+        ensures stopped { IfOk result (λ is_passed. IsFalse is_passed → StopsAt HasPassed IsSought self.old (event_view event.entry)) }
+        ensures same { IfOk result (λ is_passed. IsFalse is_passed → self.new ≡ self.old) }
+        ensures ready { IfOk result (λ is_passed. IsReady self.new) }
+        ensures definitions { IfOk result (λ is_passed. definitions self.new ≡ definitions self.old) };
 
     /// Passes over a stored definition, whose placeholders may be nested `levels` levels deep, if
     /// it can be skipped. Returns whether it passed over it.
@@ -95,15 +95,19 @@ enum Step<'a> {
 }
 
 /// Passes over an event of an item, or stops at it.
-fn step_at_event<'a, S: Search<'a>>(search: &mut S, event: Event<'a>) -> Step<'a>
-    ensures step { IsEventStep (PassesMore S.HasPassed) (StopsAt S.HasPassed S.IsSought) (event_view event.entry) result search.old search.new }
-    ensures ready { S.IsReady search.old → S.IsReady search.new }
-    ensures definitions { S.definitions search.new ≡ S.definitions search.old }
+fn step_at_event<'a, S: Search<'a>>(
+    search: &mut S,
+    event: Event<'a>,
+) -> Result<Step<'a>, AllocError>
+    requires { S.IsReady search.old }
+    ensures step { IfOk result (λ step. IsEventStep (PassesMore S.HasPassed) (StopsAt S.HasPassed S.IsSought) (event_view event.entry) step search.old search.new) }
+    ensures ready { IfOk result (λ step. S.IsReady search.new) }
+    ensures definitions { IfOk result (λ step. S.definitions search.new ≡ S.definitions search.old) }
 {
-    if search.pass_event(event) {
-        Step::Passed
+    if search.pass_event(event)? {
+        Ok(Step::Passed)
     } else {
-        Step::Stopped
+        Ok(Step::Stopped)
     }
 }
 
@@ -146,33 +150,22 @@ fn step_at_item<'a, S: Search<'a>>(
     ensures definitions { IfOk result (λ step. S.definitions search.new ≡ S.definitions search.old) }
 {
     match item {
-        Item::Text(text) => Ok(step_at_event(search, Event::Text(text))),
-        Item::Fault(fault) => Ok(step_at_event(search, Event::Fault(fault))),
+        Item::Text(text) => step_at_event(search, Event::Text(text)),
+        Item::Fault(fault) => step_at_event(search, Event::Fault(fault)),
         Item::Placeholder(label, meaning) => {
-            if !search.pass_event(Event::Open(label, meaning)) {
+            let is_passed = search.pass_event(Event::Open(label, meaning))?;
+            if !is_passed {
                 return Ok(Step::Stopped);
             }
             if levels == 0 {
-                return Ok(step_at_event(search, Event::Fault(Fault::TooDeep)));
+                return step_at_event(search, Event::Fault(Fault::TooDeep));
             }
             if pass_meaning(search, label, meaning, levels - 1)? {
-                Ok(step_at_event(search, Event::Close))
+                step_at_event(search, Event::Close)
             } else {
                 Ok(Step::Entered(label.name, meaning))
             }
         }
-    }
-}
-
-/// Returns the items of what a placeholder stands for.
-fn items_inside<'a>(grok: &'a Grok, meaning: Meaning<'a>) -> PlacedItems<'a>
-    ensures read { HasRead (finite.get grok.now) [] result }
-    ensures text { result.text.now ≡ meaning_text (meaning_view meaning.entry) }
-    ensures left { left_in result ≡ items_of (finite.get grok.now) (meaning_text (meaning_view meaning.entry)) }
-{
-    match meaning {
-        Meaning::Inline(text) => PlacedItems::of_text(grok, text),
-        Meaning::Stored(stored) => PlacedItems::of_stored(grok, stored),
     }
 }
 
@@ -233,7 +226,7 @@ pub(crate) fn descend<'a, S: Search<'a>>(
                 Step::Passed => {}
                 Step::Stopped => return Ok(Some(place_of(grok, &around, inner.text, placed)?)),
                 Step::Entered(name, meaning) => {
-                    let items = mem::replace(&mut inner, items_inside(grok, meaning));
+                    let items = inner.enter(grok, meaning);
                     around.push(Opened {
                         placed,
                         name,
@@ -246,7 +239,8 @@ pub(crate) fn descend<'a, S: Search<'a>>(
                     return Ok(None);
                 };
                 inner = outer.items;
-                if !search.pass_event(Event::Close) {
+                let is_passed = search.pass_event(Event::Close)?;
+                if !is_passed {
                     return Ok(Some(place_of(grok, &around, inner.text, outer.placed)?));
                 }
             }

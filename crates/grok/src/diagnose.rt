@@ -1,23 +1,33 @@
 //! Finds out what is wrong with a pattern, and where.
-ghost use Rattle.std.specs.Prelude.{◌≡◌, ◌≢◌, ◌-◌, ℕ, List, [], Some, None, IfOk, MatchOption, length as len};
+ghost use Rattle.std.specs.Prelude.{◌≡◌, ◌≢◌, ◌-◌, ℕ, List, [], Some, None, IfOk, IfSome, MatchOption};
 ghost use Rattle.std.specs.FinMap as finite;
 ghost use Rattle.grok.specs.Tree.{tree as tree_of, first_structural};
 ghost use Rattle.grok.specs.Keys.{Clash as KeyClash, first_fault};
-ghost use Rattle.grok.specs.Expanded.{expanded};
 ghost use Rattle.grok.specs.ByteLocations.{HasByte};
-ghost use Rattle.grok.specs.Diagnoses.{IsRangeOf, IsOriginOf, LocatesReason, FindsDiagnosis};
+ghost use Rattle.grok.specs.steps.MeasureCache.{HasCorrectCache};
+ghost use Rattle.grok.specs.FaultLocations.{path_view};
+ghost use Rattle.grok.specs.Diagnoses.{IsRangeOf, IsOriginOf, LocatesReason, LeadsTo, IsRefusedPart, FindsDiagnosis};
+ghost use Rattle.grok.specs.steps.RefusedParts.{IsWhole, IsRefusedIn};
 
+use crate::compile::expand_clean;
 use crate::defs::Grok;
-use crate::errors::fault::Fault;
-use crate::expand::write::ExpandedPattern;
-use crate::locate_byte::WrittenByte;
-use crate::locate_clash::Clash;
-use crate::location::Location;
+use crate::defs::items::Item;
+use crate::defs::placed_items::PlacedItems;
+use crate::errors::fault::{Fault, LEVELS};
+use crate::locate::locate_fault;
+use crate::locate_byte::{WrittenByte, locate_written};
+use crate::locate_clash::{Clash, locate_clash};
+use crate::location::{Location, PathStep};
 use crate::malformed::MalformedReason;
 use crate::measure::Measure;
+use crate::measure::full_measure::FullMeasure;
+use crate::measure::measurer::Measurer;
 use crate::parser::malformation_at;
+use crate::settings::Settings;
 use crate::why_refused::{RefusalReason, reason_for};
+use crate::write::ExpandedPattern;
 use std::alloc::AllocError;
+use std::collections::BTreeMap;
 use std::ops::Range;
 
 /// What is wrong with a pattern. [`Grok::diagnose`] returns it.
@@ -49,16 +59,26 @@ pub enum Diagnosis<'a> {
     TooLong,
 }
 
-/// The refusal of a pattern's expanded text by `regex`.
+/// What `regex` refuses of a pattern.
+///
+/// If brackets don't match and `regex` refuses a definition alone, the fault is in there, though
+/// `regex` may report another part of the pattern: if a definition has a `(` too many, the `)` of its
+/// placeholder's group closes it, and the group that isn't closed is one further out.
 #[derive(PartialEq, Eq, Debug, Drop)]
 pub struct Refused<'a> {
-    /// The expanded text.
+    /// The placeholders that lead from the pattern to the refused part, outermost first. If there is
+    /// none, the part is the pattern.
+    pub path: Vec<PathStep<'a>>,
+    /// The part that `regex` refuses, taken as a pattern of its own: the pattern, or the definition
+    /// that the path leads to.
+    pub part: &'a str,
+    /// The expanded text of the part.
     pub text: String,
     pub reason: RefusalReason,
     /// What wrote the part of the expanded text that `regex` reports: the part itself, if it begins
     /// in regular text, up to the end of that piece at most, or the placeholder whose group it begins
-    /// in. It is `None` if the regex is too big, or if the reported part is at the end of the
-    /// expanded text.
+    /// in. Its path begins in `part`. It is `None` if the regex is too big, or if the reported part is
+    /// at the end of the expanded text.
     pub location: Option<Location<'a>>,
 }
 
@@ -76,109 +96,207 @@ fn origin_in(piece: &Range<usize>, begin: WrittenByte, length: usize) -> Range<u
     }
 }
 
+/// Returns where this part of the expanded text of a pattern comes from. Returns `None` if it is at
+/// the end of the expanded text.
+fn origin_of_part<'a>(
+    measurer: Measurer<'a>,
+    pattern: &'a str,
+    part: &Range<usize>,
+) -> Result<Option<Location<'a>>, AllocError>
+    requires cache { HasCorrectCache measurer }
+    requires clean { first_structural (tree_of (finite.get measurer.settings.grok.now) pattern.now) ≡ None }
+    ensures { IfOk result (λ found. MatchOption found
+        (HasByte measurer.entry.settings.with_alias_only
+        (tree_of (finite.get measurer.entry.settings.grok.now) pattern.now) part.now.start → ⊥)
+        (IsOriginOf (finite.get measurer.entry.settings.grok.now)
+        measurer.entry.settings.with_alias_only pattern.now part.now.start part.now.end)) }
+{
+    let Some(found) = locate_written(measurer, pattern, part.start)? else {
+        return Ok(None);
+    };
+    let length = part.end.saturating_sub(part.start);
+    let piece = found.location;
+    Ok(Some(Location {
+        range: origin_in(&piece.range, found.part, length),
+        path: piece.path,
+        text: piece.text,
+    }))
+}
+
+/// Returns where the reason of a refusal stands.
+fn locate_reason<'a>(
+    measurer: Measurer<'a>,
+    pattern: &'a str,
+    reason: RefusalReason,
+) -> Result<Option<Location<'a>>, AllocError>
+    requires cache { HasCorrectCache measurer }
+    requires clean { first_structural (tree_of (finite.get measurer.settings.grok.now) pattern.now) ≡ None }
+    ensures { IfOk result (LocatesReason (finite.get measurer.entry.settings.grok.now)
+        measurer.entry.settings.with_alias_only pattern.now reason) }
+{
+    match reason {
+        RefusalReason::TooBig => Ok(None),
+        RefusalReason::Syntax(error) => {
+            let part = error.span.start..error.span.end;
+            origin_of_part(measurer, pattern, &part)
+        }
+    }
+}
+
+/// Returns the diagnosis of a pattern without a fault, whose expanded text should have `length` bytes.
+fn diagnose_refusal<'a>(
+    measurer: Measurer<'a>,
+    pattern: &'a str,
+    length: usize,
+) -> Result<Option<Diagnosis<'a>>, AllocError>
+    requires cache { HasCorrectCache measurer }
+    requires some { pattern.now ≢ [] }
+    requires clean { first_fault measurer.settings.with_alias_only
+        (tree_of (finite.get measurer.settings.grok.now) pattern.now) ≡ None }
+    ensures found { IfOk result (FindsDiagnosis measurer.entry.settings.grok.now
+        measurer.entry.settings.with_alias_only pattern.now) }
+    ensures whole { IfOk result (λ found. IfSome found (IsWhole pattern.now)) }
+{
+    let settings = measurer.settings;
+    let ExpandedPattern { text, .. } = expand_clean(settings, pattern, length)?;
+    let Some(reason) = reason_for(settings.grok.alloc(), text.as_str())? else {
+        return Ok(None);
+    };
+    let location = locate_reason(measurer, pattern, reason)?;
+    Ok(Some(Diagnosis::Refused(Refused {
+        path: Vec::new(settings.grok.alloc()),
+        part: pattern,
+        text,
+        reason,
+        location,
+    })))
+}
+
+/// Returns the diagnosis of a pattern whose first fault is a structural one.
+fn diagnose_structural<'a>(
+    measurer: Measurer<'a>,
+    pattern: &'a str,
+) -> Result<Option<Diagnosis<'a>>, AllocError>
+    requires cache { HasCorrectCache measurer }
+    requires faulty { first_structural (tree_of (finite.get measurer.settings.grok.now) pattern.now) ≢ None }
+    requires no_clash { (key : List ℕ) → first_fault measurer.settings.with_alias_only
+        (tree_of (finite.get measurer.settings.grok.now) pattern.now) ≢ Some (KeyClash key) }
+    ensures found { IfOk result (FindsDiagnosis measurer.entry.settings.grok.now
+        measurer.entry.settings.with_alias_only pattern.now) }
+    ensures whole { IfOk result (λ found. IfSome found (IsWhole pattern.now)) }
+{
+    let Some(found) = locate_fault(measurer, pattern)? else {
+        return Ok(None);
+    };
+    let location = found.location;
+    match found.fault {
+        Fault::Missing(name) => Ok(Some(Diagnosis::Missing { name, location })),
+        Fault::TooDeep => Ok(Some(Diagnosis::TooDeep(location))),
+        Fault::Malformed(_) => {
+            let (reason, byte) = malformation_at(location.text, location.range.start);
+            Ok(Some(Diagnosis::Malformed {
+                reason,
+                byte,
+                location,
+            }))
+        }
+    }
+}
+
+/// Returns the diagnosis of a pattern, without a search for the definition that has the fault if
+/// `regex` refuses it.
+fn diagnose_whole<'a>(
+    settings: Settings<'a>,
+    pattern: &'a str,
+) -> Result<Option<Diagnosis<'a>>, AllocError>
+    ensures found { IfOk result (FindsDiagnosis settings.entry.grok.now settings.entry.with_alias_only pattern.now) }
+    ensures whole { IfOk result (λ found. IfSome found (IsWhole pattern.now)) }
+{
+    if pattern.is_empty() {
+        return Ok(Some(Diagnosis::Empty));
+    }
+    let found = FullMeasure::of_pattern(settings, pattern)?;
+    match found.measure {
+        Measure::TooLong => Ok(Some(Diagnosis::TooLong)),
+        Measure::Fault(_) => match locate_clash(settings, pattern, &found)? {
+            Some(clash) => Ok(Some(Diagnosis::Clash(clash))),
+            None => diagnose_structural(found.measurer, pattern),
+        },
+        Measure::Size { length, .. } => match locate_clash(settings, pattern, &found)? {
+            Some(clash) => Ok(Some(Diagnosis::Clash(clash))),
+            None => diagnose_refusal(found.measurer, pattern, length),
+        },
+    }
+}
+
+/// Returns the first placeholder of a text whose definition `regex` refuses alone because of its
+/// syntax, and what is refused. Returns `None` if there is none.
+fn first_refused<'a>(
+    settings: Settings<'a>,
+    text: &'a str,
+) -> Result<Option<(PathStep<'a>, Refused<'a>)>, AllocError>
+    ensures { IfOk result (λ found. IfSome found (λ at. IsRefusedIn settings.entry text.now at.0 at.1)) }
+{
+    let mut seen = BTreeMap::new(settings.grok.alloc());
+    let mut items = PlacedItems::of_text(settings.grok, text);
+    'items: while let Some(placed) = items.next()? {
+        let Item::Placeholder(label, meaning) = placed.item else {
+            continue;
+        };
+        let definition = meaning.text();
+        if seen.insert(definition, ())?.is_some() {
+            continue;
+        }
+        if let Some(Diagnosis::Refused(refused)) = diagnose_whole(settings, definition)?
+            && let RefusalReason::Syntax(_) = refused.reason
+        {
+            let step = PathStep {
+                name: label.name,
+                range: placed.range,
+            };
+            return Ok(Some((step, refused)));
+        }
+    }
+    Ok(None)
+}
+
+/// Returns the innermost refused part: while brackets don't match and a definition of the part is
+/// refused alone, that definition takes its place.
+fn innermost<'a>(settings: Settings<'a>, refused: Refused<'a>) -> Result<Refused<'a>, AllocError>
+    requires { IsRefusedPart settings.grok.now settings.with_alias_only refused }
+    ensures leads { IfOk result (λ inner. LeadsTo (finite.get settings.entry.grok.now) refused.entry.part.now
+        (path_view inner.path.items) inner.part.now) }
+    ensures part { IfOk result (λ inner. IsRefusedPart settings.entry.grok.now settings.entry.with_alias_only inner) }
+{
+    let mut path = Vec::new(settings.grok.alloc());
+    let mut inner = refused;
+    'levels: for _level in 0..LEVELS {
+        if !inner.reason.is_of_brackets() {
+            break;
+        }
+        let Some((step, refused)) = first_refused(settings, inner.part)? else {
+            break;
+        };
+        path.push(step)?;
+        inner = refused;
+    }
+    Ok(Refused {
+        path,
+        part: inner.part,
+        text: inner.text,
+        reason: inner.reason,
+        location: inner.location,
+    })
+}
+
 impl Grok {
-    /// Returns where this part of the expanded text of a pattern comes from. Returns `None` if it is
-    /// at the end of the expanded text.
-    fn origin_of_part<'a>(
-        &'a self,
-        pattern: &'a str,
-        with_alias_only: bool,
-        part: &Range<usize>,
-    ) -> Result<Option<Location<'a>>, AllocError>
-        ensures { IfOk result (λ found. MatchOption found
-            (HasByte with_alias_only (tree_of (finite.get self.now) pattern.now) part.now.start → ⊥)
-            (IsOriginOf (finite.get self.now) with_alias_only pattern.now part.now.start part.now.end)) }
-    {
-        let Some(found) = self.locate_byte(pattern, with_alias_only, part.start)? else {
-            return Ok(None);
-        };
-        let length = part.end.saturating_sub(part.start);
-        let piece = found.location;
-        Ok(Some(Location {
-            range: origin_in(&piece.range, found.part, length),
-            path: piece.path,
-            text: piece.text,
-        }))
-    }
-
-    /// Returns where the reason of a refusal stands.
-    fn locate_reason<'a>(
-        &'a self,
-        pattern: &'a str,
-        with_alias_only: bool,
-        reason: RefusalReason,
-    ) -> Result<Option<Location<'a>>, AllocError>
-        ensures { IfOk result (LocatesReason (finite.get self.now) with_alias_only pattern.now reason) }
-    {
-        match reason {
-            RefusalReason::TooBig => Ok(None),
-            RefusalReason::Syntax(error) => {
-                let part = error.span.start..error.span.end;
-                self.origin_of_part(pattern, with_alias_only, &part)
-            }
-        }
-    }
-
-    /// Returns the diagnosis of a pattern without a fault, whose expanded text has `length` bytes.
-    fn diagnose_refusal<'a>(
-        &'a self,
-        pattern: &'a str,
-        with_alias_only: bool,
-        length: usize,
-    ) -> Result<Option<Diagnosis<'a>>, AllocError>
-        requires some { pattern.now ≢ [] }
-        requires clean { first_fault with_alias_only
-            (tree_of (finite.get self.now) pattern.now) ≡ None }
-        requires long { length ≡ len (expanded with_alias_only
-            (tree_of (finite.get self.now) pattern.now)) }
-        ensures { IfOk result (FindsDiagnosis self.now with_alias_only pattern.now) }
-    {
-        let ExpandedPattern { text, .. } = self.expand_clean(pattern, with_alias_only, length)?;
-        let Some(reason) = reason_for(self.alloc(), text.as_str())? else {
-            return Ok(None);
-        };
-        let location = self.locate_reason(pattern, with_alias_only, reason)?;
-        Ok(Some(Diagnosis::Refused(Refused {
-            text,
-            reason,
-            location,
-        })))
-    }
-
-    /// Returns the diagnosis of a pattern whose first fault is a structural one.
-    fn diagnose_structural<'a>(
-        &'a self,
-        pattern: &'a str,
-        with_alias_only: bool,
-    ) -> Result<Option<Diagnosis<'a>>, AllocError>
-        requires faulty { first_structural (tree_of (finite.get self.now) pattern.now) ≢ None }
-        requires no_clash { (key : List ℕ) → first_fault with_alias_only
-            (tree_of (finite.get self.now) pattern.now) ≢ Some (KeyClash key) }
-        ensures { IfOk result (FindsDiagnosis self.now with_alias_only pattern.now) }
-    {
-        let Some(found) = self.locate(pattern)? else {
-            return Ok(None);
-        };
-        let location = found.location;
-        match found.fault {
-            Fault::Missing(name) => Ok(Some(Diagnosis::Missing { name, location })),
-            Fault::TooDeep => Ok(Some(Diagnosis::TooDeep(location))),
-            Fault::Malformed(_) => {
-                let (reason, byte) = malformation_at(location.text, location.range.start);
-                Ok(Some(Diagnosis::Malformed {
-                    reason,
-                    byte,
-                    location,
-                }))
-            }
-        }
-    }
-
     /// Finds out why [`Grok::compile`] returns an error for a pattern, and where in the pattern or
     /// its definitions the reason is. Returns `None` if the pattern compiles.
     ///
-    /// Each definition is read as often as [`Grok::compile`] reads it, and once more. Then only the
-    /// definitions that lead to a location are read again, at most 1,023 for each location.
+    /// Each definition is read as often as [`Grok::compile`] reads it. Then only the definitions that
+    /// lead to a location are read again, at most 1,023 for each location. If `regex` refuses the
+    /// pattern because brackets don't match, it is also asked for the definitions of the pattern, and
+    /// for those of each definition that it refuses.
     ///
     /// # Errors
     ///
@@ -191,22 +309,16 @@ impl Grok {
     ) -> Result<Option<Diagnosis<'a>>, AllocError>
         ensures { IfOk result (FindsDiagnosis self.now with_alias_only pattern.now) }
     {
-        if pattern.is_empty() {
-            return Ok(Some(Diagnosis::Empty));
-        }
-        let found = self.measure_fully(pattern, with_alias_only)?;
-        match found.measure {
-            Measure::TooLong => Ok(Some(Diagnosis::TooLong)),
-            Measure::Fault(_) => match self.locate_clash(pattern, with_alias_only, &found)? {
-                Some(clash) => Ok(Some(Diagnosis::Clash(clash))),
-                None => self.diagnose_structural(pattern, with_alias_only),
-            },
-            Measure::Size { length, .. } => {
-                match self.locate_clash(pattern, with_alias_only, &found)? {
-                    Some(clash) => Ok(Some(Diagnosis::Clash(clash))),
-                    None => self.diagnose_refusal(pattern, with_alias_only, length),
-                }
+        let settings = Settings {
+            grok: self,
+            with_alias_only,
+        };
+        match diagnose_whole(settings, pattern)? {
+            Some(Diagnosis::Refused(refused)) => {
+                let refused = innermost(settings, refused)?;
+                Ok(Some(Diagnosis::Refused(refused)))
             }
+            found => Ok(found),
         }
     }
 }

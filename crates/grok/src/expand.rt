@@ -1,4 +1,4 @@
-//! Expands a pattern: finds its first clash, or computes its keys, its extracts and its text.
+//! Reads the tree of a pattern: its events, its keys, and its first clash.
 
 pub(crate) mod clash_search;
 pub(crate) mod events;
@@ -10,4 +10,3 @@ pub(crate) mod placeholder_key;
 pub(crate) mod read_rows;
 pub(crate) mod rows;
 pub(crate) mod uses;
-pub(crate) mod write;

@@ -1,5 +1,5 @@
 //! The table of keys, with the group of each.
-ghost use Rattle.std.specs.Prelude.{◌≡◌, ℕ, ◌<◌, ◌^◌, List, map, IfOk, OnOk, MatchOption};
+ghost use Rattle.std.specs.Prelude.{◌≡◌, ℕ, ◌<◌, List, map, IfOk, OnOk};
 ghost use Rattle.std.specs.String.{string_bytes};
 ghost use Rattle.std.specs.BTreeMap.{get_by};
 ghost use Rattle.std.specs.List.Sorted.{IsStrictlySortedBy};
@@ -7,25 +7,15 @@ ghost use Rattle.std.specs.Map.{keys_of};
 ghost use Rattle.std.specs.Cmp.Lexicographic.{slice_cmp};
 ghost use Rattle.std.specs.Ordering.{nat_cmp};
 ghost use Rattle.grok.specs.Captures.{name_texts};
-ghost use Rattle.grok.specs.GeneratedNames.{generated};
 ghost use Rattle.grok.specs.KeyNumbers.{key_text};
 ghost use Rattle.grok.specs.KeyTable.{meant_key, group_of, group_in, IsKeyTable};
 
 use crate::expand::placeholder_key::PlaceholderKey;
-use crate::generated_name::NAME_START;
-use crate::numeral::number_of_numeral;
+use crate::generated_name::number_of;
 use std::alloc::{AllocError, Global};
 use std::cmp::Ordering;
 use std::collections::BTreeMap;
 use std::marker::Model;
-
-/// Returns the number in a generated name such as `_n_0`, or `None` if the name isn't one.
-fn number_of(name: &str) -> Option<usize>
-    ensures { MatchOption result ((number : ℕ) → number < 2 ^ 64 → name.now ≡ generated number → ⊥)
-        (λ number. name.now ≡ generated number) }
-{
-    number_of_numeral(name.strip_prefix(NAME_START)?)
-}
 
 /// Returns the key that a group's name means.
 fn meant<'a>(name: &'a str, keys: &'a [PlaceholderKey]) -> &'a str

@@ -53,7 +53,9 @@ mod matches;
 mod measure;
 mod numeral;
 pub mod parser;
+mod settings;
 mod why_refused;
+mod write;
 
 pub use defs::names::Names;
 pub use defs::{Grok, patterns};

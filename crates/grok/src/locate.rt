@@ -8,7 +8,6 @@ ghost use Rattle.grok.specs.steps.Events.{event_view};
 ghost use Rattle.grok.specs.FaultLocations.{IsFaultOf};
 ghost use Rattle.grok.specs.steps.FaultSearches.{is_fault, fault_of_item};
 
-use crate::defs::Grok;
 use crate::defs::definition::Definition;
 use crate::defs::items::Item;
 use crate::descend::{Search, descend};
@@ -16,14 +15,13 @@ use crate::errors::fault::Fault;
 use crate::expand::events::Event;
 use crate::location::Location;
 use crate::measure::measurer::Measurer;
-use crate::measure::settings::MeasureSettings;
 use std::alloc::AllocError;
 
 /// The first structural fault of a pattern, and where the piece with it stands. A malformed
 /// placeholder takes the rest of its text.
 #[derive(Drop)]
 pub(crate) struct FaultLocation<'a> {
-    /// The fault, as [`Grok::measure`] reports it.
+    /// The fault, as [`Grok::measure`](crate::Grok::measure) reports it.
     pub fault: Fault<'a>,
     pub location: Location<'a>,
 }
@@ -55,8 +53,8 @@ impl<'a> Search<'a> for FaultSearch<'a> {
 
     ghost IsSought = { λ start es event. is_fault event ≡ true };
 
-    fn pass_event(&mut self, event: Event<'a>) -> bool {
-        !is_fault(event)
+    fn pass_event(&mut self, event: Event<'a>) -> Result<bool, AllocError> {
+        Ok(!is_fault(event))
     }
 
     fn pass_definition(
@@ -82,38 +80,32 @@ fn fault_of_item<'a>(item: Item<'a>) -> Fault<'a>
     }
 }
 
-impl Grok {
-    /// Finds where the first structural fault of a pattern stands, which is the fault that
-    /// [`Grok::measure`] reports. Returns `None` if there is none.
-    ///
-    /// Each definition is measured once. Then only the definitions on the path are read again, at
-    /// most 1,023 of them.
-    ///
-    /// # Errors
-    ///
-    /// If an allocation fails.
-    pub(crate) fn locate<'a>(
-        &'a self,
-        pattern: &'a str,
-    ) -> Result<Option<FaultLocation<'a>>, AllocError>
-        ensures fault { IfOk result (λ found. option_map (λ at. fault_view at.fault) found
-            ≡ first_structural (tree (finite.get self.now) pattern.now)) }
-        ensures location { IfOk result (λ found. IfSome found (λ at.
-            IsFaultOf (finite.get self.now) pattern.now (fault_view at.fault) at.location)) }
-    {
-        let mut search = FaultSearch {
-            measurer: Measurer::new(MeasureSettings {
-                grok: self,
-                alloc: self.alloc(),
-                with_alias_only: false,
-            }),
-        };
-        match descend(self, &mut search, pattern)? {
-            None => Ok(None),
-            Some(place) => Ok(Some(FaultLocation {
-                fault: fault_of_item(place.item),
-                location: place.location,
-            })),
-        }
+/// Finds where the first structural fault of a pattern stands, which is the fault that
+/// [`Grok::measure`](crate::Grok::measure) reports. Returns `None` if there is none.
+///
+/// Each definition that `measurer` doesn't remember is measured once. Then only the definitions on
+/// the path are read again, at most 1,023 of them.
+///
+/// # Errors
+///
+/// If an allocation fails.
+pub(crate) fn locate_fault<'a>(
+    measurer: Measurer<'a>,
+    pattern: &'a str,
+) -> Result<Option<FaultLocation<'a>>, AllocError>
+    requires { HasCorrectCache measurer }
+    ensures fault { IfOk result (λ found. option_map (λ at. fault_view at.fault) found
+        ≡ first_structural (tree (finite.get measurer.entry.settings.grok.now) pattern.now)) }
+    ensures location { IfOk result (λ found. IfSome found (λ at.
+        IsFaultOf (finite.get measurer.entry.settings.grok.now) pattern.now (fault_view at.fault) at.location)) }
+{
+    let grok = measurer.settings.grok;
+    let mut search = FaultSearch { measurer };
+    match descend(grok, &mut search, pattern)? {
+        None => Ok(None),
+        Some(place) => Ok(Some(FaultLocation {
+            fault: fault_of_item(place.item),
+            location: place.location,
+        })),
     }
 }

@@ -1,7 +1,7 @@
 //! Finds the piece that writes a byte of an expanded text, without expanding the pattern.
-ghost use Rattle.std.specs.Prelude.{◌≡◌, ◌<◌, ◌+◌, ◌≤◌, ℕ, List, [], ◌∷◌, ◌++◌, IfOk, IsTrue, IsFalse, length};
+ghost use Rattle.std.specs.Prelude.{◌≡◌, ◌<◌, ◌+◌, List, [], ◌∷◌, IfOk, IsTrue, IsFalse};
 ghost use Rattle.std.specs.FinMap as finite;
-ghost use Rattle.grok.specs.Tree.{Event as EventView};
+ghost use Rattle.grok.specs.Tree.{Event as EventView, first_structural, tree};
 ghost use Rattle.grok.specs.Items.{item_view};
 ghost use Rattle.grok.specs.steps.Events.{event_view};
 ghost use Rattle.grok.specs.Expanded.{expanded};
@@ -18,11 +18,12 @@ use crate::expand::events::Event;
 use crate::generated_name::CLOSE;
 use crate::location::Location;
 use crate::measure::Measure;
+use crate::measure::full_measure::FullMeasure;
 use crate::measure::measurer::Measurer;
 use crate::measure::partial_size::{
     PartialSize, add, has_byte, offset_after, size_of_head, size_of_text,
 };
-use crate::measure::settings::MeasureSettings;
+use crate::settings::Settings;
 use std::alloc::AllocError;
 
 /// How a byte got into an expanded text: it was copied from regular text, or belongs to the group
@@ -98,9 +99,9 @@ impl<'a> Search<'a> for ByteSearch<'a> {
 
     ghost IsSought = { WritesByte };
 
-    fn pass_event(&mut self, event: Event<'a>) -> bool {
+    fn pass_event(&mut self, event: Event<'a>) -> Result<bool, AllocError> {
         let size = self.size_of_event(event);
-        self.pass_size(size)
+        Ok(self.pass_size(size))
     }
 
     fn pass_definition(
@@ -130,6 +131,40 @@ fn part_of_item(item: Item<'_>, offset: usize) -> WrittenByte
     }
 }
 
+/// Finds the piece that writes a byte of the expanded text of a pattern without a structural fault.
+/// Returns `None` if the text has no byte at this position.
+///
+/// Each definition that `measurer` doesn't remember is measured once. Then only the definitions on
+/// the path are read again, at most 1,023 of them.
+///
+/// # Errors
+///
+/// If an allocation fails.
+pub(crate) fn locate_written<'a>(
+    measurer: Measurer<'a>,
+    pattern: &'a str,
+    byte: usize,
+) -> Result<Option<ByteLocation<'a>>, AllocError>
+    requires cache { HasCorrectCache measurer }
+    requires clean { first_structural (tree (finite.get measurer.settings.grok.now) pattern.now) ≡ None }
+    ensures { IfOk result (LocatesByte (finite.get measurer.entry.settings.grok.now)
+        measurer.entry.settings.with_alias_only pattern.now byte) }
+{
+    let grok = measurer.settings.grok;
+    let mut search = ByteSearch {
+        measurer,
+        byte,
+        before: size_of_text(""),
+    };
+    match descend(grok, &mut search, pattern)? {
+        None => Ok(None),
+        Some(place) => Ok(Some(ByteLocation {
+            part: part_of_item(place.item, offset_after(search.before, byte)),
+            location: place.location,
+        })),
+    }
+}
+
 impl Grok {
     /// Finds the piece that writes a byte of the expanded text of a pattern. Returns `None` if the
     /// pattern has a structural fault, or if its expanded text has no byte at this position.
@@ -149,26 +184,14 @@ impl Grok {
         ensures { IfOk result (λ found.
             LocatesByte (finite.get self.now) with_alias_only pattern.now byte found) }
     {
-        let mut measurer = Measurer::new(MeasureSettings {
+        let settings = Settings {
             grok: self,
-            alloc: self.alloc(),
             with_alias_only,
-        });
-        let measure = measurer.measure_next(pattern)?;
-        if let Measure::Fault(_) = measure {
+        };
+        let found = FullMeasure::of_pattern(settings, pattern)?;
+        if let Measure::Fault(_) = found.measure {
             return Ok(None);
         }
-        let mut search = ByteSearch {
-            measurer,
-            byte,
-            before: size_of_text(""),
-        };
-        match descend(self, &mut search, pattern)? {
-            None => Ok(None),
-            Some(place) => Ok(Some(ByteLocation {
-                part: part_of_item(place.item, offset_after(search.before, byte)),
-                location: place.location,
-            })),
-        }
+        locate_written(found.measurer, pattern, byte)
     }
 }

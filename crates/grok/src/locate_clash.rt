@@ -1,29 +1,30 @@
 //! Finds where the two placeholders of a clash stand, without expanding the pattern.
-ghost use Rattle.std.specs.Prelude.{◌≡◌, ◌+◌, ◌-◌, ◌^◌, ◌<◌, ◌≤◌, ℕ, List, [], ◌∷◌, Some, None, IfOk, IfSome, IsTrue, false, if◌then◌else◌};
+ghost use Rattle.std.specs.Prelude.{◌≡◌, ◌+◌, ◌-◌, ◌^◌, ◌<◌, ◌≤◌, Some, None, IfOk, IfSome, IsTrue, false, if◌then◌else◌};
 ghost use Rattle.std.specs.Str.{bytes_eq};
 ghost use Rattle.std.specs.FinMap as finite;
 ghost use Rattle.std.specs.String.{string_bytes};
 ghost use Rattle.grok.specs.Tree as tree;
-ghost use Rattle.grok.specs.Tree.{tree as tree_of, reached};
-ghost use Rattle.grok.specs.Keys.{first_fault, is_capturing, base_key as base_key_of, has_numbered_alias, numbered as numbered_of};
+ghost use Rattle.grok.specs.Tree.{tree as tree_of};
+ghost use Rattle.grok.specs.Keys.{first_fault, is_capturing, base_key as base_key_of, numbered as numbered_of};
 ghost use Rattle.grok.specs.Items.{label_view};
 ghost use Rattle.grok.specs.ClashLocations.{IsClashAt, IsFirstClash};
 ghost use Rattle.grok.specs.steps.KnownParts.{AreKnown};
 ghost use Rattle.grok.specs.steps.TreeClashes.{IsClashIn};
+ghost use Rattle.grok.specs.steps.FullMeasures.{IsFullMeasure};
 ghost use Rattle.grok.specs.steps.UseSearches.{CanSearch, HasPassedUses, IsSoughtUse, FindsUse};
 
-use crate::defs::Grok;
 use crate::defs::definition::Definition;
 use crate::defs::items::Label;
 use crate::descend::{Search, descend};
 use crate::expand::clash_search::FoundClash;
 use crate::expand::events::Event;
 use crate::expand::first_clash::find_first_clash;
-use crate::expand::key_assigner::{base_key, numbered_key};
-use crate::expand::known_parts::{CompileSettings, KnownParts};
+use crate::expand::known_parts::KnownParts;
+use crate::expand::numbered::{base_key, numbered_key};
 use crate::expand::uses::{Uses, count_parts};
 use crate::location::Location;
 use crate::measure::full_measure::FullMeasure;
+use crate::settings::Settings;
 use std::alloc::AllocError;
 
 /// Two placeholders that would get the same key. One of them has the key as its alias. The other
@@ -48,7 +49,7 @@ pub struct Clash<'a> {
 /// over each definition that is wholly known and doesn't have the sought use.
 #[derive(Clone, Copy)]
 struct UseSearch<'a, 'd, 'k> {
-    settings: CompileSettings<'a>,
+    settings: Settings<'a>,
     parts: &'d KnownParts<'a>,
     /// How the known part of each definition uses the base key.
     counts: &'d [Uses],
@@ -57,7 +58,7 @@ struct UseSearch<'a, 'd, 'k> {
 }
 
 /// Returns 1 if the placeholder with this label uses the base key, or else 0.
-fn uses_by<'a>(settings: CompileSettings<'a>, label: Label<'a>, base: &str) -> u128
+fn uses_by<'a>(settings: Settings<'a>, label: Label<'a>, base: &str) -> u128
     ensures { result ≡ (if is_capturing settings.entry.with_alias_only (label_view label.entry)
         then (if bytes_eq (base_key_of (label_view label.entry)) base.now then 1 else 0) else 0) }
 {
@@ -91,15 +92,15 @@ impl<'a> Search<'a> for UseSearch<'a, '_, '_> {
 
     ghost IsSought = { IsSoughtUse };
 
-    fn pass_event(&mut self, event: Event<'a>) -> bool {
+    fn pass_event(&mut self, event: Event<'a>) -> Result<bool, AllocError> {
         match event {
             Event::Open(label, _) => {
                 let uses = uses_by(self.settings, label, self.base);
-                pass_uses(&mut self.left, uses)
+                Ok(pass_uses(&mut self.left, uses))
             }
-            Event::Text(_) => true,
-            Event::Close => true,
-            Event::Fault(_) => true,
+            Event::Text(_) => Ok(true),
+            Event::Close => Ok(true),
+            Event::Fault(_) => Ok(true),
         }
     }
 
@@ -126,7 +127,7 @@ impl<'a> Search<'a> for UseSearch<'a, '_, '_> {
 ///
 /// If an allocation fails.
 fn find_use<'a>(
-    settings: CompileSettings<'a>,
+    settings: Settings<'a>,
     parts: &KnownParts<'a>,
     base: &str,
     number: usize,
@@ -156,7 +157,7 @@ fn find_use<'a>(
 ///
 /// If an allocation fails.
 fn locate_both<'a>(
-    settings: CompileSettings<'a>,
+    settings: Settings<'a>,
     parts: &KnownParts<'a>,
     pattern: &'a str,
     clash: FoundClash<'a>,
@@ -201,43 +202,35 @@ fn locate_both<'a>(
     }
 }
 
-impl Grok {
-    /// Finds where the two placeholders of a clash stand, if the first fault of a pattern is a clash.
-    /// Otherwise returns `None`: the pattern has no fault, or its first one is a structural fault.
-    /// `found` is what measuring the pattern found.
-    ///
-    /// Each definition is read once. Then only the definitions on the two paths are read again, at
-    /// most 1,023 on each.
-    ///
-    /// # Errors
-    ///
-    /// If an allocation fails, or if before a fault a base key `x` is used 2^64 times or more and the
-    /// least number `n` of an alias `x[n]` is `usize::MAX` or more.
-    pub(crate) fn locate_clash<'a>(
-        &'a self,
-        pattern: &'a str,
-        with_alias_only: bool,
-        found: &FullMeasure<'a>,
-    ) -> Result<Option<Clash<'a>>, AllocError>
-        requires { found.now.has_numbered ≡ has_numbered_alias (reached
-            (tree_of (finite.get self.now) pattern.now)) }
-        ensures first { IfOk result (λ found. IsFirstClash (first_fault with_alias_only
-            (tree_of (finite.get self.now) pattern.now)) found) }
-        ensures location { IfOk result (λ found. IfSome found (λ clash.
-            IsClashAt (finite.get self.now) with_alias_only pattern.now clash)) }
-    {
-        if !found.has_numbered {
-            return Ok(None);
-        }
-        let settings = CompileSettings {
-            grok: self,
-            with_alias_only,
-        };
-        let names = found.read_names(self.alloc())?;
-        let parts = KnownParts::of_names(settings, &names)?;
-        match find_first_clash(settings, &parts, pattern)? {
-            None => Ok(None),
-            Some(clash) => locate_both(settings, &parts, pattern, clash),
-        }
+/// Finds where the two placeholders of a clash stand, if the first fault of a pattern is a clash.
+/// Otherwise returns `None`: the pattern has no fault, or its first one is a structural fault. `found`
+/// is what measuring the pattern found.
+///
+/// Each definition is read once. Then only the definitions on the two paths are read again, at most
+/// 1,023 on each.
+///
+/// # Errors
+///
+/// If an allocation fails, or if before a fault a base key `x` is used 2^64 times or more and the
+/// least number `n` of an alias `x[n]` is `usize::MAX` or more.
+pub(crate) fn locate_clash<'a>(
+    settings: Settings<'a>,
+    pattern: &'a str,
+    found: &FullMeasure<'a>,
+) -> Result<Option<Clash<'a>>, AllocError>
+    requires { IsFullMeasure settings pattern.now found.now }
+    ensures first { IfOk result (λ found. IsFirstClash (first_fault settings.entry.with_alias_only
+        (tree_of (finite.get settings.entry.grok.now) pattern.now)) found) }
+    ensures location { IfOk result (λ found. IfSome found (λ clash. IsClashAt
+        (finite.get settings.entry.grok.now) settings.entry.with_alias_only pattern.now clash)) }
+{
+    if !found.has_numbered() {
+        return Ok(None);
+    }
+    let names = found.read_names(settings.grok.alloc())?;
+    let parts = KnownParts::of_names(settings, &names)?;
+    match find_first_clash(settings, &parts, pattern)? {
+        None => Ok(None),
+        Some(clash) => locate_both(settings, &parts, pattern, clash),
     }
 }

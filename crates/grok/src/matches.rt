@@ -1,6 +1,5 @@
 //! Compiled patterns, and their matches in lines.
 ghost use Rattle.std.specs.Prelude.{◌≡◌, ℕ, List, Option, length, map, option_map, IfOk, IfSome};
-ghost use Rattle.std.specs.Borrow.{Bor};
 ghost use Rattle.std.specs.BTreeMap.{get_by_text};
 ghost use Rattle.std.specs.FinMap as finite;
 ghost use Rattle.std.specs.String.{string_bytes};
@@ -13,7 +12,7 @@ ghost use Rattle.std.specs.Fmt.{DisplaysOnOk};
 ghost use Rattle.grok.specs.Maps.{pair_texts};
 ghost use Rattle.grok.specs.Debugs.{debug_pairs};
 ghost use Rattle.grok.specs.KeyTable.{group_in};
-ghost use Rattle.grok.specs.Answers.{extract_texts, capture_at, value_of, walk};
+ghost use Rattle.grok.specs.Answers.{extract_texts, value_of, walk};
 
 pub(crate) mod borrowed;
 pub(crate) mod groups;

@@ -8,12 +8,12 @@ pub(crate) mod full_measure;
 pub(crate) mod measurer;
 pub(crate) mod partial_size;
 mod placeholders;
-pub(crate) mod settings;
 
 use crate::defs::Grok;
 use crate::errors::fault::Fault;
+use crate::measure::full_measure::FullMeasure;
 use crate::measure::measurer::Measurer;
-use crate::measure::settings::MeasureSettings;
+use crate::settings::Settings;
 use std::alloc::AllocError;
 
 /// The result of measuring a pattern.
@@ -56,7 +56,11 @@ impl Grok {
         ensures { IfOk result (λ measure.
             measure_view measure ≡ measured_tree with_alias_only (tree_of self.now pattern.now)) }
     {
-        Ok(self.measure_fully(pattern, with_alias_only)?.measure)
+        let settings = Settings {
+            grok: self,
+            with_alias_only,
+        };
+        Ok(FullMeasure::of_pattern(settings, pattern)?.measure)
     }
 
     /// Measures several patterns in their order, each as [`Grok::measure`] does. A stored
@@ -75,13 +79,11 @@ impl Grok {
             ≡ map (λ pattern. measured_tree with_alias_only
             (tree_of self.now pattern.now)) patterns.now) }
     {
-        let alloc = self.alloc();
-        let mut measurer = Measurer::new(MeasureSettings {
+        let mut measurer = Measurer::new(Settings {
             grok: self,
-            alloc,
             with_alias_only,
         });
-        let mut measures = Vec::new(alloc);
+        let mut measures = Vec::new(self.alloc());
         'patterns: for &pattern in patterns {
             let measure = measurer.measure_next(pattern)?;
             measures.push(measure)?;
@@ -106,7 +108,11 @@ impl Grok {
         ensures { IfOk result
             (λ r. IsCountedMeasure self.now with_alias_only pattern.now r.0 r.1) }
     {
-        let found = self.measure_fully(pattern, with_alias_only)?;
-        Ok((found.measure, found.looks))
+        let settings = Settings {
+            grok: self,
+            with_alias_only,
+        };
+        let found = FullMeasure::of_pattern(settings, pattern)?;
+        Ok((found.measure, found.looks()))
     }
 }

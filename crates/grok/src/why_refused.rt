@@ -4,6 +4,7 @@ ghost use Rattle.regex.specs.declared.error.Error.TheVariants.{Internal, OutOfMe
 ghost use Rattle.grok.specs.Refusals.{regex_error_of, IsRegexText, IsReasonFor};
 
 use regex::Regex;
+use regex_syntax::ErrorKind;
 use std::alloc::{AllocError, Global};
 
 /// Why `regex` refuses a text.
@@ -14,6 +15,19 @@ pub enum RefusalReason {
     Syntax(regex_syntax::Error),
     /// The compiled regex would be larger than the 10 MiB that `regex` allows.
     TooBig,
+}
+
+impl RefusalReason {
+    /// Returns whether a group isn't closed, or a `)` closes none.
+    pub(crate) fn is_of_brackets(self) -> bool {
+        matches!(
+            self,
+            RefusalReason::Syntax(regex_syntax::Error {
+                kind: ErrorKind::GroupUnclosed | ErrorKind::GroupUnopened,
+                ..
+            })
+        )
+    }
 }
 
 /// Returns the reason that this error of `regex` gives.

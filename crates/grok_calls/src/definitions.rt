@@ -38,6 +38,7 @@ fn call_on_library(rt: &HostRuntime, name: &str, grok: &Grok) -> Result<()> {
     match name {
         "names" => twice(rt, || first_names(grok)),
         "definition" => twice(rt, || (grok.definition("B"), grok.definition("NEW"))),
+        "definitions_of" => twice(rt, || grok.definitions_of("%{A:x}%{NEW}%{C=c}%{C}")),
         "clone" => twice(rt, || grok.clone()),
         _ => bail!("no call has this name"),
     }

@@ -2,7 +2,7 @@
 //! worked by hand, so a definition that means another place than people do would fail them.
 
 use crate::libraries::{add_chain, add_doublings};
-use grok::{Clash, Diagnosis, Grok, Location, RefusalReason, Refused};
+use grok::{Clash, Diagnosis, Grok, Location, PathStep, RefusalReason, Refused};
 use std::alloc::{AllocError, Global};
 use std::process::Abort;
 use std::test::Fail;
@@ -188,7 +188,19 @@ const REFUSED: &[Row] = &[
         name: "a group of a definition that the closing bracket closes",
         definitions: &[("A", "a(b")],
         pattern: "x%{A:key}",
-        expected: "x(?<_n_0>a(b) has GroupUnclosed, at 1..9 of x%{A:key}",
+        expected: "a(b has GroupUnclosed, at A 1..9 > 1..2 of a(b",
+    },
+    Row {
+        name: "a group that isn't closed, in a definition of a definition",
+        definitions: &[("A", "x%{C}%{B}"), ("B", "y%{C}("), ("C", "c")],
+        pattern: "%{C}%{A}",
+        expected: "y(?:c)( has GroupUnclosed, at A 4..8 > B 5..9 > 5..6 of y%{C}(",
+    },
+    Row {
+        name: "a group that isn't closed, in the pattern, whose definitions are right",
+        definitions: &[("A", "a")],
+        pattern: "(%{A:key}",
+        expected: "((?<_n_0>a) has GroupUnclosed, at 0..1 of (%{A:key}",
     },
     Row {
         name: "a repetition of nothing, in a definition",
@@ -218,13 +230,13 @@ const REFUSED: &[Row] = &[
         name: "a class that isn't closed takes the closing bracket",
         definitions: &[("A", "[a")],
         pattern: "%{A}]b",
-        expected: "(?:[a)]b has GroupUnclosed, at 0..4 of %{A}]b",
+        expected: "[a has ClassUnclosed, at A 0..4 > 0..1 of [a",
     },
     Row {
         name: "a backslash at the end of a definition takes the closing bracket",
         definitions: &[("A", r"a\")],
         pattern: "%{A}",
-        expected: r"(?:a\) has GroupUnclosed, at 0..4 of %{A}",
+        expected: r"a\ has EscapeUnexpectedEof, at A 0..4 > 1..2 of a\",
     },
     Row {
         name: "a range of a class in the wrong order",
@@ -281,13 +293,19 @@ const OTHERS: &[Row] = &[
     },
 ];
 
-/// Describes a location by the placeholders that lead to it, its byte range and its text.
-fn describe_location(alloc: Global, location: &Location<'_>) -> Result<String, AllocError> {
+/// Describes the placeholders that lead to a text.
+fn describe_path(alloc: Global, path: &[PathStep<'_>]) -> Result<String, AllocError> {
     let mut shown = String::new(alloc);
-    for step in &location.path {
+    for step in path {
         let words = format!(in alloc; "{} {:?} > ", step.name, step.range)?;
         shown.push_str(words.as_str())?;
     }
+    Ok(shown)
+}
+
+/// Describes a location by the placeholders that lead to it, its byte range and its text.
+fn describe_location(alloc: Global, location: &Location<'_>) -> Result<String, AllocError> {
+    let mut shown = describe_path(alloc, &location.path)?;
     let words = format!(in alloc; "{:?} of {}", location.range, location.text)?;
     shown.push_str(words.as_str())?;
     Ok(shown)
@@ -321,8 +339,9 @@ fn describe_refusal(alloc: Global, refused: &Refused<'_>) -> Result<String, Allo
             format!(in alloc; "{text} has {:?} at its end", error.kind)
         }
         (RefusalReason::Syntax(error), Some(location)) => {
+            let path = describe_path(alloc, &refused.path)?;
             let place = describe_location(alloc, location)?;
-            format!(in alloc; "{text} has {:?}, at {place}", error.kind)
+            format!(in alloc; "{text} has {:?}, at {path}{place}", error.kind)
         }
     }
 }

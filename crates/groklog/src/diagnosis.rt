@@ -3,7 +3,6 @@
 use crate::excerpt::add_excerpt;
 use crate::library::Library;
 use crate::pattern_text::{PatternText, ordinal};
-use crate::placeholder_definitions::definitions_in;
 use grok::{
     Clash, Diagnosis, Grok, Location, MAX_NESTING, MalformedReason, PathStep, RefusalReason,
     Refused,
@@ -251,119 +250,27 @@ fn advice_for_refusal(alloc: Global, text: &str) -> Result<&'static str, AllocEr
     })
 }
 
-/// An error of syntax for which the engine refuses a text.
-#[derive(Drop)]
-struct SyntaxFault<'a> {
+/// Returns the report of a part of a pattern that the engine refuses because of its syntax.
+fn syntax_report(
+    alloc: Global,
+    library: &Library<'_>,
+    pattern: &PatternText,
+    refused: Refused<'_>,
     kind: ErrorKind,
-    /// What the engine reports, or the whole text if it reports the end.
-    location: Location<'a>,
-}
-
-/// Returns the error of syntax for which the engine refuses `text`, or `None` if the text is too
-/// large for it.
-fn syntax_fault<'a>(alloc: Global, text: &'a str, refused: Refused<'a>) -> Option<SyntaxFault<'a>> {
-    let Refused {
-        reason,
-        location,
-        ..
-    } = refused;
-    let RefusalReason::Syntax(error) = reason else {
-        return None;
-    };
-    let location = match location {
-        Some(location) => location,
-        None => Location {
-            path: Vec::new(alloc),
-            text,
-            range: 0..text.len(),
-        },
-    };
-    Some(SyntaxFault {
-        kind: error.kind,
-        location,
-    })
-}
-
-/// A definition that the engine refuses even as a pattern of its own.
-#[derive(Drop)]
-struct RefusedDefinition<'a> {
-    name: &'a str,
-    text: &'a str,
-    fault: SyntaxFault<'a>,
-}
-
-/// Returns the error of syntax for which the engine refuses a definition as a pattern of its own, or
-/// `None` if it doesn't refuse it, or for another reason.
-fn fault_alone<'x>(
-    alloc: Global,
-    library: &'x Library<'_>,
-    definition: &'x str,
-    with_alias_only: bool,
-) -> Result<Option<SyntaxFault<'x>>, AllocError> {
-    match library.grok.diagnose(definition, with_alias_only)? {
-        Some(Diagnosis::Refused(refused)) => Ok(syntax_fault(alloc, definition, refused)),
-        _ => Ok(None),
-    }
-}
-
-/// Returns the first definition that a placeholder of this text has and that the engine refuses
-/// alone because of its syntax, or `None` if there is none.
-fn first_refused<'x>(
-    alloc: Global,
-    library: &'x Library<'_>,
-    text: &'x str,
-    with_alias_only: bool,
-) -> Result<Option<RefusedDefinition<'x>>, AllocError> {
-    for (name, definition) in &definitions_in(alloc, library, text)? {
-        if let Some(fault) = fault_alone(alloc, library, definition, with_alias_only)? {
-            return Ok(Some(RefusedDefinition {
-                name,
-                text: definition,
-                fault,
-            }));
-        }
-    }
-    Ok(None)
-}
-
-/// Returns whether an error is that a group isn't closed, or a `)` closes none.
-fn is_of_brackets(kind: ErrorKind) -> bool {
-    matches!(kind, ErrorKind::GroupUnclosed | ErrorKind::GroupUnopened)
-}
-
-/// Returns the report of a pattern that the engine refuses because of its syntax.
-///
-/// If brackets don't match and a definition alone is refused, the fault is in there, though the
-/// engine may report another part of the pattern: if a definition has a `(` too many, the `)` of its
-/// placeholder's group closes it, and the group that isn't closed is one further out.
-fn syntax_report<'x>(
-    alloc: Global,
-    library: &'x Library<'_>,
-    pattern: &'x PatternText,
-    with_alias_only: bool,
-    fault: SyntaxFault<'x>,
 ) -> Result<Report, AllocError> {
     let mut names = Vec::new(alloc);
-    let mut text = pattern.text.as_str();
-    let mut fault = fault;
-    for _ in 0..MAX_NESTING {
-        if !is_of_brackets(fault.kind) {
-            break;
+    push_names(&mut names, refused.path.as_slice())?;
+    let (text, range) = match refused.location {
+        Some(location) => {
+            push_names(&mut names, location.path.as_slice())?;
+            (location.text, location.range)
         }
-        let Some(refused) = first_refused(alloc, library, text, with_alias_only)? else {
-            break;
-        };
-        names.push(refused.name)?;
-        text = refused.text;
-        fault = refused.fault;
-    }
-    let SyntaxFault { kind, location } = fault;
-    push_names(&mut names, location.path.as_slice())?;
+        None => (refused.part, 0..refused.part.len()),
+    };
     let what = format!(in alloc; "the engine refuses this: {}", kind.message())?;
-    let advice = advice_for_refusal(alloc, location.text)?;
+    let advice = advice_for_refusal(alloc, text)?;
     let mut report = Report::new(alloc, what.as_str(), advice)?;
     let words = describe_location(alloc, library, pattern, names.as_slice())?;
-    let Location { text, range, .. } = location;
     add_excerpt(alloc, &mut report, words.as_str(), text, range)?;
     Ok(report)
 }
@@ -379,16 +286,17 @@ fn too_large_report(alloc: Global, pattern: &PatternText) -> Result<Report, Allo
 }
 
 /// Returns the report of a pattern whose expanded text the engine refuses.
-fn refusal_report<'x>(
+fn refusal_report(
     alloc: Global,
-    library: &'x Library<'_>,
-    pattern: &'x PatternText,
-    with_alias_only: bool,
-    refused: Refused<'x>,
+    library: &Library<'_>,
+    pattern: &PatternText,
+    refused: Refused<'_>,
 ) -> Result<Report, AllocError> {
-    match syntax_fault(alloc, pattern.text.as_str(), refused) {
-        Some(fault) => syntax_report(alloc, library, pattern, with_alias_only, fault),
-        None => too_large_report(alloc, pattern),
+    match refused.reason {
+        RefusalReason::Syntax(error) => {
+            syntax_report(alloc, library, pattern, refused, error.kind)
+        }
+        RefusalReason::TooBig => too_large_report(alloc, pattern),
     }
 }
 
@@ -428,7 +336,7 @@ pub fn report_of(
         }
         Some(Diagnosis::Clash(clash)) => return clash_report(alloc, library, pattern, &clash),
         Some(Diagnosis::Refused(refused)) => {
-            return refusal_report(alloc, library, pattern, with_alias_only, refused);
+            return refusal_report(alloc, library, pattern, refused);
         }
     };
     add_location(alloc, library, pattern, &mut report, &location)?;

@@ -2,7 +2,6 @@
 
 use crate::library::Library;
 use crate::pattern_text::PatternText;
-use crate::placeholder_definitions::definitions_in;
 use grok::{Pattern, WrittenByte};
 use std::alloc::{AllocError, Global};
 
@@ -54,7 +53,7 @@ fn title_of(
         let (start, end) = (location.range.start, location.range.end);
         let placeholder = location.text.get(start..end).unwrap_or("");
         let upto = location.text.get(..end).unwrap_or("");
-        if let Some((name, definition)) = definitions_in(alloc, library, upto)?.as_slice().last() {
+        if let Some((name, definition)) = library.grok.definitions_of(upto)?.as_slice().last() {
             let definition = shortened(alloc, definition)?;
             return format!(in alloc; "{key}: {placeholder}, where {name}={definition}");
         }

@@ -22,7 +22,6 @@ mod options;
 mod page;
 mod page_html;
 mod pattern_text;
-mod placeholder_definitions;
 mod plans;
 mod run;
 mod show;

@@ -1,10 +1,11 @@
 -- The key assigner gives each capturing placeholder its key, one event after another.
-use Rattle.std.proofs.Common.{◌≡◌, ℕ, ◌+◌, ◌<◌, ◌^◌, Bool, cond, List, [], ◌∷◌, ◌++◌, length, map, Some, sym, ◌∙◌, ap, arith, ◌&&◌}
+use Rattle.std.proofs.Common.{◌≡◌, ℕ, ◌+◌, ◌<◌, ◌^◌, Bool, cond, List, [], ◌∷◌, ◌++◌, length, map, Some, sym, ◌∙◌, ap, arith, length-append, ◌&&◌}
 use Rattle.std.specs.Prelude.{not, unwrap_or}
 use Rattle.std.specs.Option.{option_map}
 use Rattle.std.specs.Str.{bytes_eq}
 use Rattle.std.specs.String.{string_bytes}
 use Rattle.std.specs.BTreeMap.{get_by_text}
+use Rattle.std.proofs.lemmas.List.{length-map}
 use Rattle.std.proofs.lemmas.List.Sums.{count_by-le-length}
 use Rattle.grok.specs.Tree.{is_absent, Label, Event}
 use Rattle.grok.specs.Keys.{base_key, numbered, how_often, key_after, capturing}
@@ -37,10 +38,18 @@ module _ (before : List Label) (label : Label) (old : KeyAssigner) (shows : HasA
         ∙ ap (λ k. cond (bytes_eq k key && not (is_absent label.extract)) (Some label.extract) (extract_before before key)) is;
   }
 
+length_in_order : (before : List Label) → length (in_order before) ≡ length before
+length_in_order [] = omega arith
+length_in_order (label ∷ before) = omega (arith, length_in_order before, length-append (in_order before) (key_after before label ∷ []))
+
+-- each placeholder has a key
+pub keys_counted : (assigner : KeyAssigner) (before : List Label) → HasAssigned assigner before → length assigner.keys.items ≡ length before
+keys_counted assigner before shows = omega (arith, length-map assigner.keys.items key_text, ap length shows.keys, length_in_order before)
+
 -- the uses of a base key are no more than the placeholders
-pub can_count : (assigner : KeyAssigner) (base : List ℕ) (count : ℕ) → CanAssign assigner 1 → count ≡ unwrap_or (get_by_text assigner.uses base) 0 → count + 1 < 2 ^ 64
+pub can_count : (assigner : KeyAssigner) (base : List ℕ) (count : ℕ) → CanAssign assigner → count ≡ unwrap_or (get_by_text assigner.uses base) 0 → count + 1 < 2 ^ 64
 can_count assigner base count can counted =
-    omega (arith, counted, can.shows.uses base, can.fits, count_by-le-length (λ earlier. bytes_eq (base_key earlier) base) can.before)
+    omega (arith, counted, can.shows.uses base, keys_counted assigner can.before can.shows, assigner.keys.ok.0, assigner.keys.ok.1, assigner.keys.small, count_by-le-length (λ earlier. bytes_eq (base_key earlier) base) can.before)
 
 -- ---- a whole tree
 

@@ -20,7 +20,7 @@ use Rattle.grok.specs.steps.KnownParts.{resolve, opened_events, used_keys, own_k
 use Rattle.grok.specs.declared.defs.items.Item as code
 use Rattle.grok.specs.declared.expand.rows.Row.{Row}
 use Rattle.grok.specs.declared.expand.rows.Row.TheVariants.{Use, Part}
-use Rattle.grok.specs.declared.expand.known_parts.CompileSettings.{CompileSettings}
+use Rattle.grok.specs.declared.settings.Settings.{Settings}
 use Rattle.grok.specs.declared.expand.known_parts.KnownItems.{KnownItems}
 use Rattle.grok.specs.declared.expand.known_parts.ReadText.{ReadText}
 use Rattle.grok.specs.declared.expand.known_parts.KnownPart.{KnownPart}
@@ -48,7 +48,7 @@ adds_part done old new index is within = record {
   below = λ low. subst (AreBelow (length done)) (sym is) (below-append (length done) old (Part index ∷ []) low (within, tt));
 }
 
-pub adds_use : (settings : CompileSettings) (done : List (List (List ℕ))) (label : Label) (old new : List Row) (key : Bor (List ℕ)) → is_capturing settings.with_alias_only label ≡ true → key.now ≡ base_key label → new ≡ old ++ Use key ∷ [] → AddKeys done old new (own_keys settings label)
+pub adds_use : (settings : Settings) (done : List (List (List ℕ))) (label : Label) (old new : List Row) (key : Bor (List ℕ)) → is_capturing settings.with_alias_only label ≡ true → key.now ≡ base_key label → new ≡ old ++ Use key ∷ [] → AddKeys done old new (own_keys settings label)
 adds_use settings done label old new key captures is added =
     let own : own_keys settings label ≡ base_key label ∷ [] = ap (λ b. cond b (base_key label ∷ []) []) captures in
     subst (AddKeys done old new) (sym own) (record {
@@ -56,12 +56,12 @@ adds_use settings done label old new key captures is added =
       below = λ low. subst (AreBelow (length done)) (sym added) (below-append (length done) old (Use key ∷ []) low tt);
     })
 
-pub adds_no_use : (settings : CompileSettings) (done : List (List (List ℕ))) (label : Label) (rows : List Row) → is_capturing settings.with_alias_only label ≡ false → AddKeys done rows rows (own_keys settings label)
+pub adds_no_use : (settings : Settings) (done : List (List (List ℕ))) (label : Label) (rows : List Row) → is_capturing settings.with_alias_only label ≡ false → AddKeys done rows rows (own_keys settings label)
 adds_no_use settings done label rows not_capturing = subst (AddKeys done rows rows) (sym (ap (λ b. cond b (base_key label ∷ []) []) not_capturing)) (adds_none done rows)
 
 -- ---- the keys of events
 
-module _ (settings : CompileSettings) where
+module _ (settings : Settings) where
   pub used-append : (xs ys : List Event) → used_keys settings (xs ++ ys) ≡ used_keys settings xs ++ used_keys settings ys
   used-append xs ys =
       ap (map base_key) (capturing-append settings.with_alias_only xs ys)
@@ -211,7 +211,7 @@ none_left (Some x) b answer is = absurd (true≢false (answer ∙ ap not is))
 
 -- ---- one name more
 
-pub nothing_known : (settings : CompileSettings) (parts : KnownParts) → parts.rows.items ≡ [] → IsEmpty parts.by_name → AreKnown settings parts
+pub nothing_known : (settings : Settings) (parts : KnownParts) → parts.rows.items ≡ [] → IsEmpty parts.by_name → AreKnown settings parts
 nothing_known settings parts none empty = record {
   done = [];
   are_keys = subst (λ ps. AreKeysOfParts ps []) (sym none)
@@ -219,7 +219,7 @@ nothing_known settings parts none empty = record {
   known = λ name text part at defines. absurd (none-some part (sym (ap (lookup (is_at (λ (key : Bor (List ℕ)). slice_cmp nat_cmp name key.now))) empty) ∙ at));
 }
 
-part_stays : (settings : CompileSettings) (done more : List (List (List ℕ))) (text : List ℕ) (part : KnownPart) → IsKnownPartOf settings done text part → IsKnownPartOf settings (done ++ more) text part
+part_stays : (settings : Settings) (done more : List (List (List ℕ))) (text : List ℕ) (part : KnownPart) → IsKnownPartOf settings done text part → IsKnownPartOf settings (done ++ more) text part
 part_stays settings done more text part f = record {
   within = omega (arith, f.within, length-append done more);
   items = f.items;
@@ -228,7 +228,7 @@ part_stays settings done more text part f = record {
 }
 
 -- the last part
-part_of_read : (settings : CompileSettings) (done : List (List (List ℕ))) (text : List ℕ) (found : ReadText) (part : KnownPart) → IsReadOf settings done text found
+part_of_read : (settings : Settings) (done : List (List (List ℕ))) (text : List ℕ) (found : ReadText) (part : KnownPart) → IsReadOf settings done text found
     → part.index ≡ length done → part.height ≡ found.known.height → part.stop ≡ found.stop → part.read ≡ found.read → IsKnownPartOf settings (done ++ flat done found.known.rows.items ∷ []) text part
 part_of_read settings done text found part r last height stop read = record {
   within = omega (arith, length-append done (flat done found.known.rows.items ∷ []), last);
@@ -238,7 +238,7 @@ part_of_read settings done text found part r last height stop read = record {
       (subst (λ n. AreKnownItems settings r.items n (flat done found.known.rows.items)) (sym height) r.is_known.are_known);
 }
 
-pub name_known : (settings : CompileSettings) (old new : KnownParts) (name text : List ℕ) (found : ReadText) (part : KnownPart) → (known : AreKnown settings old) → finite.get settings.grok.now name ≡ Some text
+pub name_known : (settings : Settings) (old new : KnownParts) (name text : List ℕ) (found : ReadText) (part : KnownPart) → (known : AreKnown settings old) → finite.get settings.grok.now name ≡ Some text
     → IsReadOf settings known.done text found → part.index ≡ length old.rows.items → part.height ≡ found.known.height → part.stop ≡ found.stop → part.read ≡ found.read → new.rows.items ≡ old.rows.items ++ found.known.rows ∷ []
     → ((other : List ℕ) → known_part_of new.by_name other ≡ cond (bytes_eq name other) (Some part) (known_part_of old.by_name other)) → AreKnown settings new
 name_known settings old new name text found part known defined r last height stop read rows updates =

@@ -3,7 +3,6 @@
 use Rattle.std.proofs.Common.{◌≡◌, ℕ, ◌+◌, ◌-◌, ◌<◌, ◌≤◌, List, [], ◌∷◌, ◌++◌, length, drop, Some, None, Result, Ok, Err, IfOk, refl, sym, ◌∙◌, ap, subst, arith, append_assoc, append-nil, length-append}
 use Rattle.std.specs.FinMap as finite
 use Rattle.grok.specs.Tree.{Fault, TooDeep, Label, Meaning, meaning_text, Item, FaultItem, PlaceholderItem, Event, Text, Open, Close, FaultEvent, events, deepest, tree, first_structural, reached}
-use Rattle.grok.specs.steps.Events.{events_left}
 use Rattle.grok.specs.Items.{item_view}
 use Rattle.grok.specs.steps.Rows.{part_keys, flat, AreBelow}
 use Rattle.grok.specs.steps.KnownParts.{resolve, opened_events, used_keys, own_keys, AddKeys, HaveKeys, IsKnownText, IsSoundItem, IsCutAt, IsKnownPartOf, AreKnown}
@@ -11,12 +10,12 @@ use Rattle.grok.specs.steps.RowReading.{ArePassed, HaveFault, events_inside, Ent
 use Rattle.grok.specs.declared.defs.items.Item as code
 use Rattle.grok.specs.declared.expand.rows.Row.{Row}
 use Rattle.grok.specs.declared.expand.rows.Row.TheVariants.{Part}
-use Rattle.grok.specs.declared.expand.known_parts.CompileSettings.{CompileSettings}
+use Rattle.grok.specs.declared.settings.Settings.{Settings}
 use Rattle.grok.specs.declared.expand.known_parts.KnownPart.{KnownPart}
 use Rattle.grok.specs.declared.expand.known_parts.KnownParts.{KnownParts}
 use Rattle.grok.specs.declared.expand.read_rows.ReadStep.{ReadStep}
 use Rattle.grok.specs.declared.expand.read_rows.ReadStep.TheVariants.{Skip, Enter, Stop}
-use Rattle.grok.proofs.Trees.EventsOnStack.{left_item, left_items, some_event, left_step, left_open, left_close}
+use Rattle.grok.proofs.Trees.EventsOnStack.{events_left, left_item, left_items, some_event, left_enter, left_close}
 use Rattle.grok.proofs.Sizes.SizeIsThatOfTree.{or_else, first_structural-append}
 use Rattle.grok.proofs.Sizes.TextsWithoutPlaceholders.{AreSound, sound_rest}
 use Rattle.grok.proofs.Sizes.ItemsAreSound.{sound_texts}
@@ -45,7 +44,7 @@ reached_before (Open label meaning ∷ xs) ys fault some = ap (λ es. Open label
 reached_before (Close ∷ xs) ys fault some = ap (λ es. Close ∷ es) (reached_before xs ys fault some)
 reached_before (FaultEvent f ∷ xs) ys fault some = refl
 
-module _ (settings : CompileSettings) (done : List (List (List ℕ))) where
+module _ (settings : Settings) (done : List (List (List ℕ))) where
   -- ---- one list of events after the other
 
   pub passed_none : (rows : List Row) → ArePassed settings done [] rows rows
@@ -136,7 +135,7 @@ module _ (settings : CompileSettings) (done : List (List (List ℕ))) where
       subst (λ i. HaveFault settings done (events (opened_events settings levels) (i ∷ [])) rows rows) (sym is) (record { fault = fault; is = refl; adds = adds_none done rows })
 
 -- the step at a placeholder, by what opening it returned
-pub steps_if_ok : {E : Type 0} (settings : CompileSettings) (parts : KnownParts) (levels : ℕ) (item : Item) (label : Label) (meaning : Meaning) (old mid new : List Row) (r : Result ReadStep E) → item ≡ PlaceholderItem label meaning
+pub steps_if_ok : {E : Type 0} (settings : Settings) (parts : KnownParts) (levels : ℕ) (item : Item) (label : Label) (meaning : Meaning) (old mid new : List Row) (r : Result ReadStep E) → item ≡ PlaceholderItem label meaning
     → ((done : List (List (List ℕ))) → AddKeys done old mid (own_keys settings label))
     → IfOk r (λ step. IsSoundItem settings (PlaceholderItem label meaning) → (known : AreKnown settings parts) → StepsAtText settings known.done levels (meaning_text meaning) mid new step)
     → IfOk r (λ step. IsSoundItem settings item → (known : AreKnown settings parts) → StepsAtItem settings known.done levels item old new step)
@@ -147,35 +146,35 @@ steps_if_ok settings parts levels item label meaning old mid new (Ok step) is ow
 -- ---- the whole pattern
 
 -- the events that are left of open texts
-abbrev pub left_of : CompileSettings → List (List Item) → List Item → List Event
-left_of settings around items = events_left (resolve settings) deepest around None items
+abbrev pub left_of : Settings → List (List Item) → List Item → List Event
+left_of settings around items = events_left (resolve settings) deepest around items
 
-abbrev pub AreAllSound : CompileSettings → List (List Item) → Type 0
+abbrev pub AreAllSound : Settings → List (List Item) → Type 0
 AreAllSound settings [] = Unit {0}
 AreAllSound settings (items ∷ around) = AreSound (resolve settings) (finite.get settings.grok.now) items × AreAllSound settings around
 
-all_sound-push : (settings : CompileSettings) (around : List (List Item)) (items : List Item) → AreAllSound settings around → AreSound (resolve settings) (finite.get settings.grok.now) items → AreAllSound settings (around ++ items ∷ [])
+all_sound-push : (settings : Settings) (around : List (List Item)) (items : List Item) → AreAllSound settings around → AreSound (resolve settings) (finite.get settings.grok.now) items → AreAllSound settings (around ++ items ∷ [])
 all_sound-push settings [] items sound own = (own, tt)
 all_sound-push settings (outer ∷ around) items sound own = (sound.0, all_sound-push settings around items sound.1 own)
 
-all_sound-pop : (settings : CompileSettings) (around : List (List Item)) (items : List Item) → AreAllSound settings (around ++ items ∷ []) → AreSound (resolve settings) (finite.get settings.grok.now) items × AreAllSound settings around
+all_sound-pop : (settings : Settings) (around : List (List Item)) (items : List Item) → AreAllSound settings (around ++ items ∷ []) → AreSound (resolve settings) (finite.get settings.grok.now) items × AreAllSound settings around
 all_sound-pop settings [] items sound = (sound.0, tt)
 all_sound-pop settings (outer ∷ around) items sound = let more = all_sound-pop settings around items sound.1 in (more.0, (sound.0, more.1))
 
-sound_after_front : (settings : CompileSettings) (front rest : List Item) → AreSound (resolve settings) (finite.get settings.grok.now) (front ++ rest) → AreSound (resolve settings) (finite.get settings.grok.now) rest
+sound_after_front : (settings : Settings) (front rest : List Item) → AreSound (resolve settings) (finite.get settings.grok.now) (front ++ rest) → AreSound (resolve settings) (finite.get settings.grok.now) rest
 sound_after_front settings [] rest sound = sound
 sound_after_front settings (item ∷ front) rest sound = sound_after_front settings front rest (sound_rest (resolve settings) (finite.get settings.grok.now) item (front ++ rest) sound)
 
 -- What is true while a pattern is read. In `around` are the items that remain of each open text, and in `items` those
 -- of the innermost one. `all` has the events of the whole tree.
-pub record IsReading (settings : CompileSettings) (done : List (List (List ℕ))) (all : List Event) (around : List (List Item)) (items : List Item) (rows : List Row) : Type 0 where
+pub record IsReading (settings : Settings) (done : List (List (List ℕ))) (all : List Event) (around : List (List Item)) (items : List Item) (rows : List Row) : Type 0 where
   pub sound : AreSound (resolve settings) (finite.get settings.grok.now) items
   pub all_sound : AreAllSound settings around
   pub read : List Event
   pub cut : all ≡ read ++ left_of settings around items
   pub passed : ArePassed settings done read [] rows
 
-module _ (settings : CompileSettings) (done : List (List (List ℕ))) (all : List Event) where
+module _ (settings : Settings) (done : List (List (List ℕ))) (all : List Event) where
   pub reading_starts : (text : List ℕ) (around : List (List Item)) (items : List Item) (rows : List Row) → around ≡ [] → items ≡ resolve settings text → all ≡ left_of settings [] (resolve settings text) → rows ≡ [] → IsReading settings done all around items rows
   reading_starts text around items rows none is whole no_rows = record {
     sound = subst (AreSound (resolve settings) (finite.get settings.grok.now)) (sym is) ((sound_texts (finite.get settings.grok.now)).sound text);
@@ -247,9 +246,8 @@ module _ (settings : CompileSettings) (done : List (List (List ℕ))) (all : Lis
             let long : length (around ++ rest ∷ []) ≡ length around + 1 = length-append around (rest ∷ []) in
             let same : deepest - length (around ++ rest ∷ []) ≡ deepest - length around - 1 = omega (arith, long) in
             ap (λ items. left_of settings around items) (cut ∙ ap (λ i. i ∷ rest) e.is)
-            ∙ left_step (resolve settings) deepest around (PlaceholderItem e.label e.meaning ∷ rest) rest (Some e.meaning) (Open e.label e.meaning) (λ n. refl)
-            ∙ ap (λ es. Open e.label e.meaning ∷ es) (left_open (resolve settings) deepest around rest e.meaning (omega (arith, e.room))
-            ∙ ap (λ items. left_of settings (around ++ rest ∷ []) items) e.cut
+            ∙ left_enter (resolve settings) deepest around e.label e.meaning rest (omega (arith, e.room))
+            ∙ ap (λ es. Open e.label e.meaning ∷ es) (ap (λ items. left_of settings (around ++ rest ∷ []) items) e.cut
             ∙ left_items (resolve settings) deepest (around ++ rest ∷ []) e.skipped inner
             ∙ ap (λ n. events (opened_events settings n) e.skipped ++ left_of settings (around ++ rest ∷ []) inner) same
             ∙ ap (λ around'. events_inside settings (deepest - length around) e.skipped ++ left_of settings around' inner) (sym is))
@@ -277,6 +275,6 @@ module _ (settings : CompileSettings) (done : List (List (List ℕ))) (all : Lis
     all_below = w.passed.adds.below tt
 
 -- the events that are left at the start are those of the tree
-pub whole_tree : (settings : CompileSettings) (pattern : List ℕ) → left_of settings [] (resolve settings pattern) ≡ tree (finite.get settings.grok.now) pattern
+pub whole_tree : (settings : Settings) (pattern : List ℕ) → left_of settings [] (resolve settings pattern) ≡ tree (finite.get settings.grok.now) pattern
 unfolding tree
 whole_tree settings pattern = refl

@@ -17,7 +17,7 @@ use Rattle.grok.specs.steps.KnownParts.{resolve, opened_events, used_keys, IsKno
 use Rattle.grok.specs.steps.UseSearches.{CanSearch, HasPassedUses, IsSoughtUse, IsUseAt}
 use Rattle.grok.specs.declared.location.Location.{Location}
 use Rattle.grok.specs.declared.expand.uses.Uses.{Uses}
-use Rattle.grok.specs.declared.expand.known_parts.CompileSettings.{CompileSettings}
+use Rattle.grok.specs.declared.settings.Settings.{Settings}
 use Rattle.grok.specs.declared.expand.known_parts.KnownPart.{KnownPart}
 use Rattle.grok.specs.declared.locate_clash.UseSearch.{UseSearch}
 use Rattle.grok.proofs.Texts.EqualBytesAreSameText.{same_text}
@@ -46,7 +46,7 @@ pub passes_more : (old new : UseSearch) (es : List Event) → new.settings ≡ o
     → how_often (capturing old.settings.with_alias_only es) old.base.now + new.left ≡ old.left → PassesMore HasPassedUses old es new
 passes_more old new es settings base fewer start before p =
     let more : how_often (capturing start.settings.with_alias_only es) start.base.now + new.left ≡ old.left =
-    subst (λ (settings : CompileSettings). how_often (capturing settings.with_alias_only es) start.base.now + new.left ≡ old.left) p.settings
+    subst (λ (settings : Settings). how_often (capturing settings.with_alias_only es) start.base.now + new.left ≡ old.left) p.settings
     (subst (λ (base : Bor (List ℕ)). how_often (capturing old.settings.with_alias_only es) base.now + new.left ≡ old.left) p.base fewer) in
     record {
       settings = settings ∙ p.settings;
@@ -81,7 +81,7 @@ is_sought false c left low = absurd (omega (arith, low))
 pub stops_at_use : (old : UseSearch) (label : Label) (meaning : Meaning) → old.left < own_uses old.settings.with_alias_only label old.base.now → StopsAt HasPassedUses IsSoughtUse old (Open label meaning)
 stops_at_use old label meaning low start before p =
     let (captures, asks, none) = is_sought (is_capturing old.settings.with_alias_only label) (bytes_eq (base_key label) old.base.now) old.left low in (
-      subst (λ (settings : CompileSettings). is_capturing settings.with_alias_only label ≡ true) p.settings captures,
+      subst (λ (settings : Settings). is_capturing settings.with_alias_only label ≡ true) p.settings captures,
       same_text (base_key label) old.base.now asks ∙ ap (λ (base : Bor (List ℕ)). base.now) p.base,
       omega (arith, p.fewer, none),
     )
@@ -92,12 +92,12 @@ goes_on search left fewer can = record { known = can.known; counted = can.counte
 
 -- ---- a known definition
 
-whole_text : (settings : CompileSettings) (done : List (List (List ℕ))) (text : List ℕ) (part : KnownPart) → (k : IsKnownPartOf settings done text part) → part.stop ≡ None → resolve settings text ≡ k.items
+whole_text : (settings : Settings) (done : List (List (List ℕ))) (text : List ℕ) (part : KnownPart) → (k : IsKnownPartOf settings done text part) → part.stop ≡ None → resolve settings text ≡ k.items
 whole_text settings done text part k whole =
     subst (λ o. MatchOption o (resolve settings text ≡ k.items) (λ item. resolve settings text ≡ k.items ++ item_view item ∷ drop part.read (resolve settings text))) whole k.cut
 
 -- its uses are those that were counted of its part, if they are fewer than a count can hold
-pub part_uses : (settings : CompileSettings) (done : List (List (List ℕ))) (text : List ℕ) (part : KnownPart) (levels : ℕ) (base : List ℕ) (counts : List Uses)
+pub part_uses : (settings : Settings) (done : List (List (List ℕ))) (text : List ℕ) (part : KnownPart) (levels : ℕ) (base : List ℕ) (counts : List Uses)
     → IsKnownPartOf settings done text part → part.stop ≡ None → part.height ≤ levels → AreCountsOf base done counts → (get_or counts part.index no_uses).times < 2 ^ 64 - 1
     → how_often (capturing settings.with_alias_only (events (opened_events settings levels) (resolve settings text))) base ≡ (get_or counts part.index no_uses).times
 part_uses settings done text part levels base counts k whole high counted low =

@@ -1,6 +1,6 @@
 -- When measuring stops, it has counted at most the pieces and ends that the pattern reaches, and exactly these if
 -- there is no structural fault, and it knows whether a reached alias ends in a number in brackets.
-use Rattle.std.proofs.Common.{◌≡◌, ℕ, ◌≤◌, Bool, false, List, [], length, Result, None, Bor, refl, sym, ◌∙◌, ap, arith}
+use Rattle.std.proofs.Common.{◌≡◌, ℕ, ◌≤◌, Bool, false, List, [], length, Result, None, Bor, refl, ◌∙◌, ap, arith}
 use Rattle.std.specs.Ordering.{nat_cmp}
 use Rattle.std.specs.Cmp.Lexicographic.{slice_cmp}
 use Rattle.std.specs.BTreeMap.{BTreeMap, is_at}
@@ -8,7 +8,6 @@ use Rattle.std.specs.Map.{lookup}
 use Rattle.std.specs.Option.{option_map}
 use Rattle.std.specs.FinMap as finite
 use Rattle.grok.specs.declared.measure.partial_size.Failure.{Failure}
-use Rattle.grok.specs.declared.measure.measurer.Frame.{Frame}
 use Rattle.grok.specs.declared.measure.partial_size.PartialSize.{PartialSize}
 use Rattle.grok.specs.declared.measure.cache.MeasureCache.{MeasureCache}
 use Rattle.grok.specs.declared.measure.cache.Progress.{Progress}
@@ -17,10 +16,9 @@ use Rattle.grok.specs.Tree.{Item, items_of, Event, deepest, tree, first_structur
 use Rattle.grok.specs.Keys.{has_numbered_alias}
 use Rattle.grok.specs.steps.MeasuredOnce.{Reading, items_within, nothing_measured, measure_within}
 use Rattle.grok.specs.Measured.{reached_pieces, reached_texts, saturated}
-use Rattle.grok.specs.steps.MeasureCache.{progress_view, ShowsState, StopsReading}
+use Rattle.grok.specs.steps.MeasureCache.{progress_view, ShowsState, AnswersReading}
 use Rattle.grok.proofs.Sizes.ItemsAreSound.{length-items_of, sound_texts}
 use Rattle.grok.proofs.Texts.EntriesAreTable.{table_of}
-use Rattle.grok.proofs.Sizes.MeasureLoopIsReading.{HasSameCounters, stopped_counters}
 use Rattle.grok.proofs.Sizes.ReadIsReached.{ReadsTree, reads_tree, table_weight}
 
 pub shows_nothing : (by_name : BTreeMap (Bor (List ℕ)) Progress) → by_name.entries ≡ []
@@ -49,26 +47,22 @@ module _ (texts : Texts) (alias_only : Bool) (pattern : List ℕ) where
   weight_same : table_weight (λ text. length (resolve text)) (finite.entries texts) pattern whole ≡ reached_pieces texts pattern
   weight_same = ap (λ (weight : List ℕ → ℕ). table_weight weight (finite.entries texts) pattern whole) (λ i text. length-items_of (finite.get texts) text i)
 
-  module _ (r : Result PartialSize Failure) (frames : List Frame) (cache : MeasureCache) (stops : StopsReading deepest r frames cache (items_within alias_only resolve deepest (resolve pattern) nothing_measured)) where
-    given : StopsReading deepest r frames cache answer
+  module _ (r : Result PartialSize Failure) (cache : MeasureCache) (read : AnswersReading r cache (items_within alias_only resolve deepest (resolve pattern) nothing_measured)) where
+    given : AnswersReading r cache answer
     unfolding measure_within
-    given = stops
-
-    -- what the calls report is what was counted at the end
-    counters : HasSameCounters answer.1 given.now
-    counters = stopped_counters deepest r frames cache answer given
+    given = read
 
     pub pieces_most : cache.looks.pieces ≤ saturated (reached_pieces texts pattern)
-    pieces_most = omega (arith, given.shows.pieces, counters.looks, theorem.looks, weight_same)
+    pieces_most = omega (arith, given.leaves.pieces, theorem.looks, weight_same)
 
     pub ends_most : cache.looks.ends ≤ saturated (reached_texts texts pattern)
-    ends_most = omega (arith, given.shows.ends, counters.ends, theorem.ends)
+    ends_most = omega (arith, given.leaves.ends, theorem.ends)
 
     pub pieces_all : first_structural whole ≡ None → cache.looks.pieces ≡ saturated (reached_pieces texts pattern)
-    pieces_all clean = given.shows.pieces ∙ ap saturated (sym counters.looks ∙ theorem.looks_exact clean ∙ weight_same)
+    pieces_all clean = given.leaves.pieces ∙ ap saturated (theorem.looks_exact clean ∙ weight_same)
 
     pub ends_all : first_structural whole ≡ None → cache.looks.ends ≡ saturated (reached_texts texts pattern)
-    ends_all clean = given.shows.ends ∙ ap saturated (sym counters.ends ∙ theorem.ends_exact clean)
+    ends_all clean = given.leaves.ends ∙ ap saturated (theorem.ends_exact clean)
 
     pub numbered_is : cache.has_numbered ≡ has_numbered_alias (reached whole)
-    numbered_is = given.shows.has_numbered ∙ sym counters.has_numbered ∙ theorem.has_numbered
+    numbered_is = given.leaves.has_numbered ∙ theorem.has_numbered

@@ -70,30 +70,6 @@ shown_err (Err g) f e = let same : f ≡ g = cc in ap Err (sym same)
 
 -- ---- faults
 
--- the counters, and whether an alias was read that ends in a number in brackets
-pub record HasSameCounters (st st' : State) : Type 0 where
-  pub looks : st.looks ≡ st'.looks
-  pub ends : st.ends ≡ st'.ends
-  pub has_numbered : st.has_numbered ≡ st'.has_numbered
-
--- the frames that a fault ends are not counted
-unwound_counters : (levels : ℕ) (frames : List Frame) (fault : Fault) (st : State) → HasSameCounters (unwound levels frames fault st) st
-unwound_counters levels [] fault st = record { looks = refl; ends = refl; has_numbered = refl }
-unwound_counters levels (frame ∷ frames) fault st =
-    let h = unwound_counters (levels - 1) frames fault st in
-    record { looks = h.looks; ends = h.ends; has_numbered = h.has_numbered }
-
-pub stopped_counters : (levels : ℕ) (r : Result PartialSize Failure) (frames : List Frame) (cache : MeasureCache) (answer : Reading) → (stops : StopsReading levels r frames cache answer) → HasSameCounters answer.1 stops.now
-stopped_counters levels (Ok sum) frames cache answer stops =
-    record { looks = ap (λ (st : State). st.looks) stops.leaves; ends = ap (λ (st : State). st.ends) stops.leaves; has_numbered = ap (λ (st : State). st.has_numbered) stops.leaves }
-stopped_counters levels (Err failure) frames cache answer stops =
-    let h = unwound_counters levels frames (fault_view failure.fault) stops.now in
-    record {
-      looks = ap (λ (st : State). st.looks) stops.leaves ∙ h.looks;
-      ends = ap (λ (st : State). st.ends) stops.leaves ∙ h.ends;
-      has_numbered = ap (λ (st : State). st.has_numbered) stops.leaves ∙ h.has_numbered;
-    }
-
 -- the innermost frame is unwound first
 pub unwound_push : (levels : ℕ) (frames : List Frame) (frame : Frame) (fault : Fault) (st : State)
     → unwound levels (frames ++ frame ∷ []) fault st ≡ unwound levels frames fault (unwound (levels - length frames) (frame ∷ []) fault st)

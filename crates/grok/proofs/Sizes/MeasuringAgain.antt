@@ -1,19 +1,16 @@
 -- What is remembered from earlier measurements changes no result, and stays right.
-use Rattle.std.proofs.Common.{◌≡◌, ℕ, Bool, List, length, Result, Some, Ok, Err, refl, sym, ◌∙◌, ap, subst, inl, inr}
-use Rattle.std.specs.Prelude.{MatchResult}
+use Rattle.std.proofs.Common.{◌≡◌, ℕ, Bool, List, length, Result, Some, Ok, Err, refl, sym, ◌∙◌, ap, inl, inr}
 use Rattle.std.specs.FinMap as finite
 use Rattle.grok.specs.declared.measure.partial_size.Failure.{Failure}
 use Rattle.grok.specs.declared.measure.partial_size.PartialSize.{PartialSize}
 use Rattle.grok.specs.declared.measure.cache.MeasureCache.{MeasureCache}
-use Rattle.grok.specs.declared.measure.measurer.Frame.{Frame}
 use Rattle.grok.specs.Maps.{Texts}
 use Rattle.grok.specs.Tree.{Fault, Item, items_of, deepest, tree}
 use Rattle.grok.specs.Expanded.{expanded, groups, nesting}
-use Rattle.grok.specs.Items.{fault_view}
 use Rattle.grok.specs.steps.Sizes.{Size, sizes, size_or_fault}
 use Rattle.grok.specs.steps.MeasuredOnce.{State, nothing_measured, items_within}
 use Rattle.grok.specs.Measured.{Measured, size_within, fault_or, measured_tree}
-use Rattle.grok.specs.steps.MeasureCache.{shown_result, result_view, measured_size, ShowsState, HasReach, unwound, StopsReading, IsCorrect, ShowsCorrectState}
+use Rattle.grok.specs.steps.MeasureCache.{shown_result, result_view, measured_size, ShowsState, AnswersReading, IsCorrect, ShowsCorrectState}
 use Rattle.grok.proofs.Sizes.SizeIsThatOfTree.{tree_sizes}
 use Rattle.grok.proofs.Sizes.RememberingChangesNothing.{RightAnswer, look_right}
 use Rattle.grok.proofs.Sizes.ItemsAreSound.{sound_texts}
@@ -40,31 +37,25 @@ module _ (texts : Texts) (alias_only : Bool) where
       let t = tree_sizes alias_only resolve deepest pattern in
       rw (t.clean z is, t.length z is, t.groups z is, t.nesting z is) refl
 
-  module _ (pattern : List ℕ) (r : Result PartialSize Failure) (frames : List Frame) (before cache : MeasureCache)
-      (stops : (st : State) → ShowsState before st → StopsReading deepest r frames cache (items_within alias_only resolve deepest (resolve pattern) st)) where
-    pub answer_is : (st : State) → ShowsState before st → IsCorrect texts alias_only st → (m : Measured) → ((s : Result Size Fault) → result_view r ≡ shown_result s → m ≡ measured_size s)
-        → m ≡ measured_tree alias_only (tree (finite.get texts) pattern)
-    answer_is st shows t m h =
-        let answer = items_within alias_only resolve deepest (resolve pattern) st in
-        h answer.0 (stops st shows).same ∙ tree_from pattern answer.0 (sym (outcome deepest pattern st t).same)
-
-  module _ (levels : ℕ) (pattern : List ℕ) (r : Result PartialSize Failure) (frames : List Frame) (before cache : MeasureCache)
-      (stops : (st : State) → ShowsState before st → StopsReading levels r frames cache (items_within alias_only resolve levels (resolve pattern) st)) where
+  module _ (levels : ℕ) (pattern : List ℕ) (r : Result PartialSize Failure) (before cache : MeasureCache)
+      (reads : (st : State) → ShowsState before st → AnswersReading r cache (items_within alias_only resolve levels (resolve pattern) st)) where
     -- the result is the plain size or fault
-    pub size_is : (st : State) → ShowsState before st → IsCorrect texts alias_only st → result_view r ≡ shown_result (sizes alias_only (size_or_fault alias_only resolve levels) (resolve pattern))
-    size_is st shows t = (stops st shows).same ∙ ap shown_result (outcome levels pattern st t).same
+    size_at : (st : State) → ShowsState before st → IsCorrect texts alias_only st → result_view r ≡ shown_result (sizes alias_only (size_or_fault alias_only resolve levels) (resolve pattern))
+    size_at st shows t = (reads st shows).same ∙ ap shown_result (outcome levels pattern st t).same
 
-    -- ---- what stays
+    pub size_is : ShowsCorrectState texts alias_only before → result_view r ≡ shown_result (sizes alias_only (size_or_fault alias_only resolve levels) (resolve pattern))
+    size_is known = size_at known.st known.shows known.is_true
 
-    stays : (after : MeasureCache) → ((st : State) → ShowsState before st → ShowsState after (items_within alias_only resolve levels (resolve pattern) st).1) → ShowsCorrectState texts alias_only before → ShowsCorrectState texts alias_only after
-    stays after shows true_before =
-        let st = true_before.st in
-        let t = true_before.is_true in
+    -- what stays
+    pub stays_true : ShowsCorrectState texts alias_only before → ShowsCorrectState texts alias_only cache
+    stays_true known =
+        let st = known.st in
+        let t = known.is_true in
         let o = outcome levels pattern st t in
         let last = (items_within alias_only resolve levels (resolve pattern) st).1 in
         record {
           st = last;
-          shows = shows st true_before.shows;
+          shows = (reads st known.shows).leaves;
           is_true = record {
             none_begun = λ name is. t.none_begun name (o.opens name is);
             says = λ name progress text is stored. elim (o.honest name progress text is stored) [
@@ -74,20 +65,10 @@ module _ (texts : Texts) (alias_only : Bool) where
           };
         }
 
-    pub done_true : (sum : PartialSize) → r ≡ Ok sum → ShowsCorrectState texts alias_only before → ShowsCorrectState texts alias_only cache
-    done_true sum is =
-        stays cache (λ st shows.
-        let s = stops st shows in
-        let answer = items_within alias_only resolve levels (resolve pattern) st in
-        let leaves : answer.1 ≡ s.now = subst (λ x. MatchResult x (λ sum. answer.1 ≡ s.now) (λ failure. answer.1 ≡ unwound levels frames (fault_view failure.fault) s.now)) is s.leaves in
-        subst (ShowsState cache) (sym leaves) s.shows)
-
-    pub failed_true : (failure : Failure) (after : MeasureCache) → r ≡ Err failure → ((st : State) → ShowsState cache st → st.reach ≡ failure.height → ShowsState after (unwound levels frames (fault_view failure.fault) st))
-        → ShowsCorrectState texts alias_only before → ShowsCorrectState texts alias_only after
-    failed_true failure after is remembers =
-        stays after (λ st shows.
-        let s = stops st shows in
-        let answer = items_within alias_only resolve levels (resolve pattern) st in
-        let reached : HasReach (Err failure) s.now = subst (λ x. HasReach x s.now) is s.reach in
-        let leaves : answer.1 ≡ unwound levels frames (fault_view failure.fault) s.now = subst (λ x. MatchResult x (λ sum. answer.1 ≡ s.now) (λ failure. answer.1 ≡ unwound levels frames (fault_view failure.fault) s.now)) is s.leaves in
-        subst (ShowsState after) (sym leaves) (remembers s.now s.shows reached))
+  module _ (pattern : List ℕ) (r : Result PartialSize Failure) (before cache : MeasureCache)
+      (reads : (st : State) → ShowsState before st → AnswersReading r cache (items_within alias_only resolve deepest (resolve pattern) st)) where
+    pub answer_is : (st : State) → ShowsState before st → IsCorrect texts alias_only st → (m : Measured) → ((s : Result Size Fault) → result_view r ≡ shown_result s → m ≡ measured_size s)
+        → m ≡ measured_tree alias_only (tree (finite.get texts) pattern)
+    answer_is st shows t m h =
+        let answer = items_within alias_only resolve deepest (resolve pattern) st in
+        h answer.0 (reads st shows).same ∙ tree_from pattern answer.0 (sym (outcome deepest pattern st t).same)

@@ -11,7 +11,7 @@ use Rattle.grok.specs.Measured.{measure_view, Measured, Sized, TooLong, size_wit
 use Rattle.grok.specs.FaultLocations.{Step}
 use Rattle.grok.specs.ByteLocations.{IsOwnEvent, Regular, Opening, Closing, Broken, Deep, IsEventAt, IsPartOf, IsByteLocation}
 use Rattle.grok.specs.steps.Searches.{PassesMore}
-use Rattle.grok.specs.declared.measure.settings.MeasureSettings.{MeasureSettings}
+use Rattle.grok.specs.declared.settings.Settings.{Settings}
 use Rattle.grok.specs.steps.ByteSearches.{IsSizeOf, IsLater, IsPartOfItem, HasPassedBytes, WritesByte}
 use Rattle.grok.specs.declared.measure.partial_size.PartialSize.{PartialSize}
 use Rattle.grok.specs.declared.errors.fault.Fault.{Fault as CodeFault}
@@ -98,7 +98,7 @@ module _ (old : ByteSearch) (size after : PartialSize) (es : List Event) (s : Is
   alias_only = start.measurer.settings.with_alias_only
 
   abbrev size_now : IsSizeOf alias_only size es
-  size_now = subst (λ (settings : MeasureSettings). IsSizeOf settings.with_alias_only size es) p.settings s
+  size_now = subst (λ (settings : Settings). IsSizeOf settings.with_alias_only size es) p.settings s
 
   abbrev shows_now : after ≡ shown (plus p.later.size.size size_now.size)
   shows_now = adds p.later.size.size size_now.size p.later.size.shows size_now.shows

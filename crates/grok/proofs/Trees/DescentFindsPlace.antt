@@ -1,10 +1,9 @@
 -- A search that goes through the events of a tree in order, and passes over some definitions at once, stops at the place
 -- that `descend` returns.
-use Rattle.std.proofs.Common.{◌≡◌, ℕ, suc, ◌+◌, ◌-◌, ◌<◌, ◌≤◌, List, [], ◌∷◌, ◌++◌, Some, None, refl, sym, ◌∙◌, ap, subst, arith, append-nil, append_assoc, length, length-append, map}
+use Rattle.std.proofs.Common.{◌≡◌, ℕ, suc, ◌+◌, ◌-◌, ◌<◌, ◌≤◌, List, [], ◌∷◌, ◌++◌, refl, sym, ◌∙◌, ap, subst, arith, append-nil, append_assoc, length, length-append, map}
 use Rattle.std.proofs.lemmas.List.{map-append, length-map}
 use Rattle.grok.specs.Tree.{Definitions, Label, Meaning, meaning_text, Item, PlaceholderItem, Event, Open, Close, items_of, events, inside, tree, deepest}
 use Rattle.grok.specs.Items.{item_view}
-use Rattle.grok.specs.steps.Events.{events_left}
 use Rattle.grok.specs.FaultLocations.{IsPieceAt, path_view}
 use Rattle.grok.specs.FaultLocations as location
 use Rattle.grok.specs.ByteLocations.{IsOwnEvent, Closing, IsEventAt, Here, Inside}
@@ -18,7 +17,7 @@ use Rattle.grok.specs.declared.descend.Place.{Place}
 use Rattle.grok.specs.declared.descend.Step.{Step}
 use Rattle.grok.specs.declared.descend.Step.TheVariants as step
 use Rattle.grok.proofs.Trees.EventsInTree.{events-append}
-use Rattle.grok.proofs.Trees.EventsOnStack.{left_step, left_open, left_close, left_item, some_event}
+use Rattle.grok.proofs.Trees.EventsOnStack.{events_left, left_enter, left_close, left_item, some_event}
 use Rattle.grok.proofs.Trees.EventsInTree.{event_follows}
 
 nothing_snoc : {X : Type 0} (xs : List X) (x : X) → [] ≡ xs ++ x ∷ [] → ⊥
@@ -93,17 +92,17 @@ module _ {S : Type 0} (passes : Passing S) (stops : Stopping S) (stored : Defini
   -- ---- items
 
   -- the step at the last event of an item
-  pub last_step : (levels : ℕ) (item : Item) (own : List Event) (event : Event) (found : Step) (old mid new : S) → IsOwnEvent stored levels item own event
-      → events (inside (items_of stored) levels) (item ∷ []) ≡ own ++ event ∷ [] → passes old own mid → IsEventStep passes stops event found mid new → IsStep passes stops stored levels item found old new
-  last_step levels item own event step.Passed old mid new is_own whole front one = subst (λ es. passes old es new) (sym whole) (joins old mid new own (event ∷ []) front one)
-  last_step levels item own event step.Stopped old mid new is_own whole front (stopped, same) = record {
+  pub last_step : (levels : ℕ) (item : Item) (own : List Event) (event : Event) (old mid new : S) → IsOwnEvent stored levels item own event
+      → events (inside (items_of stored) levels) (item ∷ []) ≡ own ++ event ∷ [] → passes old own mid → (found : Step) → IsEventStep passes stops event found mid new → IsStep passes stops stored levels item found old new
+  last_step levels item own event old mid new is_own whole front step.Passed one = subst (λ es. passes old es new) (sym whole) (joins old mid new own (event ∷ []) front one)
+  last_step levels item own event old mid new is_own whole front step.Stopped (stopped, same) = record {
     own = own;
     event = event;
     is_own = is_own;
     passed = subst (passes old own) (sym same) front;
     stopped = subst (λ s. stops s event) (sym same) stopped;
   }
-  last_step levels item own event (step.Entered name meaning) old mid new is_own whole front one = absurd one
+  last_step levels item own event old mid new is_own whole front (step.Entered name meaning) one = absurd one
 
   -- one more item
   one_more : (levels : ℕ) (before : List Item) (item : Item) (start mid new : S) → passes start (events (inside (items_of stored) levels) before) mid → passes mid (events (inside (items_of stored) levels) (item ∷ [])) new
@@ -321,7 +320,7 @@ lefts_in = map (λ (opened : Opened). left_in opened.items)
 
 -- the remaining events of the tree
 abbrev pub left_of : Definitions → List Opened → List Item → List Event
-left_of stored around items = events_left (items_of stored) deepest (lefts_in around) None items
+left_of stored around items = events_left (items_of stored) deepest (lefts_in around) items
 
 module _ (stored : Definitions) where
   pub step_fewer : (around : List Opened) (items : List Item) (item : Item) (rest : List Item) → items ≡ item ∷ rest → length (left_of stored around rest) < length (left_of stored around items)
@@ -335,7 +334,7 @@ module _ (stored : Definitions) where
       → length (left_of stored outside (left_in outer.items)) < length (left_of stored around items)
   close_fewer around items outside outer over is =
       let closes : left_of stored around items ≡ Close ∷ left_of stored outside (left_in outer.items) =
-      ap (left_of stored around) over ∙ ap (λ texts. events_left (items_of stored) deepest texts None []) (ap lefts_in is ∙ map-append (λ (opened : Opened). left_in opened.items) outside (outer ∷ [])) ∙ left_close (items_of stored) deepest (lefts_in outside) (left_in outer.items) in
+      ap (left_of stored around) over ∙ ap (λ texts. events_left (items_of stored) deepest texts []) (ap lefts_in is ∙ map-append (λ (opened : Opened). left_in opened.items) outside (outer ∷ [])) ∙ left_close (items_of stored) deepest (lefts_in outside) (left_in outer.items) in
       omega (arith, ap length closes)
 
   pub enter_fewer : (around : List Opened) (items : List Item) (item : Item) (rest : List Item) (label : Label) (meaning : Meaning) (deeper : List Opened) (opened : Opened) (within : List Item) → items ≡ item ∷ rest → item ≡ PlaceholderItem label meaning
@@ -347,7 +346,6 @@ module _ (stored : Definitions) where
       let below : texts ++ rest ∷ [] ≡ lefts_in deeper = sym (ap lefts_in deeper_is ∙ map-append (λ (opened : Opened). left_in opened.items) around (opened ∷ []) ∙ ap (λ items. texts ++ items ∷ []) rest_is) in
       let enters : left_of stored around items ≡ Open label meaning ∷ left_of stored deeper within =
       ap (left_of stored around) (cut ∙ ap (λ i. i ∷ rest) is)
-      ∙ left_step (items_of stored) deepest texts (PlaceholderItem label meaning ∷ rest) rest (Some meaning) (Open label meaning) (λ n. refl)
-      ∙ ap (λ es. Open label meaning ∷ es) (left_open (items_of stored) deepest texts rest meaning low
-      ∙ ap (λ texts. events_left (items_of stored) deepest texts None (items_of stored (meaning_text meaning))) below ∙ ap (left_of stored deeper) (sym within_is)) in
+      ∙ left_enter (items_of stored) deepest texts label meaning rest low
+      ∙ ap (λ es. Open label meaning ∷ es) (ap (λ texts. events_left (items_of stored) deepest texts (items_of stored (meaning_text meaning))) below ∙ ap (left_of stored deeper) (sym within_is)) in
       omega (arith, ap length enters)

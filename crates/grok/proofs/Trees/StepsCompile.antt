@@ -19,8 +19,8 @@ use Rattle.grok.specs.steps.AssignedKeys.{HasKeys}
 use Rattle.grok.specs.declared.errors.error.Error.{Error}
 use Rattle.grok.specs.declared.errors.error.Error.TheVariants as rust
 use Rattle.grok.specs.Errors.{ErrorValue, Memory, error_value}
-use Rattle.grok.specs.Compiled.{NeverRefuses, IsExpansionError, IsFaultError, IsFirstError, error_of_refusal, IsBuilt, IsRefusal, Refused, Expansion, CanBuild, Compiles, IsCompileError, Empty, First, Unbuilt, NoMemory}
-use Rattle.grok.specs.declared.expand.write.ExpandedPattern.{ExpandedPattern}
+use Rattle.grok.specs.Compiled.{NeverRefuses, IsExpansionError, IsFaultError, IsFirstError, error_of_refusal, IsBuilt, IsRefusal, Refused, Expansion, Compiles, IsCompileError, Empty, First, Unbuilt, NoMemory}
+use Rattle.grok.specs.declared.write.ExpandedPattern.{ExpandedPattern}
 use Rattle.grok.specs.steps.Expansions.{IsExpansionOf, Expands}
 
 -- ---- what was measured
@@ -126,10 +126,12 @@ module _ (e : Expansion) (some : e.pattern ≢ []) where
   expansion_without_memory (Err error) h = subst (λ is. IsExpansionError e is) (sym h) (NoMemory some)
 
 -- expanding a pattern without a fault
-pub expansion_if : {E : Type 0} (e : Expansion) (r : Result ExpandedPattern E) → e.pattern ≢ [] → CanBuild e → IfOk r (λ found. string_bytes found.text ≡ expanded e.alias_only e.tree)
+pub expansion_if : {E : Type 0} (e : Expansion) (r : Result ExpandedPattern E) → e.pattern ≢ [] → first_fault e.alias_only e.tree ≡ None → IfOk r (λ found. string_bytes found.text ≡ expanded e.alias_only e.tree)
     → IfOk r (λ found. HasKeys e.alias_only e.tree found.keys) → IfOk r (IsExpansionOf e)
-expansion_if e (Ok found) some can text keys = record { some = some; can = can; text = text; keys = keys }
-expansion_if e (Err error) some can text keys = tt
+expansion_if e (Ok found) some clean text keys =
+    let bytes = found.text.bytes in
+    record { some = some; can = record { clean = clean; fits = omega (arith, ap length text, bytes.ok.0, bytes.ok.1, bytes.small) }; text = text; keys = keys }
+expansion_if e (Err error) some clean text keys = tt
 
 module _ {E : Type 0} (source_of : E → List ℕ) (group_names : E → List (Option (List ℕ))) (may_refuse : List ℕ → Type 0) (e : Expansion) where
   pub unexpanded_answer : (r : Result (PatternValue E) Error) (error : Error) → IsErrAnd r (λ same. same ≡ error) → IsExpansionError e error → Compiles source_of group_names may_refuse e r

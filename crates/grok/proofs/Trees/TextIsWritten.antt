@@ -1,23 +1,20 @@
--- What was written and what the remaining events will write are together the expanded text. Each capturing
--- placeholder that was written has its key.
-use Rattle.std.proofs.Common.{◌≡◌, ℕ, suc, ◌+◌, ◌≤◌, Bool, true, false, cond, List, [], ◌∷◌, ◌++◌, length, Option, Some, None, refl, sym, ◌∙◌, ap, subst, arith, add-zero, append-nil, append_assoc, length-append}
-use Rattle.std.specs.Prelude.{codes}
-use Rattle.std.specs.String.{string_bytes, string_len, string_capacity}
-use Rattle.std.specs.Global.{Global}
-use Rattle.std.specs.declared.string.String.{String}
-use Rattle.grok.specs.Tree.{Fault, Label, Event, Text, Open, Close, FaultEvent, first_structural}
+-- What is written for the events of a tree is their expanded text, and each of their capturing placeholders has its key.
+use Rattle.std.proofs.Common.{◌≡◌, ℕ, suc, ◌+◌, Bool, true, false, cond, List, [], ◌∷◌, ◌++◌, length, Option, Some, None, refl, sym, ◌∙◌, ap, subst, arith, add-zero, append-nil, append_assoc}
+use Rattle.std.specs.String.{string_bytes}
+use Rattle.grok.specs.Tree.{Definitions, Fault, Label, Meaning, Event, Text, Open, Close, FaultEvent, first_structural, tree}
 use Rattle.grok.specs.Keys.{is_capturing, capturing}
-use Rattle.grok.specs.Numeral.{numeral}
 use Rattle.grok.specs.GeneratedNames.{named_head, unnamed_head}
-use Rattle.grok.specs.Expanded.{text_after, expanded}
+use Rattle.grok.specs.Expanded.{text_after}
 use Rattle.grok.specs.steps.CapturedSoFar.{after}
-use Rattle.grok.specs.steps.AssignedKeys.{HasAssigned, CanAssign, HasKeys}
-use Rattle.grok.specs.steps.Writes.{IsReady, Wrote}
-use Rattle.grok.specs.declared.expand.key_assigner.KeyAssigner.{KeyAssigner}
-use Rattle.grok.specs.declared.expand.write.Output.{Output}
+use Rattle.grok.specs.steps.AssignedKeys.{HasAssigned}
+use Rattle.grok.specs.steps.Descents.{FindsPlace}
+use Rattle.grok.specs.steps.FaultSearches.{is_fault}
+use Rattle.grok.specs.steps.Writes.{HasWritten}
+use Rattle.grok.specs.declared.descend.Place.{Place}
+use Rattle.grok.specs.declared.write.Writer.{Writer}
 use Rattle.grok.proofs.Sizes.SizeIsThatOfTree.{or_else, first_structural-append}
-use Rattle.grok.proofs.Keys.FirstFaultAndLastExtract.{capturing-append, after-append}
-use Rattle.grok.proofs.Keys.KeysAreAssigned.{length_after, keyed}
+use Rattle.grok.proofs.Keys.FirstFaultAndLastExtract.{after-append}
+use Rattle.grok.proofs.Keys.KeysAreAssigned.{length_after, keys_counted}
 
 -- ---- one list of events after the other
 
@@ -48,109 +45,53 @@ both_none (Some f) p e = cc
 pub clean_parts : (xs ys : List Event) → first_structural (xs ++ ys) ≡ None → (first_structural xs ≡ None) × (first_structural ys ≡ None)
 clean_parts xs ys e = both_none (first_structural xs) (first_structural ys) (sym (first_structural-append xs ys) ∙ e)
 
-len_is : (s : String Global) → string_len s ≡ length (string_bytes s)
-len_is s = s.bytes.ok.0
+-- ---- one more event
 
-module _ (alias_only : Bool) where
-  pub ready_first : (xs ys : List Event) (out : Output) → IsReady alias_only (xs ++ ys) out → IsReady alias_only xs out
-  ready_first xs ys out r =
-      let text = ap length (text_after-append alias_only out.groups xs ys) in
-      let groups = ap length (capturing-append alias_only xs ys) in
+module _ (start : Writer) (before : List Event) (old : Writer) (h : HasWritten start before old) (new : Writer) (same : new.settings ≡ old.settings) where
+  abbrev alias_only : Bool
+  alias_only = start.settings.with_alias_only
+
+  written_more : (event : Event) (added : List ℕ) → string_bytes new.text ≡ string_bytes old.text ++ added → added ≡ text_after alias_only (length (capturing alias_only before)) (event ∷ [])
+      → HasAssigned new.keys (after alias_only (after alias_only [] before) (event ∷ [])) → HasWritten start (before ++ event ∷ []) new
+  written_more event added text is keys =
+      let from_zero : length (capturing alias_only before) ≡ 0 + length (capturing alias_only before) = omega arith in
       record {
-        clean = (clean_parts xs ys r.clean).0;
-        room = omega (arith, r.room, text, length-append (text_after alias_only out.groups xs) (text_after alias_only (out.groups + length (capturing alias_only xs)) ys));
-        fits = omega (arith, r.fits, groups, length-append (capturing alias_only xs) (capturing alias_only ys));
+        settings = same ∙ h.settings;
+        text = text ∙ ap (λ bs. bs ++ added) h.text ∙ ap (λ bs. text_after alias_only 0 before ++ bs) (is ∙ ap (λ n. text_after alias_only n (event ∷ [])) from_zero) ∙ sym (text_after-append alias_only 0 before (event ∷ []));
+        keys = subst (HasAssigned new.keys) (sym (after-append alias_only [] before (event ∷ []))) keys;
       }
 
-  pub ready_then : (xs ys : List Event) (out now : Output) → IsReady alias_only (xs ++ ys) out → Wrote alias_only xs out now → IsReady alias_only ys now
-  ready_then xs ys out now r w =
-      let text = ap length (text_after-append alias_only out.groups xs ys) in
-      let groups = ap length (capturing-append alias_only xs ys) in
-      let written = ap length w.text in
-      let rest : length (text_after alias_only now.groups ys) ≡ length (text_after alias_only (out.groups + length (capturing alias_only xs)) ys) = ap (λ n. length (text_after alias_only n ys)) w.groups in
-      record {
-        clean = (clean_parts xs ys r.clean).1;
-        room = omega (arith, r.room, text, rest, written, w.capacity, len_is out.text, len_is now.text, length-append (string_bytes out.text) (text_after alias_only out.groups xs), length-append (text_after alias_only out.groups xs) (text_after alias_only (out.groups + length (capturing alias_only xs)) ys));
-        fits = omega (arith, r.fits, groups, w.groups, length-append (capturing alias_only xs) (capturing alias_only ys));
-      }
+  pub wrote_text : (text : List ℕ) → string_bytes new.text ≡ string_bytes old.text ++ text → new.keys ≡ old.keys → HasWritten start (before ++ Text text ∷ []) new
+  wrote_text text is keys = written_more (Text text) text is (sym (append-nil text)) (subst (λ keys. HasAssigned keys (after alias_only [] before)) (sym keys) h.keys)
 
-  pub wrote_then : (xs ys : List Event) (a b c : Output) → Wrote alias_only xs a b → Wrote alias_only ys b c → Wrote alias_only (xs ++ ys) a c
-  wrote_then xs ys a b c p q = record {
-    text =
-        q.text ∙ (ap (λ bs. bs ++ text_after alias_only b.groups ys) p.text ∙ (append_assoc (string_bytes a.text) (text_after alias_only a.groups xs) (text_after alias_only b.groups ys)
-        ∙ (ap (λ n. string_bytes a.text ++ (text_after alias_only a.groups xs ++ text_after alias_only n ys)) p.groups
-        ∙ ap (λ bs. string_bytes a.text ++ bs) (sym (text_after-append alias_only a.groups xs ys)))));
-    groups = omega (arith, p.groups, q.groups, ap length (capturing-append alias_only xs ys), length-append (capturing alias_only xs) (capturing alias_only ys));
-    capacity = omega (arith, p.capacity, q.capacity);
-  }
+  pub wrote_close : string_bytes new.text ≡ string_bytes old.text ++ 41 ∷ [] → new.keys ≡ old.keys → HasWritten start (before ++ Close ∷ []) new
+  wrote_close is keys = written_more Close (41 ∷ []) is refl (subst (λ keys. HasAssigned keys (after alias_only [] before)) (sym keys) h.keys)
 
-  pub wrote_none : (out : Output) → Wrote alias_only [] out out
-  wrote_none out = record { text = sym (append-nil (string_bytes out.text)); groups = omega arith; capacity = omega arith }
+  module _ (label : Label) (meaning : Meaning) where
+    pub wrote_unnamed : is_capturing alias_only label ≡ false → string_bytes new.text ≡ string_bytes old.text ++ unnamed_head → new.keys ≡ old.keys → HasWritten start (before ++ Open label meaning ∷ []) new
+    wrote_unnamed other is keys =
+        written_more (Open label meaning) unnamed_head is (rw other refl)
+        (rw other (subst (λ keys. HasAssigned keys (after alias_only [] before)) (sym keys) h.keys))
 
--- ---- the loop over the events
-
--- Some events were written and have their keys, and there is room for the remaining ones.
-pub record HasWritten (alias_only : Bool) (all left : List Event) (start out : Output) (keys : KeyAssigner) : Type 0 where
-  pub done : List Event
-  pub cut : all ≡ done ++ left
-  pub wrote : Wrote alias_only done start out
-  pub ready : IsReady alias_only left out
-  pub assigned : HasAssigned keys (after alias_only [] done)
-
-module _ (alias_only : Bool) (all : List Event) (start : Output) where
-  pub written_none : (keys : KeyAssigner) → IsReady alias_only all start → HasAssigned keys [] → HasWritten alias_only all all start start keys
-  written_none keys ready assigned = record { done = []; cut = refl; wrote = wrote_none alias_only start; ready = ready; assigned = assigned }
-
-  pub written_keys : (left : List Event) (out : Output) (keys : KeyAssigner) → left ≡ [] → HasWritten alias_only all left start out keys → HasKeys alias_only all keys
-  written_keys left out keys over h =
-      keyed alias_only all keys (subst (λ es. HasAssigned keys (after alias_only [] es)) (sym (h.cut ∙ ap (λ es. h.done ++ es) over ∙ append-nil h.done)) h.assigned)
-
-  module _ (left : List Event) (event : Event) (rest : List Event) (out : Output) (keys : KeyAssigner) (cut : left ≡ event ∷ rest) (h : HasWritten alias_only all left start out keys) where
-    ready_now : IsReady alias_only ((event ∷ []) ++ rest) out
-    ready_now = subst (λ es. IsReady alias_only es out) cut h.ready
-
-    pub written_ready : IsReady alias_only (event ∷ []) out
-    written_ready = ready_first alias_only (event ∷ []) rest out ready_now
-
-    -- each placeholder so far has a group
-    pub written_counted : CanAssign keys (length (capturing alias_only (event ∷ [])))
-    written_counted = record {
-      before = after alias_only [] h.done;
-      shows = h.assigned;
-      fits = omega (arith, length_after alias_only h.done, h.wrote.groups, written_ready.fits);
-    }
-
-    pub written_more : (now : Output) (later : KeyAssigner) → Wrote alias_only (event ∷ []) out now
-        → ((before : List Label) → HasAssigned keys before → HasAssigned later (after alias_only before (event ∷ []))) → HasWritten alias_only all rest start now later
-    written_more now later w assigns = record {
-      done = h.done ++ event ∷ [];
-      cut = h.cut ∙ ap (λ es. h.done ++ es) cut ∙ sym (append_assoc h.done (event ∷ []) rest);
-      wrote = wrote_then alias_only h.done (event ∷ []) start out now h.wrote w;
-      ready = ready_then alias_only (event ∷ []) rest out now ready_now w;
-      assigned = subst (HasAssigned later) (sym (after-append alias_only [] h.done (event ∷ []))) (assigns (after alias_only [] h.done) h.assigned);
-    }
+    -- the number of the group is how many placeholders have a key
+    pub wrote_named : is_capturing alias_only label ≡ true → string_bytes new.text ≡ string_bytes old.text ++ named_head (length old.keys.keys.items)
+        → ((earlier : List Label) → HasAssigned old.keys earlier → HasAssigned new.keys (label ∷ earlier)) → HasWritten start (before ++ Open label meaning ∷ []) new
+    wrote_named captures is assigns =
+        let many : length old.keys.keys.items ≡ length (capturing alias_only before) = keys_counted old.keys (after alias_only [] before) h.keys ∙ length_after alias_only before in
+        written_more (Open label meaning) (named_head (length old.keys.keys.items)) is (rw captures (ap named_head many ∙ sym (append-nil (named_head (length (capturing alias_only before))))))
+        (rw captures (assigns (after alias_only [] before) h.keys))
 
 -- ---- the whole
 
--- each group has a byte of its own
-pub groups_within : (alias_only : Bool) (count : ℕ) (es : List Event) → length (capturing alias_only es) ≤ length (text_after alias_only count es)
-groups_within alias_only count [] = omega arith
-groups_within alias_only count (Text text ∷ es) = omega (arith, groups_within alias_only count es, length-append text (text_after alias_only count es))
-groups_within alias_only count (Close ∷ es) = omega (arith, groups_within alias_only count es)
-groups_within alias_only count (FaultEvent fault ∷ es) = groups_within alias_only count es
-groups_within alias_only count (Open label meaning ∷ es) = go (is_capturing alias_only label) (groups_within alias_only (suc count) es) (groups_within alias_only count es)
+-- in a tree without a fault, no event stops the writer
+pub all_written : (stored : Definitions) (pattern : List ℕ) (found : Option Place) (start now : Writer) → first_structural (tree stored pattern) ≡ None
+    → FindsPlace HasWritten (λ start es event. is_fault event ≡ true) stored pattern found start now → HasWritten start (tree stored pattern) now
+all_written stored pattern None start now clean written = written
+all_written stored pattern (Some place) start now clean f =
+    absurd (no_fault f.event f.after f.sought (clean_parts f.before (f.event ∷ f.after) (sym (ap first_structural f.cut) ∙ clean)).1)
   where
-    go : (b : Bool) → length (capturing alias_only es) ≤ length (text_after alias_only (suc count) es) → length (capturing alias_only es) ≤ length (text_after alias_only count es)
-        → length (cond b (label ∷ capturing alias_only es) (capturing alias_only es)) ≤ length (cond b (named_head count ++ text_after alias_only (suc count) es) (unnamed_head ++ text_after alias_only count es))
-    go true one none = omega (arith, one, length-append (numeral count ++ codes ">") (text_after alias_only (suc count) es))
-    go false one none = omega (arith, none)
-
-pub ready_whole : (alias_only : Bool) (es : List Event) (text : String Global) → first_structural es ≡ None → string_bytes text ≡ []
-    → length (expanded alias_only es) ≤ string_capacity text → IsReady alias_only es (record { text = text; groups = 0 })
-ready_whole alias_only es text clean empty room =
-    let groups = groups_within alias_only 0 es in
-    record {
-      clean = clean;
-      room = omega (arith, room, len_is text, ap length empty);
-      fits = omega (arith, groups, room, text.bytes.small);
-    }
+    no_fault : (event : Event) (rest : List Event) → is_fault event ≡ true → first_structural (event ∷ rest) ≡ None → ⊥
+    no_fault (Text text) rest is clean = cc
+    no_fault (Open label meaning) rest is clean = cc
+    no_fault Close rest is clean = cc
+    no_fault (FaultEvent fault) rest is clean = cc

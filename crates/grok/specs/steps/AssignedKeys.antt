@@ -1,5 +1,5 @@
 -- What the key assigner has assigned so far, and to all placeholders of a tree.
-use Rattle.std.specs.Prelude.{◌≡◌, ℕ, ◌+◌, ◌<◌, ◌^◌, List, map, length, Bool, unwrap_or}
+use Rattle.std.specs.Prelude.{◌≡◌, ℕ, List, map, Bool, unwrap_or}
 use Rattle.std.specs.Option.{option_map}
 use Rattle.std.specs.String.{string_bytes}
 use Rattle.std.specs.BTreeMap.{get_by_text}
@@ -22,12 +22,10 @@ pub record HasAssigned (assigner : KeyAssigner) (before : List Label) : Type 0 w
   pub extracts : (key : List ℕ) → option_map string_bytes (get_by_text assigner.extracts key)
       ≡ extract_before before key
 
--- The assigner has assigned keys to some capturing placeholders. With `more` others, their number still fits a
--- `usize`.
-pub record CanAssign (assigner : KeyAssigner) (more : ℕ) : Type 0 where
+-- The assigner has assigned keys to some capturing placeholders.
+pub record CanAssign (assigner : KeyAssigner) : Type 0 where
   pub before : List Label
   pub shows : HasAssigned assigner before
-  pub fits : length before + more < 2 ^ 64
 
 -- ---- a whole tree
 

@@ -3,7 +3,7 @@ use Rattle.std.specs.Prelude.{◌≡◌, ◌≢◌, [], Result, MatchResult, str
 use Rattle.grok.specs.Expanded.{expanded}
 use Rattle.grok.specs.steps.AssignedKeys.{HasKeys}
 use Rattle.grok.specs.Compiled.{Expansion, CanBuild, IsExpansionError}
-use Rattle.grok.specs.declared.expand.write.ExpandedPattern.{ExpandedPattern}
+use Rattle.grok.specs.declared.write.ExpandedPattern.{ExpandedPattern}
 use Rattle.grok.specs.declared.errors.error.Error.{Error}
 
 -- The pattern isn't empty and has no fault, and `found` has its expanded text and its keys.

@@ -104,6 +104,11 @@ pub record ReturnsReading (r : Result PartialSize Failure) (cache : MeasureCache
   pub reach : HasReach r answer.1
   pub leaves : ShowsState cache answer.1
 
+-- the code returns `r`, the size or fault of the reading `answer`, and then its cache remembers the state after it
+pub record AnswersReading (r : Result PartialSize Failure) (cache : MeasureCache) (answer : Reading) : Type 0 where
+  pub same : result_view r ≡ shown_result answer.0
+  pub leaves : ShowsState cache answer.1
+
 -- The code returns `r`, the size or fault of the reading `answer`. Of the state `st`, that reading changes only the
 -- nesting before the fault.
 pub record RemembersReading (r : Result PartialSize Failure) (st : State) (answer : Reading) : Type 0 where

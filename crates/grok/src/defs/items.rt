@@ -1,12 +1,13 @@
 //! The pieces of a text, with their placeholders resolved to definitions.
 
-ghost use Rattle.std.specs.Prelude.{◌≡◌, drop, [], ◌∷◌, Option, Some, option_map, IfOk, OnOk, MatchOption, List, ℕ, not, ◌&&◌, ◌++◌, IsTrue, IsFalse, if◌then◌else◌};
+ghost use Rattle.std.specs.Prelude.{◌≡◌, drop, [], ◌∷◌, Option, Some, option_map, IfOk, OnOk, MatchOption, List, ℕ, not, ◌&&◌, map, filter_map, if◌then◌else◌};
 ghost use Rattle.std.specs.Str.{bytes_eq};
 ghost use Rattle.std.specs.FinMap as finite;
 ghost use Rattle.grok.specs.Pieces.{Piece, pieces};
 ghost use Rattle.grok.specs.Views.{piece_view};
-ghost use Rattle.grok.specs.Tree.{no_definitions, items_of, items_after, is_absent, resolved, meaning_text};
+ghost use Rattle.grok.specs.Tree.{no_definitions, items_of, items_after, is_absent, resolved, meaning_text, definition_of};
 ghost use Rattle.grok.specs.Keys.{is_capturing};
+ghost use Rattle.grok.specs.Maps.{pair_texts};
 ghost use Rattle.grok.specs.Items.{item_view, label_view, meaning_view, written_in};
 ghost use Rattle.std.specs.Borrow.{Bor};
 
@@ -18,7 +19,6 @@ use crate::parser::GrokComponent;
 use std::alloc::{AllocError, Global};
 use std::collections::BTreeMap;
 use std::marker::Model;
-use std::mem;
 
 /// The name, alias and extract of a placeholder.
 #[derive(Clone, Copy)]
@@ -208,31 +208,27 @@ impl<'a> Items<'a> {
     }
 }
 
-/// Enters a text whose items are `inner`: they come next, and after them the rest of `items`, which
-/// is put on the stack `around`.
-pub(crate) fn descend<'a>(
-    around: &mut Vec<Items<'a>>,
-    items: &mut Items<'a>,
-    inner: Items<'a>,
-) -> Result<(), AllocError>
-    ensures around { IfOk result (λ _. around.new.items ≡ around.old.items ++ items.old ∷ []) }
-    ensures items { IfOk result (λ _. items.new ≡ inner.entry) }
-{
-    around.push(mem::replace(items, inner))?;
-    Ok(())
-}
-
-/// Returns to the text around the current one, or returns `false` if there is none.
-pub(crate) fn ascend<'a>(around: &mut Vec<Items<'a>>, items: &mut Items<'a>) -> bool
-    ensures inside { IsTrue result → around.old.items ≡ around.new.items ++ items.new ∷ [] }
-    ensures outside { IsFalse result → (around.old.items ≡ []) × (around.new.items ≡ [])
-        × (items.new ≡ items.old) }
-{
-    match around.pop() {
-        Some(outer) => {
-            *items = outer;
-            true
+impl Grok {
+    /// Returns what the placeholders of a text stand for: the name of each and its definition, in
+    /// reading order. Placeholders without a definition are left out.
+    ///
+    /// # Errors
+    ///
+    /// If an allocation fails.
+    pub fn definitions_of<'a>(
+        &'a self,
+        text: &'a str,
+    ) -> Result<Vec<(&'a str, &'a str)>, AllocError>
+        ensures { IfOk result (λ found. map pair_texts found.items
+            ≡ filter_map definition_of (items_of (finite.get self.now) text.now)) }
+    {
+        let mut found = Vec::new(self.alloc());
+        let mut items = Items::of_text(self.alloc(), self, text);
+        'items: while let Some(item) = items.next()? {
+            if let Item::Placeholder(label, meaning) = item {
+                found.push((label.name, meaning.text()))?;
+            }
         }
-        None => false,
+        Ok(found)
     }
 }

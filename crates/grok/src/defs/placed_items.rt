@@ -1,19 +1,20 @@
 //! The items of a text, each with the byte range of its piece.
 ghost use Rattle.std.specs.Prelude.{◌≡◌, [], ◌∷◌, ◌++◌, List, IfOk, MatchOption};
 ghost use Rattle.std.specs.FinMap as finite;
-ghost use Rattle.grok.specs.Tree.{Definitions, Item as ItemView, items_of};
-ghost use Rattle.grok.specs.Items.{item_view};
+ghost use Rattle.grok.specs.Tree.{Definitions, Item as ItemView, items_of, meaning_text};
+ghost use Rattle.grok.specs.Items.{item_view, meaning_view};
 ghost use Rattle.grok.specs.Views.{piece_view};
 ghost use Rattle.grok.specs.FaultLocations.{IsPieceAt, end_of};
 ghost use Rattle.grok.specs.steps.PlacedItems.{HasRead, IsOfLibrary, left_in};
 
 use crate::defs::Grok;
 use crate::defs::definition::Definition;
-use crate::defs::items::{Item, item_of};
+use crate::defs::items::{Item, Meaning, item_of};
 use crate::defs::pieces::{Pieces, pieces_kept, pieces_of};
 use crate::parser::GrokComponent;
 use std::alloc::AllocError;
 use std::collections::BTreeMap;
+use std::mem;
 use std::ops::Range;
 
 /// An item, and the byte range of its piece.
@@ -76,6 +77,21 @@ impl<'a> PlacedItems<'a> {
             written: BTreeMap::new(grok.alloc()),
             begin: 0,
         }
+    }
+
+    /// Goes on with the items of what a placeholder stands for. Returns the items that remain of the
+    /// text around it.
+    pub fn enter(&mut self, grok: &'a Grok, meaning: Meaning<'a>) -> PlacedItems<'a>
+        ensures around { result ≡ self.old }
+        ensures read { HasRead (finite.get grok.now) [] self.new }
+        ensures text { self.new.text.now ≡ meaning_text (meaning_view meaning.entry) }
+        ensures left { left_in self.new ≡ items_of (finite.get grok.now) (meaning_text (meaning_view meaning.entry)) }
+    {
+        let inner = match meaning {
+            Meaning::Inline(text) => PlacedItems::of_text(grok, text),
+            Meaning::Stored(stored) => PlacedItems::of_stored(grok, stored),
+        };
+        mem::replace(self, inner)
     }
 
     /// Returns the next item, if there is one.

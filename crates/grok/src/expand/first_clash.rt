@@ -7,8 +7,9 @@ ghost use Rattle.grok.specs.steps.KnownParts.{AreKnown};
 ghost use Rattle.grok.specs.steps.TreeClashes.{FindsFirstClash};
 
 use crate::expand::clash_search::{FoundClash, find_clash};
-use crate::expand::known_parts::{CompileSettings, KnownParts};
+use crate::expand::known_parts::KnownParts;
 use crate::expand::read_rows::read_rows;
+use crate::settings::Settings;
 use std::alloc::AllocError;
 
 /// Returns the clash that is the first fault of a pattern in reading order. Returns `None` if the
@@ -19,7 +20,7 @@ use std::alloc::AllocError;
 /// If an allocation fails, or if before a fault a base key `x` is used 2^64 times or more and the least
 /// number `n` of an alias `x[n]` is `usize::MAX` or more.
 pub(crate) fn find_first_clash<'a>(
-    settings: CompileSettings<'a>,
+    settings: Settings<'a>,
     parts: &KnownParts<'a>,
     pattern: &'a str,
 ) -> Result<Option<FoundClash<'a>>, AllocError>

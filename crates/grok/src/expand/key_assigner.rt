@@ -1,16 +1,16 @@
 //! Assigns keys and extracts to the capturing placeholders of a tree.
-ghost use Rattle.std.specs.Prelude.{◌≡◌, ℕ, ◌+◌, ◌<◌, ◌^◌, List, [], ◌∷◌, not, ◌&&◌, if◌then◌else◌, IfOk, OnOk, unwrap_or, Some};
-ghost use Rattle.std.specs.Option.{option_map, option_copied};
+ghost use Rattle.std.specs.Prelude.{◌≡◌, ℕ, ◌+◌, ◌<◌, ◌^◌, List, [], ◌∷◌, not, ◌&&◌, if◌then◌else◌, OnOk, unwrap_or, Some};
+ghost use Rattle.std.specs.Option.{option_map};
 ghost use Rattle.std.specs.Str.{bytes_eq};
 ghost use Rattle.std.specs.String.{string_bytes};
 ghost use Rattle.std.specs.BTreeMap.{get_by_text};
 ghost use Rattle.grok.specs.Tree as tree;
 ghost use Rattle.grok.specs.Tree.{is_absent};
-ghost use Rattle.grok.specs.Keys.{numbered, base_key as base_key_of};
 ghost use Rattle.grok.specs.Items.{label_view};
 ghost use Rattle.grok.specs.steps.AssignedKeys.{HasAssigned, CanAssign};
 
 use crate::defs::items::Label;
+use crate::expand::numbered::{base_key, numbered_key};
 use crate::expand::placeholder_key::PlaceholderKey;
 use std::alloc::{AllocError, Global};
 use std::collections::BTreeMap;
@@ -24,17 +24,6 @@ pub(crate) struct KeyAssigner {
     /// The keys in reading order.
     pub keys: Vec<PlaceholderKey>,
     pub extracts: BTreeMap<String, String>,
-}
-
-/// Returns the key of a placeholder with this base key, which was used `count` times before.
-pub(crate) fn numbered_key(alloc: Global, base: &str, count: usize) -> Result<String, AllocError>
-    ensures { IfOk result (λ key. string_bytes key ≡ numbered base.now count) }
-{
-    if count == 0 {
-        String::from_str(alloc, base)
-    } else {
-        format!(in alloc; "{base}[{count}]")
-    }
 }
 
 /// Returns how often the base key was used.
@@ -86,17 +75,6 @@ fn keep_extract(
     Ok(())
 }
 
-/// Returns the base key of a placeholder: its alias, or its name if it has no alias.
-pub(crate) fn base_key<'a>(label: Label<'a>) -> &'a str
-    ensures { result.now ≡ base_key_of (label_view label.entry) }
-{
-    if label.alias.is_empty() {
-        label.name
-    } else {
-        label.alias
-    }
-}
-
 impl KeyAssigner {
     /// Makes an assigner that has assigned no key yet.
     pub fn new(alloc: Global) -> KeyAssigner
@@ -117,7 +95,7 @@ impl KeyAssigner {
     ///
     /// If an allocation fails.
     pub fn assign(&mut self, label: Label<'_>) -> Result<(), AllocError>
-        requires { CanAssign self.old 1 }
+        requires { CanAssign self.old }
         ensures { OnOk result ((before : List tree.Label) → HasAssigned self.old before →
             HasAssigned self.new (label_view label.entry ∷ before)) }
     {

@@ -11,18 +11,11 @@ use crate::defs::Grok;
 use crate::defs::definition::Definition;
 use crate::defs::items::{Item, Items, Label, Meaning};
 use crate::errors::fault::LEVELS;
-use crate::expand::key_assigner::base_key;
+use crate::expand::numbered::base_key;
 use crate::expand::rows::Row;
+use crate::settings::Settings;
 use std::alloc::{AllocError, Global};
 use std::collections::BTreeMap;
-
-/// What all steps of a compilation share: the definitions, and whether only placeholders with an
-/// alias capture.
-#[derive(Clone, Copy)]
-pub(crate) struct CompileSettings<'a> {
-    pub grok: &'a Grok,
-    pub with_alias_only: bool,
-}
 
 /// What is known of some items.
 #[derive(Drop)]
@@ -70,7 +63,7 @@ pub(crate) struct KnownParts<'a> {
 
 /// Adds the base key of the placeholder with this label to `rows`, if the placeholder captures.
 pub(crate) fn push_use<'a>(
-    settings: CompileSettings<'a>,
+    settings: Settings<'a>,
     rows: &mut Vec<Row<'a>>,
     label: Label<'a>,
 ) -> Result<(), AllocError>
@@ -99,7 +92,7 @@ impl<'a> KnownItems<'a> {
     /// definition has no structural fault if more than `height` levels are left.
     fn add_open(
         &mut self,
-        settings: CompileSettings<'a>,
+        settings: Settings<'a>,
         label: Label<'a>,
         height: usize,
     ) -> Result<(), AllocError>
@@ -118,7 +111,7 @@ impl<'a> KnownParts<'a> {
     /// Returns the known part of the definition of a name, if there is one.
     pub fn of_name(&self, name: &'a str) -> Option<&KnownPart<'a>>
         ensures kept { option_copied result ≡ known_part_of self.now.by_name name.now }
-        ensures part { IfSome result (λ part. (settings : CompileSettings) (known : AreKnown settings self.now)
+        ensures part { IfSome result (λ part. (settings : Settings) (known : AreKnown settings self.now)
             (text : List ℕ) → finite.get settings.grok.now name.now ≡ Some text
             → IsKnownPartOf settings known.done text part.now) }
     {
@@ -129,7 +122,7 @@ impl<'a> KnownParts<'a> {
     /// and adds nothing if the item may have a fault.
     fn read_item(
         &self,
-        settings: CompileSettings<'a>,
+        settings: Settings<'a>,
         item: Item<'a>,
         known: &mut KnownItems<'a>,
     ) -> Result<bool, AllocError>
@@ -162,7 +155,7 @@ impl<'a> KnownParts<'a> {
     /// it reads more than `usize::MAX` items.
     fn read_text(
         &self,
-        settings: CompileSettings<'a>,
+        settings: Settings<'a>,
         stored: &'a Definition,
     ) -> Result<Option<ReadText<'a>>, AllocError>
         ensures { IfOk result (λ found. IfSome found (λ text. (parts : AreKnown settings.entry self.now)
@@ -190,7 +183,7 @@ impl<'a> KnownParts<'a> {
 
     /// Reads the definition of a name, if it has one, and keeps what is known of it under that name.
     /// Keeps nothing if more than `usize::MAX` items would be read.
-    fn add_name(&mut self, settings: CompileSettings<'a>, name: &'a str) -> Result<(), AllocError>
+    fn add_name(&mut self, settings: Settings<'a>, name: &'a str) -> Result<(), AllocError>
         requires { AreKnown settings self.old }
         ensures { OnOk result (AreKnown settings.entry self.new) }
     {
@@ -214,7 +207,7 @@ impl<'a> KnownParts<'a> {
     /// uses. Otherwise its definition is known only up to the first placeholder whose name wasn't
     /// read before.
     pub fn of_names(
-        settings: CompileSettings<'a>,
+        settings: Settings<'a>,
         names: &[(usize, &'a str)],
     ) -> Result<KnownParts<'a>, AllocError>
         ensures { IfOk result (λ parts. AreKnown settings.entry parts) }

@@ -1,9 +1,35 @@
-//! Reads back numbered keys such as `key[2]`.
-ghost use Rattle.std.specs.Prelude.{◌≡◌, ℕ, suc, ◌<◌, ◌^◌, false, List, ◌∷◌, MatchOption};
-ghost use Rattle.grok.specs.Keys.{numbered, ends_in_number};
+//! Base keys, and keys with a number such as `key[2]`: how they are written and read back.
+ghost use Rattle.std.specs.Prelude.{◌≡◌, ℕ, suc, ◌<◌, ◌^◌, false, List, ◌∷◌, IfOk, MatchOption};
+ghost use Rattle.std.specs.String.{string_bytes};
+ghost use Rattle.grok.specs.Keys.{numbered, ends_in_number, base_key as base_key_of};
+ghost use Rattle.grok.specs.Items.{label_view};
 ghost use Rattle.grok.specs.steps.Endings.{ends_after};
 
+use crate::defs::items::Label;
 use crate::numeral::number_of_numeral;
+use std::alloc::{AllocError, Global};
+
+/// Returns the base key of a placeholder: its alias, or its name if it has no alias.
+pub(crate) fn base_key<'a>(label: Label<'a>) -> &'a str
+    ensures { result.now ≡ base_key_of (label_view label.entry) }
+{
+    if label.alias.is_empty() {
+        label.name
+    } else {
+        label.alias
+    }
+}
+
+/// Returns the key of a placeholder with this base key, which was used `count` times before.
+pub(crate) fn numbered_key(alloc: Global, base: &str, count: usize) -> Result<String, AllocError>
+    ensures { IfOk result (λ key. string_bytes key ≡ numbered base.now count) }
+{
+    if count == 0 {
+        String::from_str(alloc, base)
+    } else {
+        format!(in alloc; "{base}[{count}]")
+    }
+}
 
 /// How the bytes that were read so far end.
 #[derive(Clone, Copy)]

@@ -14,8 +14,9 @@ ghost use Rattle.grok.specs.steps.RowReading.{StepsAtText, StepsAtItem};
 use crate::defs::deferred_items::DeferredItems;
 use crate::defs::items::{Item, Items, Label, Meaning};
 use crate::errors::fault::LEVELS;
-use crate::expand::known_parts::{CompileSettings, KnownPart, KnownParts, push_use};
+use crate::expand::known_parts::{KnownPart, KnownParts, push_use};
 use crate::expand::rows::Row;
+use crate::settings::Settings;
 use std::alloc::AllocError;
 use std::mem;
 
@@ -36,7 +37,7 @@ fn open_after_known<'a>(
     part: &KnownPart<'a>,
     items: Items<'a>,
 ) -> Result<ReadStep<'a>, AllocError>
-    ensures { IfOk result (λ step. (settings : CompileSettings) (done : List (List (List ℕ))) (text : List ℕ)
+    ensures { IfOk result (λ step. (settings : Settings) (done : List (List (List ℕ))) (text : List ℕ)
         (levels : ℕ) → IsKnownPartOf settings done text part.now → part.now.height < levels
         → items.entry ≡ resolve settings text
         → StepsAtText settings done levels text rows.old.items rows.new.items step) }
@@ -54,7 +55,7 @@ fn open_after_known<'a>(
 /// Returns whether to skip the definition of a placeholder, to enter it, or to stop, since it is
 /// nested too deeply. The placeholder and what it uses may be nested up to `levels` levels deep.
 fn open_placeholder<'a>(
-    settings: CompileSettings<'a>,
+    settings: Settings<'a>,
     parts: &KnownParts<'a>,
     rows: &mut Vec<Row<'a>>,
     label: Label<'a>,
@@ -85,7 +86,7 @@ fn open_placeholder<'a>(
 /// Reads an item, whose placeholders may be nested up to `levels` levels deep. Returns whether to
 /// skip the item, to enter its definition, or to stop.
 fn read_item<'a>(
-    settings: CompileSettings<'a>,
+    settings: Settings<'a>,
     parts: &KnownParts<'a>,
     rows: &mut Vec<Row<'a>>,
     item: Item<'a>,
@@ -108,7 +109,7 @@ fn read_item<'a>(
 /// Returns the base keys of a pattern's capturing placeholders before its first structural fault, in
 /// reading order. The rows of `parts` stand for those in known definitions.
 pub(crate) fn read_rows<'a>(
-    settings: CompileSettings<'a>,
+    settings: Settings<'a>,
     parts: &KnownParts<'a>,
     pattern: &'a str,
 ) -> Result<Vec<Row<'a>>, AllocError>

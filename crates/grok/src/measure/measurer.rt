@@ -3,10 +3,10 @@
 ghost use Rattle.std.specs.Prelude.{◌≡◌, ◌+◌, ◌<◌, ◌≤◌, ◌^◌, [], ◌∷◌, Option, Result, OnOk, IfOk, IfErr, MatchOption, length, Some, option_map};
 ghost use Rattle.std.specs.FinMap as finite;
 ghost use Rattle.grok.specs.Tree.{first_structural, inside};
-ghost use Rattle.grok.specs.steps.Sizes.{sizes, size_or_fault};
+ghost use Rattle.grok.specs.steps.Sizes.{size_or_fault};
 ghost use Rattle.grok.specs.steps.MeasuredOnce.{State, items_within, nothing_measured};
 ghost use Rattle.grok.specs.Measured.{tree_of, measured_tree, saturated, measure_view};
-ghost use Rattle.grok.specs.steps.MeasureCache.{items_in, shown_result, result_view, ShowsState, unwound, AreLow, StopsReading, HasCorrectCache};
+ghost use Rattle.grok.specs.steps.MeasureCache.{items_in, shown_result, result_view, ShowsState, unwound, AreLow, StopsReading, AnswersReading, HasCorrectCache};
 ghost use Rattle.grok.specs.Items.{fault_view, item_view, label_view};
 ghost use Rattle.grok.specs.Keys.{is_capturing};
 
@@ -18,8 +18,8 @@ use crate::measure::partial_size::{
     Failure, PartialSize, add, bracketed, fault_after, fault_of, measure_of_result, size_of_text,
 };
 use crate::measure::placeholders::{PlaceholderSize, measure_placeholder};
-use crate::measure::settings::MeasureSettings;
 use crate::measure::{Looks, Measure};
+use crate::settings::Settings;
 use std::alloc::AllocError;
 
 /// A text that waits until a definition that it uses is measured.
@@ -39,7 +39,7 @@ pub(crate) struct Frame<'a> {
 /// was nested too deeply before and more levels are left now.
 #[derive(Drop)]
 pub(crate) struct Measurer<'a> {
-    settings: MeasureSettings<'a>,
+    pub settings: Settings<'a>,
     pub(super) cache: MeasureCache<'a>,
 }
 
@@ -69,13 +69,14 @@ fn next_counted<'a>(
 
 impl<'a> Measurer<'a> {
     /// Makes a measurer that remembers no definition.
-    pub fn new(settings: MeasureSettings<'a>) -> Measurer<'a>
+    pub fn new(settings: Settings<'a>) -> Measurer<'a>
         ensures settings { result.settings ≡ settings.entry }
         ensures nothing { ShowsState result.cache nothing_measured }
+        ensures cache { HasCorrectCache result }
     {
         Measurer {
             settings,
-            cache: MeasureCache::new(settings.alloc),
+            cache: MeasureCache::new(settings.grok.alloc()),
         }
     }
 
@@ -94,7 +95,7 @@ impl<'a> Measurer<'a> {
     /// # Errors
     ///
     /// If an allocation fails.
-    pub(super) fn measure_text(
+    fn measure_text(
         &mut self,
         frames: &mut Vec<Frame<'a>>,
         text: &'a str,
@@ -112,7 +113,7 @@ impl<'a> Measurer<'a> {
         ensures settings { IfOk result (λ r. self.new.settings ≡ self.old.settings) }
     {
         let settings = self.settings;
-        let mut items = Items::of_text(settings.alloc, settings.grok, text);
+        let mut items = Items::of_text(settings.grok.alloc(), settings.grok, text);
         let mut sum = size_of_text("");
         'items: loop {
             match next_counted(&mut items, &mut self.cache.looks)? {
@@ -140,7 +141,7 @@ impl<'a> Measurer<'a> {
                                 items,
                                 sum,
                             })?;
-                            items = Items::of_stored(settings.alloc, settings.grok, stored);
+                            items = Items::of_stored(settings.grok.alloc(), settings.grok, stored);
                             sum = size_of_text("");
                         }
                     }
@@ -184,30 +185,23 @@ impl<'a> Measurer<'a> {
     }
 
     /// Measures a text with `levels` levels left, and uses what is remembered of its definitions.
-    fn measure_within(
+    pub(super) fn measure_within(
         &mut self,
         text: &'a str,
         levels: usize,
     ) -> Result<Result<PartialSize, Failure<'a>>, AllocError>
         requires few { levels < 2 ^ 31 }
-        ensures size { IfOk result (λ r. HasCorrectCache self.old →
-            result_view r ≡ shown_result (sizes self.old.settings.with_alias_only
-            (size_or_fault self.old.settings.with_alias_only (items_in self.old.settings.grok.now) levels)
-            (items_in self.old.settings.grok.now text.now))) }
-        ensures cache { IfOk result
-            (λ r. HasCorrectCache self.old →
-            HasCorrectCache self.new) }
+        ensures reading { IfOk result (λ r. (st : State) → ShowsState self.old.cache st →
+            AnswersReading r self.new.cache (items_within self.old.settings.with_alias_only
+            (items_in self.old.settings.grok.now) levels (items_in self.old.settings.grok.now text.now) st)) }
         ensures settings { IfOk result (λ r. self.new.settings ≡ self.old.settings) }
     {
-        let mut frames = Vec::new(self.settings.alloc);
+        let mut frames = Vec::new(self.settings.grok.alloc());
         let answer = self.measure_text(&mut frames, text, levels)?;
-        match answer {
-            Ok(sum) => Ok(Ok(sum)),
-            Err(failure) => {
-                self.remember_fault(&mut frames, levels, failure)?;
-                Ok(Err(failure))
-            }
+        if let Err(failure) = answer {
+            self.remember_fault(&mut frames, levels, failure)?;
         }
+        Ok(answer)
     }
 
     /// Measures a pattern, and uses what is remembered of its definitions.

@@ -2,7 +2,7 @@
 ghost use Rattle.std.specs.Prelude.{◌≡◌, ℕ, ◌+◌, ◌<◌, ◌≤◌, ◌^◌, max, nat_lt, Option, Result, length, Some, option_map};
 ghost use Rattle.grok.specs.Tree.{Fault as ItemFault, inside};
 ghost use Rattle.grok.specs.steps.Sizes.{Size, plus, in_brackets, head_size, length_of, digits_from, size_of_bytes};
-ghost use Rattle.grok.specs.Measured.{size_within, saturated, measure_view};
+ghost use Rattle.grok.specs.Measured.{size_within, measure_view};
 ghost use Rattle.grok.specs.steps.MeasureCache.{fault_in, fit, shown, shown_result, result_view, measured_size};
 ghost use Rattle.grok.specs.Items.{fault_view};
 

@@ -10,7 +10,7 @@ use crate::defs::definition::Definition;
 use crate::defs::items::{Label, Meaning};
 use crate::measure::cache::{MeasureCache, Progress};
 use crate::measure::partial_size::{Failure, PartialSize, bracketed, size_of_text, too_deep};
-use crate::measure::settings::MeasureSettings;
+use crate::settings::Settings;
 use std::alloc::AllocError;
 
 /// One placeholder: its size or fault is known, or its definition has to be measured first.
@@ -37,7 +37,7 @@ fn measure_inline<'a>(text: &'a str, levels: usize) -> Result<PartialSize, Failu
 
 /// Returns the size or fault of a placeholder whose definition has the size or fault `inner`.
 fn size_of_placeholder<'a>(
-    settings: MeasureSettings<'a>,
+    settings: Settings<'a>,
     label: Label<'a>,
     inner: Result<PartialSize, Failure<'a>>,
 ) -> Result<PartialSize, Failure<'a>>
@@ -63,7 +63,7 @@ fn size_of_placeholder<'a>(
 /// Measures a placeholder that stands for a stored definition. `levels` levels are left, its own
 /// among them.
 fn measure_stored<'a>(
-    settings: MeasureSettings<'a>,
+    settings: Settings<'a>,
     cache: &mut MeasureCache<'a>,
     label: Label<'a>,
     stored: &'a Definition,
@@ -99,7 +99,7 @@ fn measure_stored<'a>(
 ///
 /// If an allocation fails.
 pub(super) fn measure_placeholder<'a>(
-    settings: MeasureSettings<'a>,
+    settings: Settings<'a>,
     cache: &mut MeasureCache<'a>,
     label: Label<'a>,
     meaning: Meaning<'a>,

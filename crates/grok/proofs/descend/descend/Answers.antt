@@ -1,15 +1,43 @@
-use Rattle.std.proofs.Common.{◌≡◌, ◌-◌, ◌≤◌, ◌<◌, ℕ, List, Bor, [], ◌∷◌, length, refl, sym, ◌∙◌, ap, subst, arith}
+use Rattle.std.proofs.Common.{◌≡◌, ◌-◌, ◌≤◌, ◌<◌, ℕ, List, Bor, [], ◌∷◌, ◌++◌, length, refl, sym, ◌∙◌, ap, subst, arith}
 use Rattle.std.proofs.lemmas.List.{nil_from_length}
 use Rattle.std.specs.FinMap as finite
 use Rattle.grok.specs.Tree.{Definitions, deepest, items_of}
 use Rattle.grok.specs.Items.{item_view, meaning_view}
+use Rattle.grok.specs.FaultLocations.{IsPieceAt}
 use Rattle.grok.specs.steps.PlacedItems.{IsOfLibrary, HasRead, left_in}
 use Rattle.grok.specs.steps.Searches.{PassesMore, StopsAt}
-use Rattle.grok.specs.steps.Descents.{IsStep, path_of}
-use Rattle.grok.specs.declared.defs.placed_items.PlacedItems.{PlacedItems}
+use Rattle.grok.specs.steps.Descents.{IsStep, EntersItem, path_of}
 use Rattle.grok.specs.declared.descend.Opened.{Opened}
 use Rattle.grok.proofs.Trees.DescentFindsPlace.{descending_starts, descending_fits, descending_levels, descending_goes_on, descending_stops, descending_enters, descending_ends, closes_on, closes_here, found_at, step_fewer, enter_fewer, close_fewer, all_passed, passes_none, passes_both}
+use Rattle.grok.proofs.descend.descend.Given.{Over}
 use Rattle.grok.proofs.descend.descend.Goals as goal
+use Rattle.grok.proofs.descend.descend.Goals.{In-Some, In_ok-step_at_item-in-Some, In_ok-push-in-Entered, In-None}
+
+-- ---- what the goals at an item share
+
+-- the item stands in the text, after those that were read
+stands : (g : Over) (c : In-Some g) → IsPieceAt (finite.get c.args.grok.now) c.items.inner.text.now c.items.invariant.descending.before c.in-Some.placed.range.start c.in-Some.placed.range.end (item_view c.in-Some.placed.item)
+    × IsOfLibrary (finite.get c.args.grok.now) (item_view c.in-Some.placed.item)
+    × HasRead (finite.get c.args.grok.now) (c.items.invariant.descending.before ++ item_view c.in-Some.placed.item ∷ []) c.next.new.self
+stands g c = rw c.in-Some.is at (c.in_ok-placed.ensures.stands (finite.get c.args.grok.now) c.items.invariant.descending.before c.items.invariant.descending.read)
+
+cut : (g : Over) (c : In-Some g) → left_in c.items.inner ≡ item_view c.in-Some.placed.item ∷ left_in c.next.new.self
+cut g c = rw c.in-Some.is at c.in_ok-placed.ensures.left
+
+stepped : (g : Over) (c : In_ok-step_at_item-in-Some g) → IsStep (PassesMore g.S.Search.HasPassed) (StopsAt g.S.Search.HasPassed g.S.Search.IsSought) (finite.get c.args.grok.now) c.items.invariant.descending.levels
+    (item_view c.in-Some.placed.item) c.in_ok-step_at_item-in-Some.field-0 c.items.search c.step_at_item.new.search
+stepped g c =
+    let s = g.S.Search in
+    let stored = finite.get c.args.grok.now in
+    let inv = c.items.invariant in
+    let item = item_view c.in-Some.placed.item in
+    let found = c.in_ok-step_at_item-in-Some.field-0 in
+    let levels : deepest - c.len.result ≡ inv.descending.levels = ap (λ n. deepest - n) (c.len.ensures ∙ c.items.around.ok.0)
+    ∙ sym (descending_levels (PassesMore s.HasPassed) (StopsAt s.HasPassed s.IsSought) stored (passes_both s.HasPassed) c.args.pattern.now c.args.search.now c.items.around.items c.items.inner c.items.search inv.descending) in
+    subst (λ n. IsStep (PassesMore s.HasPassed) (StopsAt s.HasPassed s.IsSought) stored n item found c.items.search c.step_at_item.new.search) levels
+    (subst (λ (stored : Definitions). IsStep (PassesMore s.HasPassed) (StopsAt s.HasPassed s.IsSought) stored (deepest - c.len.result) item found c.items.search c.step_at_item.new.search) (inv.library ∙ c.requires.library) c.in_ok-step_at_item-in-Some.ensures.step)
+
+-- ---- the goals
 
 pub items-init : goal.items-init
 items-init g c =
@@ -41,39 +69,19 @@ step_at_item-requires g c κs =
 
 pub items-smaller-in-Passed : goal.items-smaller-in-Passed
 items-smaller-in-Passed g c =
-    let stored = finite.get c.args.grok.now in
-    let around = c.items.around.items in
-    let inner = c.items.inner in
-    let later = c.next.new.self in
-    let placed = c.in-Some.placed in
-    let item = item_view placed.item in
-    let cut : left_in inner ≡ item ∷ left_in later = rw c.in-Some.is at c.in_ok-placed.ensures.left in
-    step_fewer stored around (left_in inner) item (left_in later) cut
+    step_fewer (finite.get c.args.grok.now) c.items.around.items (left_in c.items.inner) (item_view c.in-Some.placed.item) (left_in c.next.new.self) (cut g (goal.at.items-smaller-in-Passed g c).In-Some)
 
 pub items-preserved-in-Passed : goal.items-preserved-in-Passed
 items-preserved-in-Passed g c =
     let s = g.S.Search in
-    let stored = finite.get c.args.grok.now in
-    let pattern = c.args.pattern.now in
-    let old = c.args.search.now in
-    let around = c.items.around.items in
-    let inner = c.items.inner in
-    let mid = c.items.search in
     let inv = c.items.invariant in
-    let d = inv.descending in
-    let later = c.next.new.self in
-    let placed = c.in-Some.placed in
-    let item = item_view placed.item in
-    let (stands, of_library, read) = rw c.in-Some.is at (c.in_ok-placed.ensures.stands stored d.before d.read) in
-    let new = c.step_at_item.new.search in
-    let levels : deepest - c.len.result ≡ d.levels = ap (λ n. deepest - n) (c.len.ensures ∙ c.items.around.ok.0) ∙ sym (descending_levels (PassesMore s.HasPassed) (StopsAt s.HasPassed s.IsSought) stored (passes_both s.HasPassed) pattern old around inner mid d) in
-    let found = c.in_ok-step_at_item-in-Some.field-0 in
-    let stepped = subst (λ n. IsStep (PassesMore s.HasPassed) (StopsAt s.HasPassed s.IsSought) stored n item found mid new) levels
-    (subst (λ (stored : Definitions). IsStep (PassesMore s.HasPassed) (StopsAt s.HasPassed s.IsSought) stored (deepest - c.len.result) item found mid new) (inv.library ∙ c.requires.library) c.in_ok-step_at_item-in-Some.ensures.step) in
+    let at = goal.at.items-preserved-in-Passed g c in
+    let (stands, of_library, read) = stands g at.In-Some in
     record {
       ready = c.in_ok-step_at_item-in-Some.ensures.ready;
       library = c.in_ok-step_at_item-in-Some.ensures.definitions ∙ inv.library;
-      descending = descending_goes_on (PassesMore s.HasPassed) (StopsAt s.HasPassed s.IsSought) stored (passes_both s.HasPassed) pattern old around inner mid d later c.in_ok-placed.ensures.text placed stands read new (rw c.in-Passed.is at stepped);
+      descending = descending_goes_on (PassesMore s.HasPassed) (StopsAt s.HasPassed s.IsSought) (finite.get c.args.grok.now) (passes_both s.HasPassed) c.args.pattern.now c.args.search.now c.items.around.items c.items.inner c.items.search inv.descending
+          c.next.new.self c.in_ok-placed.ensures.text c.in-Some.placed stands read c.step_at_item.new.search (rw c.in-Passed.is at (stepped g at.In_ok-step_at_item-in-Some));
     }
 
 pub returns-in-Stopped-clause-found : goal.returns-in-Stopped-clause-found
@@ -83,85 +91,56 @@ returns-in-Stopped-clause-found g c =
     let pattern = c.args.pattern.now in
     let old = c.args.search.now in
     let around = c.items.around.items in
-    let inner = c.items.inner in
-    let mid = c.items.search in
-    let inv = c.items.invariant in
-    let d = inv.descending in
-    let later = c.next.new.self in
     let placed = c.in-Some.placed in
-    let item = item_view placed.item in
-    let (stands, of_library, read) = rw c.in-Some.is at (c.in_ok-placed.ensures.stands stored d.before d.read) in
     let new = c.step_at_item.new.search in
-    let levels : deepest - c.len.result ≡ d.levels = ap (λ n. deepest - n) (c.len.ensures ∙ c.items.around.ok.0) ∙ sym (descending_levels (PassesMore s.HasPassed) (StopsAt s.HasPassed s.IsSought) stored (passes_both s.HasPassed) pattern old around inner mid d) in
-    let found = c.in_ok-step_at_item-in-Some.field-0 in
-    let stepped = subst (λ n. IsStep (PassesMore s.HasPassed) (StopsAt s.HasPassed s.IsSought) stored n item found mid new) levels
-    (subst (λ (stored : Definitions). IsStep (PassesMore s.HasPassed) (StopsAt s.HasPassed s.IsSought) stored (deepest - c.len.result) item found mid new) (inv.library ∙ c.requires.library) c.in_ok-step_at_item-in-Some.ensures.step) in
+    let at = goal.at.returns-in-Stopped-clause-found g c in
+    let (stands, of_library, read) = stands g at.In-Some in
     let place = c.in_ok-place_of-in-Stopped in
-    let here = descending_stops (PassesMore s.HasPassed) (StopsAt s.HasPassed s.IsSought) stored (passes_both s.HasPassed) pattern old around inner mid d later c.in_ok-placed.ensures.text placed stands read new (rw c.in-Stopped.is at stepped) in
-    found_at s.HasPassed s.IsSought stored pattern old new c.requires.begins around later.text.now placed place.field-0 here
+    let here = descending_stops (PassesMore s.HasPassed) (StopsAt s.HasPassed s.IsSought) stored (passes_both s.HasPassed) pattern old around c.items.inner c.items.search c.items.invariant.descending
+    c.next.new.self c.in_ok-placed.ensures.text placed stands read new (rw c.in-Stopped.is at (stepped g at.In_ok-step_at_item-in-Some)) in
+    found_at s.HasPassed s.IsSought stored pattern old new c.requires.begins around c.next.new.self.text.now placed place.field-0 here
     (place.ensures.path ∙ ap path_of c.deref.ensures.value) (ap (λ (text : Bor (List ℕ)). text.now) place.ensures.text) place.ensures.placed
+
+-- the definition of the item is entered
+enters : (g : Over) (c : In_ok-push-in-Entered g) → EntersItem (PassesMore g.S.Search.HasPassed) c.items.invariant.descending.levels (item_view c.in-Some.placed.item) c.in-Entered.name.now (meaning_view c.in-Entered.meaning) c.items.search c.step_at_item.new.search
+enters g c = rw c.in-Entered.is at (stepped g (goal.at.items-smaller-in_ok-push-in-Entered g c).In_ok-step_at_item-in-Some)
 
 pub items-smaller-in_ok-push-in-Entered : goal.items-smaller-in_ok-push-in-Entered
 items-smaller-in_ok-push-in-Entered g c =
     let s = g.S.Search in
     let stored = finite.get c.args.grok.now in
-    let pattern = c.args.pattern.now in
-    let old = c.args.search.now in
     let around = c.items.around.items in
-    let inner = c.items.inner in
-    let mid = c.items.search in
-    let inv = c.items.invariant in
-    let d = inv.descending in
-    let later = c.next.new.self in
     let placed = c.in-Some.placed in
-    let item = item_view placed.item in
-    let cut : left_in inner ≡ item ∷ left_in later = rw c.in-Some.is at c.in_ok-placed.ensures.left in
-    let new = c.step_at_item.new.search in
-    let levels : deepest - c.len.result ≡ d.levels = ap (λ n. deepest - n) (c.len.ensures ∙ c.items.around.ok.0) ∙ sym (descending_levels (PassesMore s.HasPassed) (StopsAt s.HasPassed s.IsSought) stored (passes_both s.HasPassed) pattern old around inner mid d) in
-    let found = c.in_ok-step_at_item-in-Some.field-0 in
-    let stepped = subst (λ n. IsStep (PassesMore s.HasPassed) (StopsAt s.HasPassed s.IsSought) stored n item found mid new) levels
-    (subst (λ (stored : Definitions). IsStep (PassesMore s.HasPassed) (StopsAt s.HasPassed s.IsSought) stored (deepest - c.len.result) item found mid new) (inv.library ∙ c.requires.library) c.in_ok-step_at_item-in-Some.ensures.step) in
-    let e = rw c.in-Entered.is at stepped in
-    let opened : Opened = record { placed = placed; name = c.in-Entered.name; items = c.replace-items.result } in
-    let meaning = meaning_view c.in-Entered.meaning in
-    let within = c.replace-items.new.dest in
-    let deeper = c.push.new.self.items in
-    let room : length around < deepest = omega (arith, e.room, descending_levels (PassesMore s.HasPassed) (StopsAt s.HasPassed s.IsSought) stored (passes_both s.HasPassed) pattern old around inner mid d) in
-    enter_fewer stored around (left_in inner) item (left_in later) e.label meaning deeper opened (left_in within) cut e.is room c.in_ok-push-in-Entered.ensures.items (ap left_in c.replace-items.ensures.value)
-    (ap left_in c.replace-items.ensures.after ∙ c.items_inside.ensures.left)
+    let at = goal.at.items-smaller-in_ok-push-in-Entered g c in
+    let e = enters g at.In_ok-push-in-Entered in
+    let opened : Opened = record { placed = placed; name = c.in-Entered.name; items = c.enter-items.result } in
+    let room : length around < deepest = omega (arith, e.room, descending_levels (PassesMore s.HasPassed) (StopsAt s.HasPassed s.IsSought) stored (passes_both s.HasPassed) c.args.pattern.now c.args.search.now around c.items.inner c.items.search c.items.invariant.descending) in
+    enter_fewer stored around (left_in c.items.inner) (item_view placed.item) (left_in c.next.new.self) e.label (meaning_view c.in-Entered.meaning) c.push.new.self.items opened (left_in c.enter-items.new.self) (cut g at.In-Some) e.is room
+    c.in_ok-push-in-Entered.ensures.items (ap left_in c.enter-items.ensures.around) c.enter-items.ensures.left
 
 pub items-preserved-in_ok-push-in-Entered : goal.items-preserved-in_ok-push-in-Entered
 items-preserved-in_ok-push-in-Entered g c =
     let s = g.S.Search in
-    let stored = finite.get c.args.grok.now in
-    let pattern = c.args.pattern.now in
-    let old = c.args.search.now in
-    let around = c.items.around.items in
-    let inner = c.items.inner in
-    let mid = c.items.search in
     let inv = c.items.invariant in
-    let d = inv.descending in
-    let later = c.next.new.self in
     let placed = c.in-Some.placed in
-    let item = item_view placed.item in
-    let (stands, of_library, read) = rw c.in-Some.is at (c.in_ok-placed.ensures.stands stored d.before d.read) in
     let new = c.step_at_item.new.search in
-    let levels : deepest - c.len.result ≡ d.levels = ap (λ n. deepest - n) (c.len.ensures ∙ c.items.around.ok.0) ∙ sym (descending_levels (PassesMore s.HasPassed) (StopsAt s.HasPassed s.IsSought) stored (passes_both s.HasPassed) pattern old around inner mid d) in
-    let found = c.in_ok-step_at_item-in-Some.field-0 in
-    let stepped = subst (λ n. IsStep (PassesMore s.HasPassed) (StopsAt s.HasPassed s.IsSought) stored n item found mid new) levels
-    (subst (λ (stored : Definitions). IsStep (PassesMore s.HasPassed) (StopsAt s.HasPassed s.IsSought) stored (deepest - c.len.result) item found mid new) (inv.library ∙ c.requires.library) c.in_ok-step_at_item-in-Some.ensures.step) in
-    let e = rw c.in-Entered.is at stepped in
-    let opened : Opened = record { placed = placed; name = c.in-Entered.name; items = c.replace-items.result } in
-    let meaning = meaning_view c.in-Entered.meaning in
-    let within = c.replace-items.new.dest in
-    let deeper = c.push.new.self.items in
-    let begun = c.replace-items.ensures.after in
+    let at = goal.at.items-preserved-in_ok-push-in-Entered g c in
+    let (stands, of_library, read) = stands g at.In-Some in
+    let e = enters g at.In_ok-push-in-Entered in
+    let opened : Opened = record { placed = placed; name = c.in-Entered.name; items = c.enter-items.result } in
     record {
       ready = c.in_ok-step_at_item-in-Some.ensures.ready;
       library = c.in_ok-step_at_item-in-Some.ensures.definitions ∙ inv.library;
-      descending = descending_enters (PassesMore s.HasPassed) (StopsAt s.HasPassed s.IsSought) stored (passes_both s.HasPassed) pattern old around inner mid d later c.in_ok-placed.ensures.text placed stands read new opened meaning deeper within e refl c.replace-items.ensures.value c.in_ok-push-in-Entered.ensures.items
-          (ap (λ (items : PlacedItems). items.text.now) begun ∙ c.items_inside.ensures.text) (subst (HasRead stored []) (sym begun) c.items_inside.ensures.read) (passes_none s.HasPassed new);
+      descending = descending_enters (PassesMore s.HasPassed) (StopsAt s.HasPassed s.IsSought) (finite.get c.args.grok.now) (passes_both s.HasPassed) c.args.pattern.now c.args.search.now c.items.around.items c.items.inner c.items.search inv.descending
+          c.next.new.self c.in_ok-placed.ensures.text placed stands read new opened (meaning_view c.in-Entered.meaning) c.push.new.self.items c.enter-items.new.self e refl c.enter-items.ensures.around c.in_ok-push-in-Entered.ensures.items
+          c.enter-items.ensures.text c.enter-items.ensures.read (passes_none s.HasPassed new);
     }
+
+-- ---- the end of a text
+
+-- all items of the text were read
+over : (g : Over) (c : In-None g) → items_of (finite.get c.args.grok.now) c.items.inner.text.now ≡ c.items.invariant.descending.before
+over g c = rw c.in-None.is at (c.in_ok-placed.ensures.stands (finite.get c.args.grok.now) c.items.invariant.descending.before c.items.invariant.descending.read)
 
 pub returns-in_default-clause-found : goal.returns-in_default-clause-found
 returns-in_default-clause-found g c =
@@ -174,11 +153,11 @@ returns-in_default-clause-found g c =
     let mid = c.items.search in
     let inv = c.items.invariant in
     let d = inv.descending in
-    let over : items_of stored inner.text.now ≡ d.before = rw c.in-None.is at (c.in_ok-placed.ensures.stands stored d.before d.read) in
+    let over = over g (goal.at.returns-in_default-clause-found g c).In-None in
     all_passed s.HasPassed s.IsSought stored pattern old mid c.requires.begins (descending_ends (PassesMore s.HasPassed) (StopsAt s.HasPassed s.IsSought) stored (passes_both s.HasPassed) pattern old around inner mid d over (nil_from_length around (omega (arith, c.items.around.ok.0, c.in_default.ensures.cases.0))))
 
-pub returns-then-not-pass_event-clause-found : goal.returns-then-not-pass_event-clause-found
-returns-then-not-pass_event-clause-found g c =
+pub returns-then-not-is_passed-clause-found : goal.returns-then-not-is_passed-clause-found
+returns-then-not-is_passed-clause-found g c =
     let s = g.S.Search in
     let stored = finite.get c.args.grok.now in
     let pattern = c.args.pattern.now in
@@ -188,14 +167,14 @@ returns-then-not-pass_event-clause-found g c =
     let mid = c.items.search in
     let inv = c.items.invariant in
     let d = inv.descending in
-    let over : items_of stored inner.text.now ≡ d.before = rw c.in-None.is at (c.in_ok-placed.ensures.stands stored d.before d.read) in
+    let over = over g (goal.at.returns-then-not-is_passed-clause-found g c).In-None in
     let outside = c.pop.new.self.items in
     let outer = c.in-Some-pop.outer in
     let new = c.pass_event.new.self in
     let place = c.in_ok-place_of-in-None in
-    let here = closes_here (PassesMore s.HasPassed) (StopsAt s.HasPassed s.IsSought) stored (passes_both s.HasPassed) pattern old around inner mid d over outside outer c.in-Some-pop.ensures.items new (c.if-not-pass_event.ensures.stopped refl, c.if-not-pass_event.ensures.same refl) in
+    let here = closes_here (PassesMore s.HasPassed) (StopsAt s.HasPassed s.IsSought) stored (passes_both s.HasPassed) pattern old around inner mid d over outside outer c.in-Some-pop.ensures.items new (c.in_ok-is_passed-in-None.ensures.stopped c.if-not-is_passed.true, c.in_ok-is_passed-in-None.ensures.same c.if-not-is_passed.true) in
     found_at s.HasPassed s.IsSought stored pattern old new c.requires.begins outside outer.items.text.now outer.placed place.field-0 here
-    (place.ensures.path ∙ ap path_of c.deref-then-not-pass_event.ensures.value) (ap (λ (text : Bor (List ℕ)). text.now) place.ensures.text) place.ensures.placed
+    (place.ensures.path ∙ ap path_of c.deref-then-not-is_passed.ensures.value) (ap (λ (text : Bor (List ℕ)). text.now) place.ensures.text) place.ensures.placed
 
 pub items-smaller : goal.items-smaller
 items-smaller g c =
@@ -218,12 +197,12 @@ items-preserved g c =
     let mid = c.items.search in
     let inv = c.items.invariant in
     let d = inv.descending in
-    let over : items_of stored inner.text.now ≡ d.before = rw c.in-None.is at (c.in_ok-placed.ensures.stands stored d.before d.read) in
+    let over = over g (goal.at.items-preserved g c).In-None in
     let outside = c.pop.new.self.items in
     let outer = c.in-Some-pop.outer in
     let new = c.pass_event.new.self in
     record {
-      ready = c.if-not-pass_event.ensures.ready inv.ready;
-      library = c.if-not-pass_event.ensures.definitions ∙ inv.library;
-      descending = closes_on (PassesMore s.HasPassed) (StopsAt s.HasPassed s.IsSought) stored (passes_both s.HasPassed) pattern old around inner mid d over outside outer c.in-Some-pop.ensures.items new (c.if-not-pass_event.ensures.passed refl);
+      ready = c.in_ok-is_passed-in-None.ensures.ready;
+      library = c.in_ok-is_passed-in-None.ensures.definitions ∙ inv.library;
+      descending = closes_on (PassesMore s.HasPassed) (StopsAt s.HasPassed s.IsSought) stored (passes_both s.HasPassed) pattern old around inner mid d over outside outer c.in-Some-pop.ensures.items new (c.in_ok-is_passed-in-None.ensures.passed c.if-not-is_passed.false);
     }

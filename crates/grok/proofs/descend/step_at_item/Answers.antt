@@ -1,4 +1,4 @@
-use Rattle.std.proofs.Common.{◌≡◌, ◌-◌, suc, [], ◌∷◌, ◌++◌, refl, sym, ap, subst, arith, append-nil}
+use Rattle.std.proofs.Common.{◌≡◌, ◌-◌, suc, Result, Ok, Err, IfOk, [], ◌∷◌, ◌++◌, refl, sym, ap, subst, arith, append-nil}
 use Rattle.grok.specs.Tree.{TooDeep, TextItem, FaultItem, PlaceholderItem, Open, Close, Text, FaultEvent, meaning_text, items_of, events, inside}
 use Rattle.grok.specs.Items.{item_view, label_view, meaning_view, fault_view}
 use Rattle.grok.specs.ByteLocations.{Regular, Opening, Closing, Broken, Deep}
@@ -7,31 +7,37 @@ use Rattle.grok.specs.steps.Descents.{StopsInItem}
 use Rattle.grok.proofs.Trees.DescentFindsPlace.{last_step, passes_none, passes_both}
 use Rattle.grok.proofs.descend.step_at_item.Goals as goal
 
+if_ok : {A E : Type 0} (P Q : A → Type 0) (r : Result A E) → ((x : A) → P x → Q x) → IfOk r P → IfOk r Q
+if_ok P Q (Ok x) more is = more x is
+if_ok P Q (Err e) more is = tt
+
 pub returns-in-Text-clause-step : goal.returns-in-Text-clause-step
 returns-in-Text-clause-step g c =
     let s = g.S.Search in
     let old = c.args.search.now in
     let text = c.in-Text.text.now in
-    rw c.in-Text.is (last_step (PassesMore s.HasPassed) (StopsAt s.HasPassed s.IsSought) (s.definitions old) (passes_both g.S.Search.HasPassed) c.args.levels (TextItem text) [] (Text text) c.step_at_event.result old old c.step_at_event.new.search
-    (Regular c.args.levels text) refl (passes_none g.S.Search.HasPassed old) c.step_at_event.ensures.step)
+    rw c.in-Text.is (if_ok _ _ c.step_at_event.result
+    (last_step (PassesMore s.HasPassed) (StopsAt s.HasPassed s.IsSought) (s.definitions old) (passes_both g.S.Search.HasPassed) c.args.levels (TextItem text) [] (Text text) old old c.step_at_event.new.search
+    (Regular c.args.levels text) refl (passes_none g.S.Search.HasPassed old)) c.step_at_event.ensures.step)
 
 pub returns-in-Fault-clause-step : goal.returns-in-Fault-clause-step
 returns-in-Fault-clause-step g c =
     let s = g.S.Search in
     let old = c.args.search.now in
     let fault = fault_view c.in-Fault.fault in
-    rw c.in-Fault.is (last_step (PassesMore s.HasPassed) (StopsAt s.HasPassed s.IsSought) (s.definitions old) (passes_both g.S.Search.HasPassed) c.args.levels (FaultItem fault) [] (FaultEvent fault) c.step_at_event-in-Fault.result old old c.step_at_event-in-Fault.new.search
-    (Broken c.args.levels fault) refl (passes_none g.S.Search.HasPassed old) c.step_at_event-in-Fault.ensures.step)
+    rw c.in-Fault.is (if_ok _ _ c.step_at_event-in-Fault.result
+    (last_step (PassesMore s.HasPassed) (StopsAt s.HasPassed s.IsSought) (s.definitions old) (passes_both g.S.Search.HasPassed) c.args.levels (FaultItem fault) [] (FaultEvent fault) old old c.step_at_event-in-Fault.new.search
+    (Broken c.args.levels fault) refl (passes_none g.S.Search.HasPassed old)) c.step_at_event-in-Fault.ensures.step)
 
-pub returns-then-not-pass_event-clause-step : goal.returns-then-not-pass_event-clause-step
-returns-then-not-pass_event-clause-step g c =
+pub returns-then-not-is_passed-clause-step : goal.returns-then-not-is_passed-clause-step
+returns-then-not-is_passed-clause-step g c =
     let s = g.S.Search in
     let old = c.args.search.now in
     let new = c.pass_event.new.self in
     let label = label_view c.in-Placeholder.label in
     let meaning = meaning_view c.in-Placeholder.meaning in
-    let stopped = c.if-not-pass_event.ensures.stopped refl in
-    let same = c.if-not-pass_event.ensures.same refl in
+    let stopped = c.in_ok-is_passed-in-Placeholder.ensures.stopped c.if-not-is_passed.true in
+    let same = c.in_ok-is_passed-in-Placeholder.ensures.same c.if-not-is_passed.true in
     let here : StopsInItem (PassesMore s.HasPassed) (StopsAt s.HasPassed s.IsSought) (s.definitions old) c.args.levels (PlaceholderItem label meaning) old new = record {
       own = [];
       event = Open label meaning;
@@ -49,8 +55,9 @@ returns-then-levels-eq0-clause-step g c =
     let label = label_view c.in-Placeholder.label in
     let meaning = meaning_view c.in-Placeholder.meaning in
     let none : c.args.levels ≡ 0 = omega arith in
-    rw (c.in-Placeholder.is, none) (last_step (PassesMore s.HasPassed) (StopsAt s.HasPassed s.IsSought) (s.definitions old) (passes_both g.S.Search.HasPassed) 0 (PlaceholderItem label meaning) (Open label meaning ∷ []) (FaultEvent TooDeep)
-    c.step_at_event-then-levels-eq0.result old mid c.step_at_event-then-levels-eq0.new.search (Deep label meaning) refl (c.if-not-pass_event.ensures.passed refl) c.step_at_event-then-levels-eq0.ensures.step)
+    rw (c.in-Placeholder.is, none) (if_ok _ _ c.step_at_event-then-levels-eq0.result
+    (last_step (PassesMore s.HasPassed) (StopsAt s.HasPassed s.IsSought) (s.definitions old) (passes_both g.S.Search.HasPassed) 0 (PlaceholderItem label meaning) (Open label meaning ∷ []) (FaultEvent TooDeep)
+    old mid c.step_at_event-then-levels-eq0.new.search (Deep label meaning) refl (c.in_ok-is_passed-in-Placeholder.ensures.passed c.if-not-is_passed.false)) c.step_at_event-then-levels-eq0.ensures.step)
 
 pub returns-then-branch-clause-step : goal.returns-then-branch-clause-step
 returns-then-branch-clause-step g c =
@@ -63,10 +70,11 @@ returns-then-branch-clause-step g c =
     let below = c.args.levels - 1 in
     let levels : c.args.levels ≡ suc below = let some : c.args.levels ≡ 0 → ⊥ = c.if-levels-eq0.false in omega arith in
     let inner = events (inside (items_of (s.definitions old)) below) (items_of (s.definitions old) (meaning_text meaning)) in
-    let passed : (PassesMore s.HasPassed) opened inner mid = rw (← c.if-not-pass_event.ensures.definitions) (rw c.if-branch.true at c.in_ok-pass_meaning-in-Placeholder.ensures.passed) in
-    rw (c.in-Placeholder.is, levels) (last_step (PassesMore s.HasPassed) (StopsAt s.HasPassed s.IsSought) (s.definitions old) (passes_both s.HasPassed) (suc below) (PlaceholderItem label meaning) (Open label meaning ∷ inner) Close
-    c.step_at_event-then-branch.result old mid c.step_at_event-then-branch.new.search (Closing below label meaning) (ap (λ es. Open label meaning ∷ es) (append-nil (inner ++ Close ∷ [])))
-    ((passes_both s.HasPassed) old opened mid (Open label meaning ∷ []) inner (c.if-not-pass_event.ensures.passed refl) passed) c.step_at_event-then-branch.ensures.step)
+    let passed : (PassesMore s.HasPassed) opened inner mid = rw (← c.in_ok-is_passed-in-Placeholder.ensures.definitions) (rw c.if-branch.true at c.in_ok-pass_meaning-in-Placeholder.ensures.passed) in
+    rw (c.in-Placeholder.is, levels) (if_ok _ _ c.step_at_event-then-branch.result
+    (last_step (PassesMore s.HasPassed) (StopsAt s.HasPassed s.IsSought) (s.definitions old) (passes_both s.HasPassed) (suc below) (PlaceholderItem label meaning) (Open label meaning ∷ inner) Close
+    old mid c.step_at_event-then-branch.new.search (Closing below label meaning) (ap (λ es. Open label meaning ∷ es) (append-nil (inner ++ Close ∷ [])))
+    ((passes_both s.HasPassed) old opened mid (Open label meaning ∷ []) inner (c.in_ok-is_passed-in-Placeholder.ensures.passed c.if-not-is_passed.false) passed)) c.step_at_event-then-branch.ensures.step)
 
 pub returns-else-branch-clause-step : goal.returns-else-branch-clause-step
 returns-else-branch-clause-step g c =
@@ -83,5 +91,5 @@ returns-else-branch-clause-step g c =
       named = refl;
       below = c.args.levels - 1;
       room = let some : c.args.levels ≡ 0 → ⊥ = c.if-levels-eq0.false in omega arith;
-      passed = (passes_both s.HasPassed) old opened new (Open label meaning ∷ []) [] (c.if-not-pass_event.ensures.passed refl) nothing;
+      passed = (passes_both s.HasPassed) old opened new (Open label meaning ∷ []) [] (c.in_ok-is_passed-in-Placeholder.ensures.passed c.if-not-is_passed.false) nothing;
     }

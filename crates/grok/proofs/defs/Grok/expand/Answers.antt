@@ -32,7 +32,7 @@ pub returns-in-Some : goal.returns-in-Some
 returns-in-Some c =
     let events : List Event = tree (finite.get c.args.self.now) c.args.pattern.now in
     let fault : Fault = fault_view c.in-Fault.fault in
-    let faulty : first_structural events ≡ Some fault = faulty_is c.args.with_alias_only events fault (sym (ap measure_view c.in-Fault.is) ∙ c.in_ok-found.ensures.measured.answer) in
+    let faulty : first_structural events ≡ Some fault = faulty_is c.args.with_alias_only events fault (sym (ap measure_view c.in-Fault.is) ∙ c.in_ok-found.ensures.counted.answer) in
     First (error_value c.in-Some.error) (some_bytes c.args.pattern.now (sym c.is_empty.ensures ∙ c.if-is_empty.false)) (rw c.in-Some.is at c.in_ok-error-in-Fault.ensures)
     (λ clean. let both : None ≡ Some fault = sym clean ∙ faulty in cc)
 
@@ -45,7 +45,7 @@ pub returns-in-Fault : goal.returns-in-Fault
 returns-in-Fault c =
     let events : List Event = tree (finite.get c.args.self.now) c.args.pattern.now in
     let fault : Fault = fault_view c.in-Fault.fault in
-    let faulty : first_structural events ≡ Some fault = faulty_is c.args.with_alias_only events fault (sym (ap measure_view c.in-Fault.is) ∙ c.in_ok-found.ensures.measured.answer) in
+    let faulty : first_structural events ≡ Some fault = faulty_is c.args.with_alias_only events fault (sym (ap measure_view c.in-Fault.is) ∙ c.in_ok-found.ensures.counted.answer) in
     First (error_value c.in_ok-to_error-in-None.field-0) (some_bytes c.args.pattern.now (sym c.is_empty.ensures ∙ c.if-is_empty.false))
     (structural_error c.args.with_alias_only events fault (error_value c.in_ok-to_error-in-None.field-0) (rw c.in-None.is at c.in_ok-error-in-Fault.ensures) faulty c.in_ok-to_error-in-None.ensures)
     (λ clean. let both : None ≡ Some fault = sym clean ∙ faulty in cc)
@@ -59,7 +59,7 @@ pub returns-in-Some-2 : goal.returns-in-Some-2
 returns-in-Some-2 c =
     let events : List Event = tree (finite.get c.args.self.now) c.args.pattern.now in
     First (error_value c.in-Some-2.error) (some_bytes c.args.pattern.now (sym c.is_empty.ensures ∙ c.if-is_empty.false)) (rw c.in-Some-2.is at c.in_ok-error-in-Size.ensures)
-    (λ clean. sized_fits c.args.with_alias_only events c.in-Size.length c.in-Size.groups c.in-Size.nesting (sym (ap measure_view c.in-Size.is) ∙ c.in_ok-found.ensures.measured.answer))
+    (λ clean. sized_fits c.args.with_alias_only events c.in-Size.length c.in-Size.groups c.in-Size.nesting (sym (ap measure_view c.in-Size.is) ∙ c.in_ok-found.ensures.counted.answer))
 
 pub returns-in_err-expand_clean-in-Size : goal.returns-in_err-expand_clean-in-Size
 returns-in_err-expand_clean-in-Size c =
@@ -69,5 +69,5 @@ returns-in_err-expand_clean-in-Size c =
 pub expand_clean-requires-clause-clean : goal.expand_clean-requires-clause-clean
 expand_clean-requires-clause-clean c =
     let events : List Event = tree (finite.get c.args.self.now) c.args.pattern.now in
-    let sized = sized_is c.args.with_alias_only events c.in-Size.length c.in-Size.groups c.in-Size.nesting (sym (ap measure_view c.in-Size.is) ∙ c.in_ok-found.ensures.measured.answer) in
+    let sized = sized_is c.args.with_alias_only events c.in-Size.length c.in-Size.groups c.in-Size.nesting (sym (ap measure_view c.in-Size.is) ∙ c.in_ok-found.ensures.counted.answer) in
     (rw c.in_default.is at c.in_ok-error-in-Size.ensures) ∙ ap (option_map Structural) sized.0

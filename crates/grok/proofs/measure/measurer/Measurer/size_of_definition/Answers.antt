@@ -1,13 +1,15 @@
-use Rattle.std.proofs.Common.{suc, ◌-◌, ◌≡◌, Result, Ok, Err, subst, arith}
+use Rattle.std.proofs.Common.{suc, ◌-◌, ◌≡◌, Result, Ok, Err, subst, sym, arith}
 use Rattle.std.specs.Prelude.{IfOk}
 use Rattle.grok.specs.steps.Sizes.{size_or_fault, sizes}
-use Rattle.grok.specs.steps.MeasureCache.{items_in, result_view, shown_result}
+use Rattle.grok.specs.steps.MeasureCache.{items_in, result_view, shown_result, ShowsCorrectState}
+use Rattle.grok.specs.declared.settings.Settings.{Settings}
 use Rattle.grok.proofs.Sizes.KnownResultsAreRight.{known_is}
+use Rattle.grok.proofs.Sizes.MeasuringAgain.{size_is, stays_true}
 use Rattle.grok.proofs.measure.measurer.Measurer.size_of_definition.Goals as goal
 
-if_ok : {A E : Type 0} (P Q : A → Type 0) (r : Result A E) → ((x : A) → P x → Q x) → IfOk r P → IfOk r Q
-if_ok P Q (Ok x) more is = more x is
-if_ok P Q (Err e) more is = is
+if_both : {A E : Type 0} (P Q R : A → Type 0) (r : Result A E) → ((x : A) → P x → Q x → R x) → IfOk r P → IfOk r Q → IfOk r R
+if_both P Q R (Ok x) both p q = both x p q
+if_both P Q R (Err e) both p q = tt
 
 pub returns-in-Some-clause-size : goal.returns-in-Some-clause-size
 returns-in-Some-clause-size c true_before stored =
@@ -20,8 +22,19 @@ returns-clause-size c =
     let alias_only = c.args.self.now.settings.with_alias_only in
     let inner = c.args.levels - 1 in
     let more : suc inner ≡ c.args.levels = let some = c.requires.some in omega arith in
-    if_ok _ _ c.measure_within.result
-    (λ r is true_before stored.
+    if_both _ _ _ c.measure_within.result
+    (λ r reads same true_before stored.
     subst (λ n. result_view r ≡ shown_result (size_or_fault alias_only (items_in texts) n c.args.stored.now)) more
-    (subst (λ t. result_view r ≡ shown_result (sizes alias_only (size_or_fault alias_only (items_in texts) inner) (items_in texts t))) c.text.ensures (is true_before)))
-    c.measure_within.ensures.size
+    (subst (λ t. result_view r ≡ shown_result (sizes alias_only (size_or_fault alias_only (items_in texts) inner) (items_in texts t))) c.text.ensures
+    (size_is texts alias_only inner c.text.result.now r c.args.self.now.cache c.measure_within.new.self.cache reads true_before)))
+    c.measure_within.ensures.reading c.measure_within.ensures.settings
+
+pub returns-clause-cache : goal.returns-clause-cache
+returns-clause-cache c =
+    let texts = c.args.self.now.settings.grok.now in
+    let alias_only = c.args.self.now.settings.with_alias_only in
+    if_both _ _ _ c.measure_within.result
+    (λ r reads same true_before.
+    subst (λ (settings : Settings). ShowsCorrectState settings.grok.now settings.with_alias_only c.measure_within.new.self.cache) (sym same)
+    (stays_true texts alias_only (c.args.levels - 1) c.text.result.now r c.args.self.now.cache c.measure_within.new.self.cache reads true_before))
+    c.measure_within.ensures.reading c.measure_within.ensures.settings

@@ -1,0 +1,10 @@
+use Rattle.std.specs.FinMap as finite
+use Rattle.grok.specs.FaultLocations.{path_view}
+use Rattle.grok.specs.Diagnoses.{LeadsTo, IsRefusedPart}
+use Rattle.grok.proofs.diagnose.innermost.Given as goal
+
+abbrev pub invariant-levels : goal.invariant-levels
+invariant-levels l = record {
+  leads : LeadsTo (finite.get l.settings.grok.now) l.fn.refused.part.now (path_view l.path.items) l.inner.part.now;
+  part : IsRefusedPart l.settings.grok.now l.settings.with_alias_only l.inner;
+}

@@ -1,0 +1,31 @@
+-- What is found of the part of a pattern that `regex` refuses.
+use Rattle.std.specs.Prelude.{◌≡◌, ℕ, List, []}
+use Rattle.std.specs.FinMap as finite
+use Rattle.grok.specs.Tree.{Item, Label, Meaning, PlaceholderItem, meaning_text}
+use Rattle.grok.specs.FaultLocations.{IsPieceAt}
+use Rattle.grok.specs.Diagnoses.{IsRefusedPart}
+use Rattle.grok.specs.declared.location.PathStep.{PathStep}
+use Rattle.grok.specs.declared.diagnose.Refused.{Refused}
+use Rattle.grok.specs.declared.diagnose.Diagnosis.{Diagnosis}
+use Rattle.grok.specs.declared.diagnose.Diagnosis.TheVariants as diagnosis
+use Rattle.grok.specs.declared.settings.Settings.{Settings}
+
+-- if the pattern is refused, the refused part is the pattern itself
+abbrev pub IsWhole : List ℕ → Diagnosis → Type 0
+IsWhole pattern (diagnosis.Refused refused) = (refused.path.items ≡ []) × (refused.part.now ≡ pattern)
+IsWhole pattern diagnosis.Empty = Unit {0}
+IsWhole pattern (diagnosis.Malformed reason byte location) = Unit {0}
+IsWhole pattern (diagnosis.Missing name location) = Unit {0}
+IsWhole pattern (diagnosis.TooDeep location) = Unit {0}
+IsWhole pattern (diagnosis.Clash clash) = Unit {0}
+IsWhole pattern diagnosis.TooLong = Unit {0}
+
+-- the step is a placeholder of the text, and `regex` may refuse what it stands for
+pub record IsRefusedIn (settings : Settings) (text : List ℕ) (step : PathStep) (refused : Refused) : Type 0 where
+  pub before : List Item
+  pub label : Label
+  pub meaning : Meaning
+  pub stands : IsPieceAt (finite.get settings.grok.now) text before step.range.start step.range.end (PlaceholderItem label meaning)
+  pub named : step.name.now ≡ label.name
+  pub is : refused.part.now ≡ meaning_text meaning
+  pub part : IsRefusedPart settings.grok.now settings.with_alias_only refused
