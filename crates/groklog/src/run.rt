@@ -611,7 +611,7 @@ fn answer_by_plans<'a>(
     }
     let Some(most) = options.why else {
         if options.are_records {
-            write_bytes(rt, &header_of(alloc, layout)?)?;
+            write_bytes(rt, &header_of(alloc, &layout)?)?;
         }
         return run_answers(rt, options, sources.start.as_ref(), answers);
     };

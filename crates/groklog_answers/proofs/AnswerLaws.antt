@@ -7,7 +7,7 @@ use Rattle.groklog_answers.specs.Patterns.{MatchText, first_match}
 use Rattle.groklog_answers.specs.Objects.{match_members, unmatched_members, object_text}
 use Rattle.groklog_answers.specs.PairTexts.{optional_line, field_line, chosen_pairs, place_lines}
 use Rattle.csv.specs.Writing.{default_writer, quote_mark, is_blank, row_body, row_text}
-use Rattle.groklog_answers.specs.Records.{values_of}
+use Rattle.groklog_answers.specs.Records.{no_value, values_of}
 use Rattle.groklog_answers.specs.LogAnswers.{match_text, unmatched_text, unmatched_answer, answer_by}
 use Rattle.groklog_answers.specs.AnswerLaws.{FirstThatMatchesAnswers, NoneThatMatchesIsNoMatch, with_lines, Share, EachLineIsAnswered, EachAnswerIsOfOneKind}
 use Rattle.groklog_answers.specs.declared.layout.Lines.{Lines}
@@ -77,15 +77,15 @@ match_is_written Json layout found n line = filled (object_text (match_members l
 match_is_written Pairs layout found n line =
     filled (place_lines layout n) _
     (filled (optional_line layout.tag found.tag) _
-    (filled (flat_map (field_line layout) (chosen_pairs layout.fields found.pairs)) _ (filled (optional_line layout.keep line) (codes "\n") feed)))
-match_is_written Csv layout found n line = row_is_written (values_of layout n [] found.tag found.pairs line)
+    (filled (flat_map (field_line layout) (chosen_pairs layout.fields found.pairs found.value)) _ (filled (optional_line layout.keep line) (codes "\n") feed)))
+match_is_written Csv layout found n line = row_is_written (values_of layout n [] found.tag found.value line)
 
 unmatched_is_written : (format : OutputFormat) (layout : LayoutValue) (n : ℕ) (why : Failure) (line : List ℕ) → unmatched_text format layout n why line ≢ []
 unmatched_is_written Json layout n why line = filled (object_text (unmatched_members layout n why line)) (codes "\n") feed
 unmatched_is_written Pairs layout n why line =
     filled (place_lines layout n) _
     (filled (optional_line layout.failed (failure_words why)) _ (filled (optional_line layout.keep line) (codes "\n") feed))
-unmatched_is_written Csv layout n why line = row_is_written (values_of layout n (failure_words why) [] [] line)
+unmatched_is_written Csv layout n why line = row_is_written (values_of layout n (failure_words why) [] no_value line)
 
 written_by : (layout : LayoutValue) (found : Option MatchText) (n : ℕ) (line : List ℕ) → answer_by (with_lines All layout) found n line ≢ []
 written_by layout None n line = unmatched_is_written layout.format (with_lines All layout) n NoMatch line

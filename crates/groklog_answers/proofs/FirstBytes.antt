@@ -1,5 +1,5 @@
 -- What is known of a text that doesn't begin with a certain byte.
-use Rattle.std.proofs.Common.{◌≡◌, ◌≢◌, ℕ, Bool, true, false, ◌&&◌, ◌||◌, ◌==◌, cond, List, [], ◌∷◌, if◌then◌else◌, refl, ap}
+use Rattle.std.proofs.Common.{◌≡◌, ◌≢◌, ℕ, Bool, false, ◌&&◌, ◌==◌, List, [], ◌∷◌, if◌then◌else◌, refl, ap}
 use Rattle.std.proofs.lemmas.Bool.{ne_eqb}
 use Rattle.groklog_answers.specs.Values.{begins_with_digit, begins_with_fraction, begins_with_number, json_sign, without_plus, without_sign, without_zeros}
 

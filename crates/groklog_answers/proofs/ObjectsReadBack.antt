@@ -1,5 +1,5 @@
 -- The object of a line reads back as its members.
-use Rattle.std.proofs.Common.{◌≡◌, ℕ, zero, suc, ◌+◌, ◌≤◌, max, ◌==◌, List, [], ◌∷◌, ◌++◌, Bool, true, false, not, ◌&&◌, ◌||◌, Option, Some, None, if◌then◌else◌, refl, flat_map, length, arith}
+use Rattle.std.proofs.Common.{◌≡◌, ℕ, zero, suc, ◌+◌, ◌≤◌, ◌==◌, List, [], ◌∷◌, ◌++◌, Bool, true, false, not, ◌&&◌, ◌||◌, Option, Some, None, if◌then◌else◌, refl, flat_map, length, arith}
 use Rattle.std.specs.List.{AllByRecursion}
 use Rattle.std.specs.Str.{bytes_eq}
 use Rattle.grok.specs.Maps.{Texts}
@@ -13,7 +13,7 @@ use Rattle.groklog_answers.specs.Patterns.{MatchText}
 use Rattle.groklog_answers.specs.Plans.{FieldText, IsShallow}
 use Rattle.groklog_answers.specs.declared.layout.Failure.{Failure}
 use Rattle.groklog_answers.specs.Values.{is_written_as_number, number_form, json_value}
-use Rattle.groklog_answers.specs.PlannedFields.{kept_value, written_value, key_values, extract_for, items_of, one_or_array, members_in, is_object, inside, after, put, put_field, field_value, planned_members}
+use Rattle.groklog_answers.specs.PlannedFields.{kept_value, written_value, key_values, extract_for, items_of, one_or_array, members_in, is_object, inside, after, put, put_field, planned_members}
 use Rattle.groklog_answers.specs.Objects.{KeyValues, members_of, pairs_of, typed_pair, field_members, fields_by, optional_member, number_member, failure_tag, place_members, match_members, unmatched_members, object_text}
 use Rattle.groklog_answers.specs.AnswerLaws.{HasShallowPlan, MatchesReadBack, UnmatchedLinesReadBack}
 use Rattle.groklog_answers.proofs.NumbersAreJson.{written_is_number}

@@ -1,16 +1,16 @@
 -- The fields of a plan are written one after the other, and the tokens are those of the nested members.
-use Rattle.std.proofs.Common.{◌≡◌, ℕ, zero, suc, List, [], ◌∷◌, ◌++◌, Bool, true, false, ◌&&◌, Option, Some, None, if◌then◌else◌, refl, sym, ap, ◌∙◌, append_assoc, flat_map, map, drop, length, ◌+◌, ◌<◌, arith}
+use Rattle.std.proofs.Common.{◌≡◌, ℕ, suc, List, [], ◌∷◌, ◌++◌, Bool, true, false, ◌&&◌, Option, Some, None, if◌then◌else◌, refl, sym, ap, ◌∙◌, append_assoc, flat_map, map, drop, length, ◌+◌, ◌<◌, arith}
 use Rattle.std.proofs.lemmas.List.{append_cancel_right, drop_more, drop-map}
 use Rattle.std.specs.List.{AllByRecursion}
 use Rattle.std.specs.Str.{bytes_eq}
 use Rattle.json.specs.Token.{Token}
 use Rattle.json.specs.Json.{Json, null, boolean, number, string, array, object, Members, no_members, member}
 use Rattle.json.specs.Tree.{json_tokens, items_tokens, members_tokens}
-use Rattle.groklog_answers.specs.Values.{json_value, is_written_as_number, number_form}
+use Rattle.groklog_answers.specs.Values.{is_written_as_number, number_form}
 use Rattle.groklog_answers.specs.Layouts.{LayoutValue}
 use Rattle.groklog_answers.specs.Patterns.{MatchText}
 use Rattle.groklog_answers.specs.Plans.{FieldText}
-use Rattle.groklog_answers.specs.PlannedFields.{kept_value, written_value, key_values, extract_for, items_of, one_or_array, members_in, is_object, inside, after, put, put_field, field_value, planned_members}
+use Rattle.groklog_answers.specs.PlannedFields.{kept_value, written_value, key_values, extract_for, items_of, one_or_array, members_in, is_object, inside, after, put, put_field}
 use Rattle.groklog_answers.specs.Objects.{member_tokens, pairs_of}
 use Rattle.groklog_answers.specs.steps.OpenObjects.{closing, opening, shared_len, moving, left_tokens}
 

@@ -1,8 +1,7 @@
 -- Plans are made of the entries of their keys.
-use Rattle.std.proofs.Common.{◌≡◌, ◌≢◌, ℕ, zero, suc, ◌+◌, ◌<◌, ◌≤◌, ◌==◌, not, cond, drop, get_or, append_assoc, List, [], ◌∷◌, ◌++◌, Bool, true, false, ◌&&◌, Option, Some, None, if◌then◌else◌, option_map, unwrap_or, option_to_list, refl, sym, ap, ◌∙◌, subst, length, map, arith}
-use Rattle.std.proofs.lemmas.Bool.{eqb-true}
+use Rattle.std.proofs.Common.{◌≡◌, ℕ, zero, suc, ◌+◌, ◌<◌, ◌≤◌, ◌==◌, drop, get_or, append_assoc, List, [], ◌∷◌, ◌++◌, Bool, true, false, Option, Some, None, if◌then◌else◌, option_map, unwrap_or, refl, sym, ap, ◌∙◌, subst, length, map, arith}
 use Rattle.std.proofs.lemmas.List.{drop_all, drop_more, drop-map, map-append}
-use Rattle.std.specs.List.{AllByRecursion, list_any, prefix_len, position_or_len, before_first, after_first}
+use Rattle.std.specs.List.{AllByRecursion, list_any, position_or_len, before_first, after_first}
 use Rattle.std.specs.List.{All}
 use Rattle.std.specs.List.Sorted.{IsPermutation}
 use Rattle.std.proofs.lemmas.List.Sorted.{All-permutation}
@@ -11,7 +10,7 @@ use Rattle.std.specs.Str.{bytes_eq}
 use Rattle.std.specs.Cmp.Lexicographic.{slice_cmp}
 use Rattle.groklog_answers.specs.steps.OpenObjects.{shared_len}
 use Rattle.groklog_answers.proofs.FirstBytes.{BeginsOtherwise, other_byte}
-use Rattle.groklog_answers.specs.Plans.{is_name, name_and_rest, closed_name, first_name, comes_before, with_more, names_within, most_names, key_names, SharedKeyText, EntryText, entries_from, FieldText, field_at, field_of, continues, gathered, AreInOrder, IsShallow, IsPlan}
+use Rattle.groklog_answers.specs.Plans.{name_and_rest, first_name, comes_before, with_more, names_within, most_names, key_names, SharedKeyText, EntryText, entries_from, FieldText, field_at, field_of, continues, gathered, AreInOrder, IsShallow, IsPlan}
 
 -- ---- the member that names lead to
 

@@ -3,11 +3,9 @@ use Rattle.std.proofs.Common.{◌≡◌, ℕ, List, [], ◌∷◌, ◌++◌, Boo
 use Rattle.std.specs.Str.{bytes_eq}
 use Rattle.std.proofs.lemmas.Slice.Eq.{bytes_eq-Decides}
 use Rattle.json.specs.Json.{Json, null, boolean, number, string, array, object, Members, no_members, member}
-use Rattle.groklog_answers.specs.Layouts.{LayoutValue}
-use Rattle.groklog_answers.specs.Patterns.{MatchText}
 use Rattle.groklog_answers.specs.Plans.{FieldText}
 use Rattle.groklog_answers.specs.PlannedFields.{key_values, one_or_array, members_in, is_object, inside, after, put, put_field, field_value, planned_members}
-use Rattle.groklog_answers.specs.AnswerLaws.{PlacedValue, inside_name, values_in, values_at, value_of_field, planned_values, EachValueIsAtItsPlace}
+use Rattle.groklog_answers.specs.AnswerLaws.{inside_name, values_in, values_at, value_of_field, EachValueIsAtItsPlace}
 use Rattle.groklog_answers.proofs.PlannedTokens.{AreLeaves, values_are_leaves}
 
 leaf_at : (name : List ℕ) (value : Json) → is_object value ≡ false → values_at value name ≡ (name ∷ [], value) ∷ []

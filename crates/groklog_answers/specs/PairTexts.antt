@@ -1,7 +1,6 @@
 -- The `KEY=VALUE` lines for a line of a log.
-use Rattle.std.specs.Prelude.{ℕ, ◌==◌, List, [], ◌++◌, ◌&&◌, Option, Some, None, if◌then◌else◌, codes, flat_map, length, find}
+use Rattle.std.specs.Prelude.{ℕ, ◌==◌, List, [], ◌++◌, ◌&&◌, Option, Some, None, if◌then◌else◌, codes, flat_map, length, option_map}
 use Rattle.std.specs.Option.{option_to_list}
-use Rattle.std.specs.Str.{bytes_eq}
 use Rattle.grok.specs.Numeral.{numeral}
 use Rattle.grok_lines.specs.Pairs.{pair_line}
 use Rattle.groklog_answers.specs.Layouts.{LayoutValue, failure_words}
@@ -19,14 +18,15 @@ optional_line (Some name) text = pair_line (name, text)
 abbrev pub field_line : LayoutValue → List ℕ × List ℕ → List ℕ
 field_line layout pair = if layout.drops_empty && (length pair.1 == 0) then [] else pair_line pair
 
--- The pair with this key, or `None` if there is none.
-abbrev pub pair_with : List ℕ → List (List ℕ × List ℕ) → Option (List ℕ × List ℕ)
-pair_with name pairs = find (λ pair. bytes_eq pair.0 name) pairs
+-- The key with its value in a match, or nothing if it has none. `value` is the value of each key.
+abbrev pub pair_of_key : (List ℕ → Option (List ℕ)) → List ℕ → List (List ℕ × List ℕ)
+pair_of_key value name = option_to_list (option_map (λ text. (name, text)) (value name))
 
--- The pairs that are written: all of them, or those with the keys `names`, in the order of these.
-abbrev pub chosen_pairs : Option (List (List ℕ)) → List (List ℕ × List ℕ) → List (List ℕ × List ℕ)
-chosen_pairs None pairs = pairs
-chosen_pairs (Some names) pairs = flat_map (λ name. option_to_list (pair_with name pairs)) names
+-- The pairs that are written: all pairs of a match, or those with the keys `names`, in the order of these. `value` is
+-- the value of each key.
+abbrev pub chosen_pairs : Option (List (List ℕ)) → List (List ℕ × List ℕ) → (List ℕ → Option (List ℕ)) → List (List ℕ × List ℕ)
+chosen_pairs None pairs value = pairs
+chosen_pairs (Some names) pairs value = flat_map (pair_of_key value) names
 
 -- The lines that say which line the n-th one is: its number, and the name of its file.
 abbrev pub place_lines : LayoutValue → ℕ → List ℕ
@@ -38,7 +38,7 @@ abbrev pub match_lines : LayoutValue → MatchText → ℕ → List ℕ → List
 match_lines layout found n line =
     place_lines layout n
     ++ (optional_line layout.tag found.tag
-    ++ (flat_map (field_line layout) (chosen_pairs layout.fields found.pairs) ++ (optional_line layout.keep line ++ codes "\n")))
+    ++ (flat_map (field_line layout) (chosen_pairs layout.fields found.pairs found.value) ++ (optional_line layout.keep line ++ codes "\n")))
 
 -- What is written for the n-th line if it has no fields: which line it is, why it has none, the line
 -- itself, and an empty line.

@@ -1,11 +1,10 @@
 -- The records of comma-separated values for the lines of a log.
 use Rattle.std.specs.Prelude.{ℕ, List, [], ◌∷◌, ◌++◌, Option, Some, None, map, unwrap_or}
-use Rattle.std.specs.Option.{option_map_or, option_to_list}
+use Rattle.std.specs.Option.{option_to_list}
 use Rattle.csv.specs.Writing.{default_writer, row_text}
 use Rattle.grok.specs.Numeral.{numeral}
 use Rattle.groklog_answers.specs.Layouts.{LayoutValue, failure_words}
 use Rattle.groklog_answers.specs.Patterns.{MatchText}
-use Rattle.groklog_answers.specs.PairTexts.{pair_with}
 use Rattle.groklog_answers.specs.declared.layout.Failure.{Failure}
 
 -- The values in a column that an option such as `--tag` asks for. If it names no key, there is no such column.
@@ -17,19 +16,23 @@ optional_value (Some name) value = value ∷ []
 abbrev pub columns_of : LayoutValue → List (List ℕ)
 columns_of layout = unwrap_or layout.fields []
 
--- The value of a key in the pairs of a match. It is empty if the key has none.
-abbrev pub value_in : List (List ℕ × List ℕ) → List ℕ → List ℕ
-value_in pairs name = option_map_or (λ pair. pair.1) (pair_with name pairs) []
+-- The value of a key in a match. It is empty if the key has none.
+abbrev pub value_or_empty : (List ℕ → Option (List ℕ)) → List ℕ → List ℕ
+value_or_empty value name = unwrap_or (value name) []
+
+-- The value of each key in a line that doesn't match: none has one.
+abbrev pub no_value : List ℕ → Option (List ℕ)
+no_value name = None
 
 -- THE VALUES OF A RECORD: the number of the line, the name of its file, why it has no fields, the tag of the pattern, the
--- values of the chosen keys, and the line itself.
-abbrev pub values_of : LayoutValue → ℕ → List ℕ → List ℕ → List (List ℕ × List ℕ) → List ℕ → List (List ℕ)
-values_of layout n why tag pairs line =
+-- values of the chosen keys, and the line itself. `value` is the value of each key, if it has one.
+abbrev pub values_of : LayoutValue → ℕ → List ℕ → List ℕ → (List ℕ → Option (List ℕ)) → List ℕ → List (List ℕ)
+values_of layout n why tag value line =
     optional_value layout.number (numeral n)
     ++ optional_value layout.file layout.file_name
     ++ optional_value layout.failed why
     ++ optional_value layout.tag tag
-    ++ map (value_in pairs) (columns_of layout)
+    ++ map (value_or_empty value) (columns_of layout)
     ++ optional_value layout.keep line
 
 -- The record with the names of the columns.
@@ -43,8 +46,8 @@ header_record layout = row_text default_writer (option_to_list layout.number
 
 -- The record of a match in the n-th line.
 abbrev pub match_record : LayoutValue → MatchText → ℕ → List ℕ → List ℕ
-match_record layout found n line = row_text default_writer (values_of layout n [] found.tag found.pairs line)
+match_record layout found n line = row_text default_writer (values_of layout n [] found.tag found.value line)
 
 -- The record of the n-th line if it has no fields, for the reason `why`.
 abbrev pub unmatched_record : LayoutValue → ℕ → Failure → List ℕ → List ℕ
-unmatched_record layout n why line = row_text default_writer (values_of layout n (failure_words why) [] [] line)
+unmatched_record layout n why line = row_text default_writer (values_of layout n (failure_words why) [] no_value line)

@@ -1,5 +1,5 @@
 -- How often each value of a key comes.
-use Rattle.std.specs.Prelude.{◌≡◌, ◌≢◌, ℕ, ◌+◌, ◌<◌, ◌≤◌, ◌-◌, ◌^◌, List, [], ◌∷◌, ◌++◌, Option, Some, None, if◌then◌else◌, nat_lt, codes, map, flat_map, length, string_bytes, IsPermutation}
+use Rattle.std.specs.Prelude.{◌≡◌, ◌≢◌, ℕ, ◌+◌, ◌≤◌, ◌-◌, ◌^◌, List, [], ◌∷◌, ◌++◌, Option, Some, if◌then◌else◌, nat_lt, codes, map, flat_map, length, string_bytes, IsPermutation}
 use Rattle.std.specs.BTreeMap.{get_by_text, btree_map_len}
 use Rattle.std.specs.List.{AllAdjacentBelow}
 use Rattle.csv.specs.Writing.{default_writer, row_text}

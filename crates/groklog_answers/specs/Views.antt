@@ -47,7 +47,7 @@ match_text_of named matches = record {
 
 -- The layout of the answer with this match.
 abbrev pub found_layout : Found → LayoutValue
-found_layout found = layout_value found.layout
+found_layout found = layout_value found.layout.now
 
 -- What contracts see of a match that is written.
 abbrev pub found_text : Found → MatchText
@@ -69,7 +69,7 @@ patterns_of answers = map searched answers.searches.items
 
 -- The layout of the answers.
 abbrev pub layout_of : LogAnswers → LayoutValue
-layout_of answers = layout_value answers.layout
+layout_of answers = layout_value answers.writer.layout
 
 -- The number of the line that is answered next.
 abbrev pub next_number_of : LogAnswers → ℕ

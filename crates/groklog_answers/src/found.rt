@@ -7,7 +7,7 @@ use grok::MatchesRef;
 /// A match of a pattern, with the layout of its answer.
 #[derive(Clone, Copy)]
 pub struct Found<'m> {
-    pub layout: Layout<'m>,
+    pub layout: &'m Layout<'m>,
     pub named: NamedPattern<'m>,
     pub matches: MatchesRef<'m>,
 }

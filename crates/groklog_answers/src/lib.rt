@@ -11,6 +11,7 @@
 //! ```
 #![tactic(auto)]
 
+mod answer_writer;
 mod found;
 pub mod laws;
 mod layout;

@@ -1,24 +1,17 @@
 //! Answers each line with the match of the first pattern that matches it.
-ghost use Rattle.std.specs.Prelude.{◌≡◌, ℕ, ◌+◌, ◌<◌, List, [], ◌++◌, if◌then◌else◌, IsErr, OnOk, IfOk, codes, map, true, false, string_bytes};
-ghost use Rattle.std.specs.Str.Lossy.{utf8_lossy};
+ghost use Rattle.std.specs.Prelude.{◌≡◌, ◌+◌, ◌<◌, ◌++◌, if◌then◌else◌, IsErr, OnOk, OnErr, IfOk, map, true, false};
 ghost use Rattle.std.specs.Option.{is_some};
-ghost use Rattle.groklog_answers.specs.Layouts.{layout_value, in_file, keeps_unmatched};
+ghost use Rattle.groklog_answers.specs.Layouts.{layout_value, in_file};
 ghost use Rattle.groklog_answers.specs.Patterns.{match_of, first_match};
-ghost use Rattle.groklog_answers.specs.Objects.{unmatched_members, object_text};
-ghost use Rattle.groklog_answers.specs.declared.layout.Failure.{Failure};
-ghost use Rattle.groklog_answers.specs.LogAnswers.{match_answer, unmatched_answer, answer_by};
-ghost use Rattle.groklog_answers.specs.Views.{pattern_text, found_layout, found_text, searched, patterns_of, layout_of, next_number_of, matched_of, unmatched_of, broken_of};
+ghost use Rattle.groklog_answers.specs.LogAnswers.{answer_by};
+ghost use Rattle.groklog_answers.specs.Views.{pattern_text, searched, patterns_of, layout_of, next_number_of, matched_of, unmatched_of, broken_of};
 
-use crate::found::Found;
-use crate::layout::{Failure, Layout, Lines, OutputFormat};
-use crate::object::{write_match, write_unmatched};
-use crate::pairs::{append_match, append_unmatched};
+use crate::answer_writer::AnswerWriter;
+use crate::layout::{Failure, Layout};
 use crate::plan::Plan;
-use crate::record;
 use grok::{Matcher, Pattern};
 use grok_lines::{LineAnswers, SkipLines};
 use std::alloc::{AllocError, Global};
-use std::mem;
 
 /// A pattern with its tag and its plan. The tag is a text that names the pattern, such as the one that
 /// it was compiled from. The plan says where its values are written in a JSON object. Without a plan,
@@ -62,11 +55,8 @@ impl Drop for Search<'_> {
 /// It counts on from one input to the next, so that no two lines have the same number.
 #[derive(Drop)]
 pub struct LogAnswers<'p> {
-    alloc: Global,
-    layout: Layout<'p>,
+    writer: AnswerWriter<'p>,
     searches: Vec<Search<'p>>,
-    /// The buffer for the answer to one line. It is cleared before each line.
-    answer: Vec<u8>,
     /// The number of the next line. The first line has the number 1.
     next_number: u64,
     /// How many lines no pattern matched, without those that aren't UTF-8.
@@ -92,134 +82,23 @@ fn number_after(number: u64) -> Result<u64, AllocError>
     }
 }
 
-impl Layout<'_> {
-    /// Returns whether the answer to a line that has no fields has the line itself in it.
-    fn keeps_unmatched(self) -> bool
-        ensures { result ≡ keeps_unmatched (layout_value self.entry) }
-    {
-        match self.lines {
-            Lines::Matched => false,
-            Lines::All | Lines::Unmatched => self.keep.is_some(),
-        }
-    }
-
-    /// Returns the text of a line that isn't UTF-8, with U+FFFD for each wrong part. If the answer
-    /// hasn't the line in it, returns the empty text: a large file that isn't text takes little time
-    /// then.
-    fn kept_text(self, alloc: Global, line: &[u8]) -> Result<String, AllocError>
-        ensures { IfOk result (λ kept. string_bytes kept ≡ (if keeps_unmatched (layout_value self.entry)
-            then utf8_lossy line.now else [])) }
-    {
-        if self.keeps_unmatched() {
-            String::from_utf8_lossy(alloc, line)
-        } else {
-            Ok(String::new(alloc))
-        }
-    }
-
-    /// Returns whether nothing is written of a line that has no fields but an object without members.
-    fn has_no_members(self) -> bool
-        ensures { result ≡ true → (number : ℕ) (why : Failure) (line : List ℕ)
-            → unmatched_members (layout_value self.entry) number why line ≡ [] }
-    {
-        matches!(
-            (
-                self.number,
-                self.file,
-                self.failed,
-                self.tags_failures,
-                self.keep
-            ),
-            (None, None, None, false, None)
-        )
-    }
-
-    /// Appends the JSON object of a line that has no fields, on a line of its own.
-    #[tactic(auto, using(crate::proofs::EmptyObjects::empty_line))]
-    fn append_unmatched_object(
-        self,
-        alloc: Global,
-        answer: &mut Vec<u8>,
-        why: Failure,
-        line: NumberedLine<'_>,
-    ) -> Result<(), AllocError>
-        ensures { OnOk result (answer.new.items ≡ answer.old.items ++ (object_text (unmatched_members
-            (layout_value self.entry) line.entry.number why line.entry.text.now) ++ codes "\n")) }
-    {
-        // Many lines are of another kind than the pattern's, and then a writer takes as long as the
-        // search.
-        if self.has_no_members() {
-            return answer.extend_from_slice(b"{}\n");
-        }
-        let text = mem::replace(answer, Vec::new(alloc));
-        *answer = write_unmatched(text, self, why, line)?;
-        Ok(answer.push(b'\n')?)
-    }
-
-    /// Appends the answer to a line that has no fields, for the reason `why`. If only matched lines
-    /// are answered, appends nothing.
-    fn append_unmatched(
-        self,
-        alloc: Global,
-        answer: &mut Vec<u8>,
-        why: Failure,
-        line: NumberedLine<'_>,
-    ) -> Result<(), AllocError>
-        ensures { OnOk result (answer.new.items ≡ answer.old.items
-            ++ unmatched_answer self.entry.lines (layout_value self.entry)
-            line.entry.number why line.entry.text.now) }
-    {
-        match (self.lines, self.format) {
-            (Lines::Matched, _) => Ok(()),
-            (_, OutputFormat::Pairs) => append_unmatched(answer, self, why, line),
-            (_, OutputFormat::Csv) => record::append_unmatched(alloc, answer, self, why, line),
-            (_, OutputFormat::Json) => self.append_unmatched_object(alloc, answer, why, line),
-        }
-    }
-}
-
-impl Found<'_> {
-    /// Appends the answer to a line that has this match. If only unmatched lines are answered, appends
-    /// nothing.
-    fn append_answer(
-        &self,
-        alloc: Global,
-        answer: &mut Vec<u8>,
-        line: NumberedLine<'_>,
-    ) -> Result<(), AllocError>
-        ensures { OnOk result (answer.new.items ≡ answer.old.items ++ match_answer self.now.layout.lines
-            (found_layout self.now) (found_text self.now) line.entry.number line.entry.text.now) }
-    {
-        match (self.layout.lines, self.layout.format) {
-            (Lines::Unmatched, _) => Ok(()),
-            (_, OutputFormat::Pairs) => append_match(answer, self, line),
-            (_, OutputFormat::Csv) => record::append_match(alloc, answer, self, line),
-            (_, OutputFormat::Json) => {
-                let text = mem::replace(answer, Vec::new(alloc));
-                *answer = write_match(alloc, text, self, line)?;
-                Ok(answer.push(b'\n')?)
-            }
-        }
-    }
-}
-
 impl<'p> Search<'p> {
     /// Searches the line for this pattern. If it matches, appends the answer to the match. Returns
-    /// whether it matched.
+    /// whether it matched. If an allocation fails, appends nothing.
     #[inline(always)]
     fn append_answer(
         &mut self,
-        alloc: Global,
-        layout: Layout<'_>,
-        answer: &mut Vec<u8>,
+        writer: &mut AnswerWriter<'_>,
+        text: &mut Vec<u8>,
         line: NumberedLine<'_>,
     ) -> Result<bool, AllocError>
-        ensures is_match { IfOk result (λ is_match. is_match
-            ≡ is_some (match_of (searched self.old) line.entry.text.now)) }
-        ensures matched { IfOk result (λ is_match. is_match ≡ true → answer.new.items
-            ≡ answer.old.items ++ answer_by (layout_value layout.entry)
+        ensures is_match { IfOk result (λ is_match. is_match ≡ is_some (match_of (searched self.old) line.entry.text.now)) }
+        ensures matched { IfOk result (λ is_match. is_match ≡ true → text.new.items
+            ≡ text.old.items ++ answer_by (layout_value writer.old.layout)
             (match_of (searched self.old) line.entry.text.now) line.entry.number line.entry.text.now) }
-        ensures unmatched { IfOk result (λ is_match. is_match ≡ false → answer.new.items ≡ answer.old.items) }
+        ensures unmatched { IfOk result (λ is_match. is_match ≡ false → text.new.items ≡ text.old.items) }
+        ensures memory { OnErr result (text.new.items ≡ text.old.items) }
+        ensures layout { writer.new.layout ≡ writer.old.layout }
         ensures same { searched self.new ≡ searched self.old }
         ensures count { IfOk result (λ is_match. self.new.matched
             ≡ (if is_match then self.old.matched + 1 else self.old.matched)) }
@@ -228,13 +107,9 @@ impl<'p> Search<'p> {
         match self.matcher.find(line.text)? {
             None => Ok(false),
             Some(matches) => {
-                let found = Found {
-                    layout,
-                    named,
-                    matches,
-                };
-                found.append_answer(alloc, answer, line)?;
-                self.matched = number_after(self.matched)?;
+                let matched = number_after(self.matched)?;
+                writer.append_match(text, named, matches, line)?;
+                self.matched = matched;
                 Ok(true)
             }
         }
@@ -242,25 +117,26 @@ impl<'p> Search<'p> {
 }
 
 /// Tries these patterns on the line, in order, and appends the answer to the match of the first one
-/// that matches. Returns whether one matched.
+/// that matches. Returns whether one matched. If an allocation fails, appends nothing.
 #[inline(always)]
 fn append_first_match(
     searches: &mut [Search<'_>],
-    alloc: Global,
-    layout: Layout<'_>,
-    answer: &mut Vec<u8>,
+    writer: &mut AnswerWriter<'_>,
+    text: &mut Vec<u8>,
     line: NumberedLine<'_>,
 ) -> Result<bool, AllocError>
     ensures is_match { IfOk result (λ is_match. is_match
         ≡ is_some (first_match (map searched searches.old) line.entry.text.now)) }
-    ensures matched { IfOk result (λ is_match. is_match ≡ true → answer.new.items ≡ answer.old.items
-        ++ answer_by (layout_value layout.entry) (first_match (map searched searches.old) line.entry.text.now)
+    ensures matched { IfOk result (λ is_match. is_match ≡ true → text.new.items ≡ text.old.items
+        ++ answer_by (layout_value writer.old.layout) (first_match (map searched searches.old) line.entry.text.now)
         line.entry.number line.entry.text.now) }
-    ensures unmatched { IfOk result (λ is_match. is_match ≡ false → answer.new.items ≡ answer.old.items) }
+    ensures unmatched { IfOk result (λ is_match. is_match ≡ false → text.new.items ≡ text.old.items) }
+    ensures memory { OnErr result (text.new.items ≡ text.old.items) }
+    ensures layout { writer.new.layout ≡ writer.old.layout }
     ensures same { map searched searches.new ≡ map searched searches.old }
 {
     'searches: for i in 0..searches.len() {
-        if searches[i].append_answer(alloc, layout, answer, line)? {
+        if searches[i].append_answer(writer, text, line)? {
             return Ok(true);
         }
     }
@@ -293,10 +169,8 @@ impl<'p> LogAnswers<'p> {
             })?;
         }
         Ok(LogAnswers {
-            alloc,
-            layout,
+            writer: AnswerWriter::new(alloc, layout),
             searches,
-            answer: Vec::new(alloc),
             next_number: 1,
             unmatched: 0,
             broken: 0,
@@ -309,7 +183,7 @@ impl<'p> LogAnswers<'p> {
         ensures layout { layout_of self.new ≡ in_file name.now (layout_of self.old) }
         ensures number { next_number_of self.new ≡ next_number_of self.old }
     {
-        self.layout.file_name = name;
+        self.writer.layout.file_name = name;
     }
 
     /// Returns how many lines each pattern was the first to match, in the order of the patterns.
@@ -320,7 +194,7 @@ impl<'p> LogAnswers<'p> {
     pub fn matched(&self) -> Result<Vec<u64>, AllocError>
         ensures { IfOk result (λ counts. counts.items ≡ matched_of self.now) }
     {
-        let mut counts = Vec::new(self.alloc);
+        let mut counts = Vec::new(self.writer.alloc);
         'searches: for search in &self.searches {
             counts.push(search.matched)?;
         }
@@ -353,24 +227,15 @@ impl LineAnswers for LogAnswers<'_> {
     #[tactic(auto, using(crate::proofs::LinesAreNumbered::counts_on))]
     fn answer_str(&mut self, text: &mut Vec<u8>, line: &str) -> Result<(), AllocError> {
         let next_number = number_after(self.next_number)?;
-        self.answer.clear();
-        let (alloc, layout) = (self.alloc, self.layout);
         let line = NumberedLine {
             number: self.next_number,
             text: line,
         };
-        let is_match = append_first_match(
-            &mut self.searches,
-            alloc,
-            layout,
-            &mut self.answer,
-            line,
-        )?;
-        if !is_match {
-            layout.append_unmatched(alloc, &mut self.answer, Failure::NoMatch, line)?;
-            self.unmatched = number_after(self.unmatched)?;
+        if !append_first_match(&mut self.searches, &mut self.writer, text, line)? {
+            let unmatched = number_after(self.unmatched)?;
+            self.writer.append_unmatched(text, Failure::NoMatch, line)?;
+            self.unmatched = unmatched;
         }
-        text.extend_from_slice(&self.answer)?;
         self.next_number = next_number;
         Ok(())
     }
@@ -380,17 +245,13 @@ impl LineAnswers for LogAnswers<'_> {
     #[tactic(auto, using(crate::proofs::LinesAreNumbered::counts_on))]
     fn answer_broken(&mut self, text: &mut Vec<u8>, line: &[u8]) -> Result<(), AllocError> {
         let next_number = number_after(self.next_number)?;
-        let kept = self.layout.kept_text(self.alloc, line)?;
+        let broken = number_after(self.broken)?;
+        let kept = self.writer.layout.kept_text(self.writer.alloc, line)?;
         let line = NumberedLine {
             number: self.next_number,
             text: kept.as_str(),
         };
-        let (alloc, layout) = (self.alloc, self.layout);
-        let answer = &mut self.answer;
-        answer.clear();
-        layout.append_unmatched(alloc, answer, Failure::NotUtf8, line)?;
-        let broken = number_after(self.broken)?;
-        text.extend_from_slice(answer)?;
+        self.writer.append_unmatched(text, Failure::NotUtf8, line)?;
         self.next_number = next_number;
         self.broken = broken;
         Ok(())

@@ -140,9 +140,9 @@ fn write_failure_tag(writer: &mut Writer, tags_failures: bool) -> Result<(), All
 
 /// Writes which line it is: its number and the name of its file, as far as the layout asks for them.
 #[tactic(auto, using(crate::proofs::TokensOfMembers::tokens_append))]
-fn write_place(writer: &mut Writer, layout: Layout<'_>, number: u64) -> Result<(), AllocError>
+fn write_place(writer: &mut Writer, layout: &Layout<'_>, number: u64) -> Result<(), AllocError>
     ensures members { OnOk result (writer.new.tokens ≡ writer.old.tokens
-        ++ flat_map member_tokens (place_members (layout_value layout.entry) number)) }
+        ++ flat_map member_tokens (place_members (layout_value layout.now) number)) }
     ensures before { writer.new.before ≡ writer.old.before }
 {
     write_number(writer, layout.number, number)?;
@@ -175,12 +175,12 @@ pub fn write_match(
 #[tactic(auto, using(crate::proofs::TokensOfMembers::object_in_four_parts))]
 pub fn write_unmatched(
     text: Vec<u8>,
-    layout: Layout<'_>,
+    layout: &Layout<'_>,
     why: Failure,
     line: NumberedLine<'_>,
 ) -> Result<Vec<u8>, AllocError>
     ensures { IfOk result (λ written. written.items ≡ text.items ++ object_text (unmatched_members
-        (layout_value layout.entry) line.entry.number why line.entry.text.now)) }
+        (layout_value layout.now) line.entry.number why line.entry.text.now)) }
 {
     let mut writer = Writer::new(text);
     writer.begin_object()?;

@@ -1,11 +1,10 @@
 //! Writes the `KEY=VALUE` lines for a line of a log.
 ghost use Rattle.std.specs.Prelude.{◌≡◌, ◌++◌, Some, OnOk, option_map, flat_map, map};
-ghost use Rattle.grok.specs.Answers.{walk};
+ghost use Rattle.grok.specs.Answers.{walk, value_of};
 ghost use Rattle.grok.specs.BorrowedMatches.{borrowed_keys, borrowed_captures};
 ghost use Rattle.grok.specs.Numeral.{numeral};
 ghost use Rattle.groklog_answers.specs.Layouts.{layout_value};
-ghost use Rattle.grok.specs.Maps.{pair_texts};
-ghost use Rattle.groklog_answers.specs.PairTexts.{optional_line, field_line, pair_with, chosen_pairs, place_lines, match_lines, unmatched_lines};
+ghost use Rattle.groklog_answers.specs.PairTexts.{optional_line, field_line, chosen_pairs, place_lines, match_lines, unmatched_lines};
 ghost use Rattle.groklog_answers.specs.Views.{found_layout, found_text};
 
 use crate::found::Found;
@@ -45,12 +44,12 @@ fn append_number(text: &mut Vec<u8>, name: Option<&str>, number: u64) -> Result<
 /// appends nothing for one.
 fn append_field(
     text: &mut Vec<u8>,
-    layout: Layout<'_>,
+    layout: &Layout<'_>,
     key: &str,
     value: &str,
 ) -> Result<(), AllocError>
     ensures { OnOk result (text.new.items ≡ text.old.items
-        ++ field_line (layout_value layout.entry) (key.now, value.now)) }
+        ++ field_line (layout_value layout.now) (key.now, value.now)) }
 {
     if layout.drops_empty && value.is_empty() {
         return Ok(());
@@ -61,10 +60,10 @@ fn append_field(
 /// Appends a `KEY=VALUE` line for each pair of a match.
 fn append_all(
     text: &mut Vec<u8>,
-    layout: Layout<'_>,
+    layout: &Layout<'_>,
     matches: MatchesRef<'_>,
 ) -> Result<(), AllocError>
-    ensures { OnOk result (text.new.items ≡ text.old.items ++ flat_map (field_line (layout_value layout.entry))
+    ensures { OnOk result (text.new.items ≡ text.old.items ++ flat_map (field_line (layout_value layout.now))
         (walk (borrowed_keys matches.entry) (borrowed_captures matches.entry))) }
 {
     'pairs: for (key, value) in matches.iter() {
@@ -73,33 +72,21 @@ fn append_all(
     Ok(())
 }
 
-/// Returns the pair of a match with this key, or `None` if there is none.
-pub fn pair_with<'m>(matches: MatchesRef<'m>, name: &str) -> Option<(&'m str, &'m str)>
-    ensures { option_map pair_texts result
-        ≡ pair_with name.now (walk (borrowed_keys matches.entry) (borrowed_captures matches.entry)) }
-{
-    'pairs: for (key, value) in matches.iter() {
-        if key == name {
-            return Some((key, value));
-        }
-    }
-    None
-}
-
 /// Appends a `KEY=VALUE` line for each of these keys that has a value in a match.
 fn append_chosen(
     text: &mut Vec<u8>,
-    layout: Layout<'_>,
+    layout: &Layout<'_>,
     names: &[&str],
     matches: MatchesRef<'_>,
 ) -> Result<(), AllocError>
-    ensures { OnOk result (text.new.items ≡ text.old.items ++ flat_map (field_line (layout_value layout.entry))
+    ensures { OnOk result (text.new.items ≡ text.old.items ++ flat_map (field_line (layout_value layout.now))
         (chosen_pairs (Some (map (λ name. name.now) names.now))
-        (walk (borrowed_keys matches.entry) (borrowed_captures matches.entry)))) }
+        (walk (borrowed_keys matches.entry) (borrowed_captures matches.entry))
+        (value_of (borrowed_keys matches.entry) (borrowed_captures matches.entry)))) }
 {
     'names: for name in names {
-        if let Some((key, value)) = pair_with(matches, name) {
-            append_field(text, layout, key, value)?;
+        if let Some(value) = matches.get(name) {
+            append_field(text, layout, name, value)?;
         }
     }
     Ok(())
@@ -108,12 +95,13 @@ fn append_chosen(
 /// Appends a `KEY=VALUE` line for each pair of a match that the layout chooses, in its order.
 fn append_pairs(
     text: &mut Vec<u8>,
-    layout: Layout<'_>,
+    layout: &Layout<'_>,
     matches: MatchesRef<'_>,
 ) -> Result<(), AllocError>
-    ensures { OnOk result (text.new.items ≡ text.old.items ++ flat_map (field_line (layout_value layout.entry))
-        (chosen_pairs (layout_value layout.entry).fields
-        (walk (borrowed_keys matches.entry) (borrowed_captures matches.entry)))) }
+    ensures { OnOk result (text.new.items ≡ text.old.items ++ flat_map (field_line (layout_value layout.now))
+        (chosen_pairs (layout_value layout.now).fields
+        (walk (borrowed_keys matches.entry) (borrowed_captures matches.entry))
+        (value_of (borrowed_keys matches.entry) (borrowed_captures matches.entry)))) }
 {
     match layout.fields {
         None => append_all(text, layout, matches),
@@ -122,9 +110,9 @@ fn append_pairs(
 }
 
 /// Appends which line it is: its number and the name of its file, as far as the layout asks for them.
-fn append_place(text: &mut Vec<u8>, layout: Layout<'_>, number: u64) -> Result<(), AllocError>
+fn append_place(text: &mut Vec<u8>, layout: &Layout<'_>, number: u64) -> Result<(), AllocError>
     ensures { OnOk result (text.new.items ≡ text.old.items
-        ++ place_lines (layout_value layout.entry) number) }
+        ++ place_lines (layout_value layout.now) number) }
 {
     append_number(text, layout.number, number)?;
     append_optional(text, layout.file, layout.file_name)
@@ -156,12 +144,12 @@ pub fn append_match(
 /// Appends the `KEY=VALUE` lines for a line that has no fields, and an empty line.
 pub fn append_unmatched(
     text: &mut Vec<u8>,
-    layout: Layout<'_>,
+    layout: &Layout<'_>,
     why: Failure,
     line: NumberedLine<'_>,
 ) -> Result<(), AllocError>
     ensures { OnOk result (text.new.items ≡ text.old.items
-        ++ unmatched_lines (layout_value layout.entry) line.entry.number why line.entry.text.now) }
+        ++ unmatched_lines (layout_value layout.now) line.entry.number why line.entry.text.now) }
 {
     append_place(text, layout, line.number)?;
     append_optional(text, layout.failed, why.words())?;

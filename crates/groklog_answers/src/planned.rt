@@ -20,7 +20,7 @@ use std::alloc::{AllocError, Global};
 impl Found<'_> {
     /// Returns the value of a key, or `None` if it has none or it is left out.
     fn value(&self, key: &str) -> Option<&str>
-        ensures { option_map text_of result ≡ kept_value self.now.layout.drops_empty
+        ensures { option_map text_of result ≡ kept_value self.now.layout.now.drops_empty
             (value_of (borrowed_keys self.now.matches) (borrowed_captures self.now.matches) key.now) }
     {
         let value = self.matches.get(key)?;

@@ -1,18 +1,17 @@
 //! Writes the record of comma-separated values for a line of a log.
-ghost use Rattle.std.specs.Prelude.{◌≡◌, [], ◌++◌, IfOk, OnOk, option_map, map};
+ghost use Rattle.std.specs.Prelude.{◌≡◌, ◌++◌, IfOk, OnOk, option_map, map};
 ghost use Rattle.std.specs.Option.{option_to_list};
 ghost use Rattle.csv.specs.Writing.{default_writer, row_text};
-ghost use Rattle.grok.specs.Answers.{walk};
+ghost use Rattle.grok.specs.Answers.{value_of};
 ghost use Rattle.grok.specs.BorrowedMatches.{borrowed_keys, borrowed_captures};
 ghost use Rattle.grok.specs.Numeral.{numeral};
 ghost use Rattle.groklog_answers.specs.Layouts.{layout_value, failure_words};
-ghost use Rattle.groklog_answers.specs.Records.{optional_value, columns_of, value_in, values_of, match_record, unmatched_record, header_record};
+ghost use Rattle.groklog_answers.specs.Records.{optional_value, columns_of, value_or_empty, no_value, values_of, match_record, unmatched_record, header_record};
 ghost use Rattle.groklog_answers.specs.Views.{found_layout, found_text};
 
 use crate::found::Found;
 use crate::layout::{Failure, Layout};
 use crate::log_answers::NumberedLine;
-use crate::pairs::pair_with;
 use csv::{Error, WriterBuilder};
 use grok::MatchesRef;
 use itoa::Buffer;
@@ -66,12 +65,10 @@ fn add_optional<'v>(
 
 /// Returns the value of a key in a match, which is empty if it has none.
 fn value_of<'m>(matches: MatchesRef<'m>, name: &str) -> &'m str
-    ensures { result.now ≡ value_in (walk (borrowed_keys matches.entry) (borrowed_captures matches.entry)) name.now }
+    ensures { result.now ≡ value_or_empty
+        (value_of (borrowed_keys matches.entry) (borrowed_captures matches.entry)) name.now }
 {
-    match pair_with(matches, name) {
-        Some((_, value)) => value,
-        None => "",
-    }
+    matches.get(name).unwrap_or("")
 }
 
 /// Adds the values of the chosen keys in a match.
@@ -81,7 +78,7 @@ fn add_found<'v>(
     matches: MatchesRef<'v>,
 ) -> Result<(), AllocError>
     ensures { OnOk result (map (λ value. value.now) values.new.items ≡ map (λ value. value.now) values.old.items
-        ++ map (value_in (walk (borrowed_keys matches.entry) (borrowed_captures matches.entry)))
+        ++ map (value_or_empty (value_of (borrowed_keys matches.entry) (borrowed_captures matches.entry)))
         (map (λ name. name.now) names.now)) }
 {
     'names: for name in names {
@@ -92,7 +89,7 @@ fn add_found<'v>(
 
 /// Returns the value of a key in a line that doesn't match: the empty text.
 fn missing_value(name: &str) -> &'static str
-    ensures { result.now ≡ value_in [] name.now }
+    ensures { result.now ≡ value_or_empty no_value name.now }
 {
     let _ = name;
     ""
@@ -101,7 +98,7 @@ fn missing_value(name: &str) -> &'static str
 /// Adds an empty value for each of the chosen keys.
 fn add_missing(values: &mut Values<'_>, names: &[&str]) -> Result<(), AllocError>
     ensures { OnOk result (map (λ value. value.now) values.new.items ≡ map (λ value. value.now) values.old.items
-        ++ map (value_in []) (map (λ name. name.now) names.now)) }
+        ++ map (value_or_empty no_value) (map (λ name. name.now) names.now)) }
 {
     'names: for name in names {
         values.push(missing_value(name).as_bytes())?;
@@ -122,8 +119,8 @@ fn add_names<'v>(values: &mut Values<'v>, names: &[&'v str]) -> Result<(), Alloc
 
 impl<'a> Layout<'a> {
     /// Returns the keys of patterns that have columns in a record.
-    fn columns(self) -> &'a [&'a str]
-        ensures { map (λ name. name.now) result.now ≡ columns_of (layout_value self.entry) }
+    fn columns(&self) -> &'a [&'a str]
+        ensures { map (λ name. name.now) result.now ≡ columns_of (layout_value self.now) }
     {
         self.fields.unwrap_or(&[])
     }
@@ -165,12 +162,12 @@ pub fn append_match(
 pub fn append_unmatched(
     alloc: Global,
     text: &mut Vec<u8>,
-    layout: Layout<'_>,
+    layout: &Layout<'_>,
     why: Failure,
     line: NumberedLine<'_>,
 ) -> Result<(), AllocError>
     ensures { OnOk result (text.new.items ≡ text.old.items
-        ++ unmatched_record (layout_value layout.entry) line.entry.number why line.entry.text.now) }
+        ++ unmatched_record (layout_value layout.now) line.entry.number why line.entry.text.now) }
 {
     let mut number = Buffer::new();
     let mut values = Vec::new(alloc);
@@ -199,8 +196,8 @@ fn add_name<'v>(values: &mut Values<'v>, name: Option<&'v str>) -> Result<(), Al
 /// # Errors
 ///
 /// If an allocation fails.
-pub fn header_of(alloc: Global, layout: Layout<'_>) -> Result<Vec<u8>, AllocError>
-    ensures { IfOk result (λ text. text.items ≡ header_record (layout_value layout.entry)) }
+pub fn header_of(alloc: Global, layout: &Layout<'_>) -> Result<Vec<u8>, AllocError>
+    ensures { IfOk result (λ text. text.items ≡ header_record (layout_value layout.now)) }
 {
     let mut values = Vec::new(alloc);
     add_name(&mut values, layout.number)?;

@@ -1,2 +1,3 @@
+pub mod EndsOfTexts
 pub mod PartsAreTheText
 pub mod TextsOfTokens

@@ -1,6 +1,5 @@
 -- The text of tokens with one more at the end.
-use Rattle.std.proofs.Common.{◌≡◌, ℕ, List, [], ◌∷◌, ◌++◌, sym, refl, ap, ◌∙◌, append_assoc}
-use Rattle.std.specs.List.{flat_map}
+use Rattle.std.proofs.Common.{◌≡◌, ℕ, List, [], ◌∷◌, ◌++◌, sym, refl, ap, ◌∙◌}
 use Rattle.std.proofs.lemmas.List.{flat_map_more}
 use Rattle.oniguruma_syntax.specs.declared.token.Node.{Node}
 use Rattle.oniguruma_syntax.specs.Spelling.{spelled_node, spelled_all}

@@ -1,4 +1,6 @@
 //! What was changed in a text, so that lines may match in another way.
+ghost use Rattle.std.specs.Prelude.{◌≡◌, ◌≢◌, ◌++◌, ◌∷◌, [], Contains, IsTrue, ◌↔◌, IfOk, OnOk, string_bytes};
+ghost use Rattle.oniguruma_syntax.specs.declared.change.ChangeKind.TheVariants.{Lost};
 
 use std::alloc::{AllocError, Global};
 use std::fmt;
@@ -34,7 +36,11 @@ pub struct Change {
 
 impl Change {
     /// Makes a change of a text without keys.
-    pub(crate) fn new(alloc: Global, kind: ChangeKind, text: &str) -> Result<Change, AllocError> {
+    pub(crate) fn new(alloc: Global, kind: ChangeKind, text: &str) -> Result<Change, AllocError>
+        ensures kind { IfOk result (λ change. change.kind ≡ kind) }
+        ensures text { IfOk result (λ change. string_bytes change.text ≡ text.now) }
+        ensures keys { IfOk result (λ change. string_bytes change.keys ≡ []) }
+    {
         Ok(Change {
             kind,
             text: String::from_str(alloc, text)?,
@@ -43,7 +49,11 @@ impl Change {
     }
 
     /// Returns a copy of the change.
-    fn clone_in(&self, alloc: Global) -> Result<Change, AllocError> {
+    fn clone_in(&self, alloc: Global) -> Result<Change, AllocError>
+        ensures kind { IfOk result (λ change. change.kind ≡ self.now.kind) }
+        ensures text { IfOk result (λ change. string_bytes change.text ≡ string_bytes self.now.text) }
+        ensures keys { IfOk result (λ change. string_bytes change.keys ≡ string_bytes self.now.keys) }
+    {
         Ok(Change {
             kind: self.kind,
             text: String::from_str(alloc, self.text.as_str())?,
@@ -62,7 +72,9 @@ pub(crate) struct Changes {
 }
 
 impl Changes {
-    pub fn new(alloc: Global) -> Changes {
+    pub fn new(alloc: Global) -> Changes
+        ensures { result.recorded.items ≡ [] }
+    {
         Changes {
             recorded: Vec::new(alloc),
             kinds: Vec::new(alloc),
@@ -70,12 +82,20 @@ impl Changes {
     }
 
     /// Returns whether a further change of this kind isn't recorded.
-    pub fn has(&self, kind: ChangeKind) -> bool {
+    pub fn has(&self, kind: ChangeKind) -> bool
+        ensures { IsTrue result ↔ Contains self.now.kinds.items kind }
+    {
         self.kinds.contains(&kind)
     }
 
     /// Records a change, unless there is one of its kind already.
-    pub fn add(&mut self, change: Change) -> Result<(), AllocError> {
+    pub fn add(&mut self, change: Change) -> Result<(), AllocError>
+        ensures known { Contains self.old.kinds.items change.kind
+            → OnOk result (self.new.recorded ≡ self.old.recorded) }
+        ensures new { (Contains self.old.kinds.items change.kind → ⊥)
+            → OnOk result (self.new.recorded.items ≡ self.old.recorded.items ++ change ∷ []) }
+        ensures kinds { OnOk result (change.kind ≢ Lost → Contains self.new.kinds.items change.kind) }
+    {
         let kind = change.kind;
         if self.has(kind) {
             return Ok(());
@@ -96,7 +116,9 @@ impl Changes {
     }
 
     /// Returns the changes.
-    pub fn into_recorded(self) -> Vec<Change> {
+    pub fn into_recorded(self) -> Vec<Change>
+        ensures { result ≡ self.recorded }
+    {
         self.recorded
     }
 }

@@ -1,4 +1,6 @@
 //! The forms of Oniguruma's syntax that `regex` doesn't have.
+ghost use Rattle.std.specs.Prelude.{◌≡◌, IfOk};
+ghost use Rattle.oniguruma_syntax.specs.Forms.{is_own_form, FindsOwnForm};
 
 use crate::names::is_group_name;
 use crate::reader::read;
@@ -6,7 +8,9 @@ use crate::token::{Form, Node, Opening, Token};
 use std::alloc::{AllocError, Global};
 
 /// Returns whether `regex` doesn't have the form of a token.
-fn is_own_form(node: &Node<'_>) -> bool {
+fn is_own_form(node: &Node<'_>) -> bool
+    ensures { result ≡ is_own_form node.now.token }
+{
     match node.token {
         Token::Open(opening, _) => !matches!(
             opening,
@@ -25,6 +29,9 @@ fn is_own_form(node: &Node<'_>) -> bool {
 /// # Errors
 ///
 /// If an allocation fails.
-pub fn has_own_forms(alloc: Global, text: &str) -> Result<bool, AllocError> {
-    Ok(read(alloc, text)?.iter().any(is_own_form))
+pub fn has_own_forms(alloc: Global, text: &str) -> Result<bool, AllocError>
+    ensures { IfOk result (FindsOwnForm text.now) }
+{
+    let nodes = read(alloc, text)?;
+    Ok(nodes.iter().any(|node| is_own_form(node)))
 }

@@ -1,5 +1,7 @@
 //! Groups whose names `regex` doesn't take. Each of them becomes a placeholder with an inline
 //! definition.
+ghost use Rattle.std.specs.Prelude.{◌≡◌};
+ghost use Rattle.oniguruma_syntax.specs.Forms.{begins_name, continues_name, is_group_name};
 
 use grok::parser::{GrokComponent, grok_split};
 use std::alloc::{AllocError, Global};
@@ -7,14 +9,27 @@ use std::alloc::{AllocError, Global};
 /// The name of the inline definitions.
 pub(crate) const GROUP_NAME: &str = "NAMED_GROUP";
 
+/// Returns whether a name of a group may begin with this character.
+fn begins_name(c: char) -> bool
+    ensures { result ≡ begins_name c }
+{
+    c.is_alphabetic() || c == '_'
+}
+
+/// Returns whether a name of a group may have this character.
+fn continues_name(c: char) -> bool
+    ensures { result ≡ continues_name c }
+{
+    c.is_alphanumeric() || c == '_'
+}
+
 /// Returns whether `regex` and Oniguruma both take a name of a group.
-pub(crate) fn is_group_name(name: &str) -> bool {
-    let mut characters = name.chars();
-    match characters.next() {
-        Some(first) if first.is_alphabetic() || first == '_' => {
-            characters.all(|c| c.is_alphanumeric() || c == '_')
-        }
-        _ => false,
+pub(crate) fn is_group_name(name: &str) -> bool
+    ensures { result ≡ is_group_name name.now }
+{
+    match name.chars().next() {
+        Some(first) => begins_name(first) && name.chars().all(|c| continues_name(c)),
+        None => false,
     }
 }
 

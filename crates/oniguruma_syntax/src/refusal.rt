@@ -1,4 +1,6 @@
 //! Why a text can't be written for `regex`.
+ghost use Rattle.std.specs.Prelude.{◌≡◌};
+ghost use Rattle.oniguruma_syntax.specs.Reasons.{advice_for};
 
 use crate::token::Node;
 use std::alloc::{AllocError, AllocFailed};
@@ -54,7 +56,9 @@ pub enum Reason {
 
 impl Reason {
     /// Returns what can be done about it.
-    pub fn advice(self) -> &'static str {
+    pub fn advice(self) -> &'static str
+        ensures { result.now ≡ advice_for self }
+    {
         match self {
             Reason::Lookaround => {
                 "write it without the lookaround, or use --loose, which drops it"

@@ -1,4 +1,7 @@
 //! Rewrites a text that was made for Oniguruma.
+ghost use Rattle.std.specs.Prelude.{IfOk};
+ghost use Rattle.grok.specs.Locations.{IsLocationIn};
+ghost use Rattle.oniguruma_syntax.specs.Outcomes.{IsOutcomeOf};
 
 use crate::reader::read;
 use crate::refusal::{Refused, Stop};
@@ -95,6 +98,20 @@ fn rewrite_all(alloc: Global, text: &str, wish: Wish) -> Result<Rewritten, Stop>
     rewrite_text(alloc, text, &nodes, &inlines, wish)
 }
 
+/// Returns this byte range of a text, or that of its end if it doesn't begin and end between characters
+/// of the text.
+#[tactic(auto, using(crate::proofs::EndsOfTexts::end_of_text))]
+fn range_in(text: &str, range: Range<usize>) -> Range<usize>
+    ensures { IsLocationIn text.now (result.start, result.end) }
+{
+    let Range { start, end } = range;
+    if start <= end && text.is_char_boundary(start) && text.is_char_boundary(end) {
+        start..end
+    } else {
+        text.len()..text.len()
+    }
+}
+
 /// Rewrites a text of Oniguruma's syntax, with Ruby's options, for `regex`. Its placeholders stay,
 /// and their inline definitions are rewritten too. The new text means the same in each text without
 /// a line feed, except for the changes that are returned with it.
@@ -102,10 +119,15 @@ fn rewrite_all(alloc: Global, text: &str, wish: Wish) -> Result<Rewritten, Stop>
 /// # Errors
 ///
 /// If an allocation fails.
-pub fn rewrite(alloc: Global, text: &str, wish: Wish) -> Result<Outcome, AllocError> {
+pub fn rewrite(alloc: Global, text: &str, wish: Wish) -> Result<Outcome, AllocError>
+    ensures { IfOk result (IsOutcomeOf text.now) }
+{
     match rewrite_all(alloc, text, wish) {
         Ok(rewritten) => Ok(Outcome::Rewritten(rewritten)),
-        Err(Stop::Refused(refused)) => Ok(Outcome::Refused(refused)),
+        Err(Stop::Refused(Refused { reason, range })) => {
+            let range = range_in(text, range);
+            Ok(Outcome::Refused(Refused { reason, range }))
+        }
         // own error: an allocation failed, which `Stop::Memory` reports.
         Err(Stop::Memory) => Err(AllocError),
     }

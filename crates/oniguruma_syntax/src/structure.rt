@@ -1,5 +1,7 @@
 //! How the tokens of a text belong together: which bracket closes which, and what a quantifier
 //! repeats.
+ghost use Rattle.std.specs.Prelude.{◌≡◌};
+ghost use Rattle.oniguruma_syntax.specs.Links.{links_of_one, links_at};
 
 use crate::refusal::{Reason, Stop};
 use crate::token::{Form, Mark, Node, Token};
@@ -30,7 +32,9 @@ pub(crate) struct Structure {
 
 impl Links {
     /// Returns what a token without a partner and without a quantifier has, if it has this index.
-    fn of_one(index: usize) -> Links {
+    fn of_one(index: usize) -> Links
+        ensures { result ≡ links_of_one index }
+    {
         Links {
             close: index,
             repeats: 0,
@@ -42,7 +46,9 @@ impl Links {
 
 impl Structure {
     /// Returns what the token with this index has to do with others.
-    pub fn links_of(&self, index: usize) -> Links {
+    pub fn links_of(&self, index: usize) -> Links
+        ensures { result ≡ links_at self.now.links.items index }
+    {
         match self.links.as_slice().get(index) {
             Some(links) => *links,
             None => Links::of_one(index),

@@ -26,10 +26,12 @@ returns-then-branch-clause-matched c _ =
     let is = sym c.if-branch.true ∙ c.in_ok-append_answer.ensures.is_match in
     let found = found_at searched c.searches.searches (map searched c.args.searches.now) c.searches.i c.index-searches-i.result c.args.line.text.now
     c.searches.invariant.same inside c.searches.invariant.rest is in
+    let answer = answer_by (layout_value c.searches.writer.layout) (first_match (map searched c.args.searches.now) c.args.line.text.now) c.args.line.number c.args.line.text.now in
     c.in_ok-append_answer.ensures.matched c.if-branch.true
-    ∙ ap (λ found. c.searches.answer.items ++ answer_by (layout_value c.args.layout) found c.args.line.number c.args.line.text.now) (sym found)
-    ∙ ap (λ before. before ++ answer_by (layout_value c.args.layout) (first_match (map searched c.args.searches.now) c.args.line.text.now) c.args.line.number c.args.line.text.now)
-    c.searches.invariant.answer
+    ∙ ap (λ found. c.searches.text.items ++ answer_by (layout_value c.searches.writer.layout) found c.args.line.number c.args.line.text.now) (sym found)
+    ∙ ap (λ before. before ++ answer) c.searches.invariant.text
+    ∙ ap (λ layout. c.args.text.now.items ++ answer_by (layout_value layout) (first_match (map searched c.args.searches.now) c.args.line.text.now) c.args.line.number c.args.line.text.now)
+    c.searches.invariant.layout
 
 pub returns-then-branch-clause-same : goal.returns-then-branch-clause-same
 returns-then-branch-clause-same c =
@@ -45,5 +47,6 @@ searches-preserved c =
           ∙ c.searches.invariant.same;
       rest = left_after searched c.searches.searches (map searched c.args.searches.now) c.searches.i c.index-searches-i.result c.args.line.text.now
           c.searches.invariant.same inside c.searches.invariant.rest is;
-      answer = c.in_ok-append_answer.ensures.unmatched c.if-branch.false ∙ c.searches.invariant.answer;
+      text = c.in_ok-append_answer.ensures.unmatched c.if-branch.false ∙ c.searches.invariant.text;
+      layout = c.in_ok-append_answer.ensures.layout ∙ c.searches.invariant.layout;
     }

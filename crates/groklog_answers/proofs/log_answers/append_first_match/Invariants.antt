@@ -7,5 +7,6 @@ abbrev pub invariant-searches : goal.invariant-searches
 invariant-searches l = record {
   same : map searched l.searches ≡ map searched l.fn.searches;
   rest : first_match (drop l.i (map searched l.fn.searches)) l.fn.line.text.now ≡ first_match (map searched l.fn.searches) l.fn.line.text.now;
-  answer : l.answer.items ≡ l.fn.answer.items;
+  text : l.text.items ≡ l.fn.text.items;
+  layout : l.writer.layout ≡ l.fn.writer.layout;
 }

@@ -1,8 +1,8 @@
-use Rattle.std.proofs.Common.{◌≡◌, ℕ, suc, List, [], ◌∷◌, ◌++◌, Bool, true, ◌==◌, Some, None, option_map, ◌+◌, ◌-◌, length, vec_len, refl, sym, ap, ◌∙◌, arith, rules}
+use Rattle.std.proofs.Common.{◌≡◌, ℕ, suc, List, [], ◌∷◌, ◌++◌, true, ◌==◌, Some, option_map, ◌-◌, length, vec_len, sym, ap, ◌∙◌, arith, rules}
 use Rattle.std.specs.Borrow.{Bor}
 use Rattle.std.proofs.lemmas.Bool.{eqb-true}
 use Rattle.std.proofs.lemmas.List.{nil_from_length, map-append}
-use Rattle.groklog_answers.specs.Plans.{first_name, names_within, most_names}
+use Rattle.groklog_answers.specs.Plans.{names_within, most_names}
 use Rattle.groklog_answers.specs.PlanViews.{names_of}
 use Rattle.groklog_answers.proofs.PlansAreMade.{names_end, names_last, names_more, no_names_left}
 use Rattle.groklog_answers.proofs.plan.names_in.Goals as goal

@@ -1,5 +1,5 @@
 -- The value was added to the map.
-use Rattle.std.proofs.Common.{◌≡◌, arith, refl, ap}
+use Rattle.std.proofs.Common.{arith, ap}
 use Rattle.std.proofs.lemmas.Map.Text.{text_keys}
 use Rattle.groklog_answers.specs.ValueCounts.{others_of, most_of}
 use Rattle.groklog_answers.proofs.value_counts.ValueCounts.note.Goals as goal

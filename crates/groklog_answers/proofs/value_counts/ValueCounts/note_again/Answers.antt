@@ -1,5 +1,5 @@
 -- Of the map only the count of this value changed.
-use Rattle.std.proofs.Common.{◌≡◌, arith, refl}
+use Rattle.std.proofs.Common.{arith, refl}
 use Rattle.std.proofs.lemmas.Map.Text.{text_keys}
 use Rattle.groklog_answers.proofs.value_counts.ValueCounts.note_again.Goals as goal
 

@@ -1,6 +1,5 @@
 -- The list is sorted by its counts.
-use Rattle.std.proofs.Common.{◌≡◌, ◌-◌, ◌^◌, ◌<◌, All, map, rules, subst, IsPermutation}
-use Rattle.std.specs.List.Sorted.{IsNonDecreasingBy}
+use Rattle.std.proofs.Common.{◌-◌, ◌^◌, ◌<◌, map, rules, subst, IsPermutation}
 use Rattle.std.proofs.lemmas.List.Sorted.{IsPermutation-map, IsNonDecreasingBy-from_sort_by_key, All-permutation}
 use Rattle.groklog_answers.specs.ValueCounts.{counted_pair}
 use Rattle.groklog_answers.proofs.ValuesAreByCount.{sorted_by_count}
