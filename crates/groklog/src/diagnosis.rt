@@ -258,14 +258,20 @@ fn syntax_report(
     refused: Refused<'_>,
     kind: ErrorKind,
 ) -> Result<Report, AllocError> {
+    let Refused {
+        path,
+        part,
+        location,
+        ..
+    } = refused;
     let mut names = Vec::new(alloc);
-    push_names(&mut names, refused.path.as_slice())?;
-    let (text, range) = match refused.location {
+    push_names(&mut names, path.as_slice())?;
+    let (text, range) = match location {
         Some(location) => {
             push_names(&mut names, location.path.as_slice())?;
             (location.text, location.range)
         }
-        None => (refused.part, 0..refused.part.len()),
+        None => (part, 0..part.len()),
     };
     let what = format!(in alloc; "the engine refuses this: {}", kind.message())?;
     let advice = advice_for_refusal(alloc, text)?;
