@@ -27,7 +27,7 @@ pub(crate) struct ExpandedPattern {
     pub keys: KeyAssigner,
 }
 
-/// Writes the events of a tree until it comes to a structural fault.
+/// Writes the events of a tree, up to a structural fault.
 #[derive(Drop)]
 struct Writer<'a> {
     settings: Settings<'a>,

@@ -1,2 +1,2 @@
--- Definitions that callers need not know. What they come to is said by `laws` in the words of the other files.
+-- Definitions that only private functions and laws use. The laws state what they mean in the words of the other files.
 pub mod EventStates

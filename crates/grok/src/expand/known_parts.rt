@@ -17,7 +17,7 @@ use crate::settings::Settings;
 use std::alloc::{AllocError, Global};
 use std::collections::BTreeMap;
 
-/// What is known of some items.
+/// The keys and the height of some items.
 #[derive(Drop)]
 struct KnownItems<'a> {
     /// The base keys that their capturing placeholders use.
@@ -30,7 +30,7 @@ struct KnownItems<'a> {
 /// fault.
 #[derive(Drop)]
 struct ReadText<'a> {
-    /// What is known of these items.
+    /// The keys and the height of these items.
     known: KnownItems<'a>,
     /// The item at which reading stopped, or `None` if all items are known.
     stop: Option<Item<'a>>,
@@ -77,7 +77,7 @@ pub(crate) fn push_use<'a>(
 }
 
 impl<'a> KnownItems<'a> {
-    /// Makes what is known of no items.
+    /// Returns no keys and the height 0, those of no items.
     fn new(alloc: Global) -> KnownItems<'a>
         ensures rows { result.rows.items ≡ [] }
         ensures height { result.height ≡ 0 }
@@ -181,7 +181,7 @@ impl<'a> KnownParts<'a> {
         Ok(Some(text))
     }
 
-    /// Reads the definition of a name, if it has one, and keeps what is known of it under that name.
+    /// Reads the definition of a name, if it has one, and keeps its known part under that name.
     /// Keeps nothing if more than `usize::MAX` items would be read.
     fn add_name(&mut self, settings: Settings<'a>, name: &'a str) -> Result<(), AllocError>
         requires { AreKnown settings self.old }

@@ -1,5 +1,5 @@
 //! Reads a pattern up to its first structural fault, and lists the base keys that its placeholders
-//! use. It skips what is known of a definition, and goes on with the item after it. So the 1,023
+//! use. It skips the known part of a definition, and goes on with the item after it. So the 1,023
 //! levels of a circle don't read its definitions again.
 ghost use Rattle.std.specs.Prelude.{◌≡◌, ◌<◌, ℕ, List, length, map, IfOk};
 ghost use Rattle.std.specs.FinMap as finite;
@@ -31,7 +31,7 @@ enum ReadStep<'a> {
     Stop,
 }
 
-/// Skips what is known of a definition, and enters the rest of it.
+/// Skips the known part of a definition, and enters the rest of it.
 fn open_after_known<'a>(
     rows: &mut Vec<Row<'a>>,
     part: &KnownPart<'a>,
