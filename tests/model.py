@@ -255,21 +255,34 @@ def named_groups(whole):
 # What the programs write
 
 EMPTY_PATTERN = 'The given pattern "" ended up compiling into an empty regex'
+DEPTH_TEXT = f"Recursion while compiling reached the limit of {LEVELS + 1}"
 
 
 def compile_error(what):
     return f'Something unexpected happened during the compilation phase: "{what}"'
 
 
+def clash_text(key):
+    return compile_error(f"Alias {key} already exists")
+
+
+def missing_text(name):
+    return f'The given pattern definition name "{name}" could not be found in the definition map'
+
+
+def size_text(length, groups, nesting):
+    return f"length {length} groups {groups} nesting {nesting}"
+
+
 def error_text(fault):
     """The text of the error for a fault."""
     if isinstance(fault, Clash):
-        return compile_error(f"Alias {fault.second.key} already exists")
+        return clash_text(fault.second.key)
     if fault.kind == MALFORMED:
         return compile_error(fault.piece.fault)
     if fault.kind == MISSING:
-        return f'The given pattern definition name "{fault.piece.name}" could not be found in the definition map'
-    return "Recursion while compiling reached the limit of 1024"
+        return missing_text(fault.piece.name)
+    return DEPTH_TEXT
 
 
 def split_text(pattern):
@@ -283,7 +296,13 @@ def measure_text(pattern, library, alias_only, bound=100_000):
     if fault:
         return error_text(fault)
     whole = expansion(pattern, library, alias_only, bound)
-    return f"length {size(whole.text)} groups {len(whole.keys)} nesting {whole.nesting}"
+    return size_text(size(whole.text), len(whole.keys), whole.nesting)
+
+
+def check_text(library, alias_only):
+    """What `grok_tool check` writes for these definitions."""
+    names = sorted(library, key=str.encode)
+    return "".join(f"{name}: {measure_text(f'%{{{name}}}', library, alias_only)}\n" for name in names)
 
 
 # Examples that were worked out by hand, by which the model is checked before a test asks it anything
@@ -332,8 +351,8 @@ EXPANSIONS = [
     ("", {}, False, "", 0, 0, ""),
     ("%{B}", {**A, "B": "%{A}%{A}"}, False, "(?<_n_0>(?<_n_1>a)(?<_n_2>a))", 3, 2, "B A A[1]"),
     ("%{W=a}%{W=b}%{W}", {}, False, "(?<_n_0>a)(?<_n_1>b)(?<_n_2>b)", 3, 1, "W W[1] W[2]"),
-    ("%{C1}", chain("C", 1023, "x"), True, 4093, 0, 1023, ""),
-    ("%{C1}", chain("C", 1023, "x"), False, 11167, 1023, 1023, None),
+    ("%{C1}", chain("C", LEVELS, "x"), True, "(?:" * LEVELS + "x" + ")" * LEVELS, 0, LEVELS, ""),
+    ("%{C1}", chain("C", LEVELS, "x"), False, None, LEVELS, LEVELS, None),
     ("%{H1}", chain("H", 500, "x"), False, None, 500, 500, None),
     ("%{D10}", doubled(10), False, 24478, 2047, 11, None),
     ("%{A}" * 11, A, False, 111, 11, 1, None),
@@ -346,18 +365,17 @@ EXPANSIONS = [
     ("x", {"BAD": "%{"}, False, "x", 0, 0, ""),
     ("%{A}%{A}", A, False, 20, 2, 1, "A A[1]"),
 ]
-DEPTH_TEXT = "Recursion while compiling reached the limit of 1024"
 # Patterns that have a fault, and the text of its error.
 FAULTS = [
-    ("%{W=a}%{P}", {"P": "%{W}"}, 'The given pattern definition name "W" could not be found in the definition map'),
-    ("%{A:x[1]}%{A:x}%{A:x}", A, compile_error("Alias x[1] already exists")),
-    ("%{P:x=a}%{P:x:int=b}%{P:x[1]=c}", {}, compile_error("Alias x[1] already exists")),
-    ("%{A:x[1]}%{A:x}%{A:x}%{missing}", A, compile_error("Alias x[1] already exists")),
+    ("%{W=a}%{P}", {"P": "%{W}"}, missing_text("W")),
+    ("%{A:x[1]}%{A:x}%{A:x}", A, clash_text("x[1]")),
+    ("%{P:x=a}%{P:x:int=b}%{P:x[1]=c}", {}, clash_text("x[1]")),
+    ("%{A:x[1]}%{A:x}%{A:x}%{missing}", A, clash_text("x[1]")),
     ("%{A}", {"A": "%{A}%{missing}"}, DEPTH_TEXT),
-    ("%{A}", {"A": "%{missing}%{A}"}, 'The given pattern definition name "missing" could not be found in the definition map'),
-    ("%{C1}", chain("C", 1024, "x"), DEPTH_TEXT),
-    ("%{A:x[1022]}%{C:c}", {**A, "C": "%{A:x}%{C:c}"}, compile_error("Alias x[1022] already exists")),
-    ("%{A:x[1023]}%{C:c}", {**A, "C": "%{A:x}%{C:c}"}, DEPTH_TEXT),
+    ("%{A}", {"A": "%{missing}%{A}"}, missing_text("missing")),
+    ("%{C1}", chain("C", LEVELS + 1, "x"), DEPTH_TEXT),
+    (f"%{{A:x[{LEVELS - 1}]}}%{{C:c}}", {**A, "C": "%{A:x}%{C:c}"}, clash_text(f"x[{LEVELS - 1}]")),
+    (f"%{{A:x[{LEVELS}]}}%{{C:c}}", {**A, "C": "%{A:x}%{C:c}"}, DEPTH_TEXT),
     ("%{H1}%{C1}", {**chain("C", 600, "%{H1}"), **chain("H", 500, "x")}, DEPTH_TEXT),
     ("%{BAD}", {"BAD": "%{"}, compile_error(INVALID)),
 ]

@@ -7,9 +7,15 @@ import sys
 
 sys.path.insert(0, sys.path[0] + "/..")
 import model
+from model import LEVELS
 
 # The modes that a row holds in: all placeholders capture, or only those with an alias.
 EVERY, ALIASED, BOTH = (False,), (True,), (False, True)
+
+
+def library_of(definitions):
+    """The default definitions and these by name. The later one of a name counts."""
+    return {**model.DEFAULTS, **dict(each.split("=", 1) for each in definitions)}
 
 
 class Row:
@@ -24,8 +30,7 @@ class Row:
         return self.name
 
     def library(self):
-        """The definitions by name. The later one of a name counts."""
-        return {**model.DEFAULTS, **dict(each.split("=", 1) for each in self.definitions)}
+        return library_of(self.definitions)
 
 
 class Pattern:
@@ -313,16 +318,16 @@ DEFAULTS = [
 
 # Long chains, doublings, and keys that are used very often.
 LIMITS = [
-    Row("1,023 placeholders in one another", "%{C1}", ACCEPTED, chain("C", 1023, "x")),
-    Row("1,024 placeholders in one another", "%{C1}", TOO_DEEP, chain("C", 1024, "x")),
-    Row("1,023 of 1,024 links", "%{C2}", ACCEPTED, chain("C", 1024, "x")),
-    Row("a definition in the text takes the last level", "%{C1}", ACCEPTED, chain("C", 1022, "%{W=x}")),
-    Row("a definition in the text takes a level too many", "%{C1}", TOO_DEEP, chain("C", 1023, "%{W=x}")),
-    Row("a missing definition comes before the depth", "%{C1}", missing("nope"), chain("C", 1023, "%{nope}")),
-    Row("a malformed placeholder comes before the depth", "%{C1}", malformed("InvalidPattern"), chain("C", 1023, "%{")),
-    Row("a clash comes before the depth", "%{A:x[1]}%{A:x}%{C1}", clash("x[1]"), A + chain("C", 1023, "%{A:x}")),
+    Row("as many placeholders in one another as are allowed", "%{C1}", ACCEPTED, chain("C", LEVELS, "x")),
+    Row("one placeholder too many in one another", "%{C1}", TOO_DEEP, chain("C", LEVELS + 1, "x")),
+    Row("all links but the first of a chain that is too long", "%{C2}", ACCEPTED, chain("C", LEVELS + 1, "x")),
+    Row("a definition in the text takes the last level", "%{C1}", ACCEPTED, chain("C", LEVELS - 1, "%{W=x}")),
+    Row("a definition in the text takes a level too many", "%{C1}", TOO_DEEP, chain("C", LEVELS, "%{W=x}")),
+    Row("a missing definition comes before the depth", "%{C1}", missing("nope"), chain("C", LEVELS, "%{nope}")),
+    Row("a malformed placeholder comes before the depth", "%{C1}", malformed("InvalidPattern"), chain("C", LEVELS, "%{")),
+    Row("a clash comes before the depth", "%{A:x[1]}%{A:x}%{C1}", clash("x[1]"), A + chain("C", LEVELS, "%{A:x}")),
     Row("an alias with a number that is not reached is no clash", "%{A:x[2]}%{A:x}%{C1}", TOO_DEEP,
-        A + chain("C", 1023, "%{A:x}")),
+        A + chain("C", LEVELS, "%{A:x}")),
     Row("a chain alone and then below another one", "%{H1}%{C1}", TOO_DEEP, chain("H", 500, "x") + chain("C", 600, "%{H1}")),
     Row("a chain below another one", "%{C1}", TOO_DEEP, chain("H", 500, "x") + chain("C", 600, "%{H1}")),
     Row("a chain alone", "%{H1}", ACCEPTED, chain("H", 500, "x") + chain("C", 600, "%{H1}")),
@@ -519,46 +524,29 @@ CUT = [
      "%{INT:resp_p}", r"\t", "%{WORD:proto}", r"\t", "%{INT:trans_id}", r"\t", "%{GREEDYDATA:query}"],
 ]
 
-# What `measure` writes for many placeholders side by side, whose numbers have up to four digits.
-LONG_NUMBERS = {101: "length 1102 groups 101 nesting 1", 1001: "length 11903 groups 1001 nesting 1"}
-
 # For 60, 54, and so on down to 6 the doubling with that number and the two below it, without groups. With 135 letters more the
 # length is 2^64 - 1, the greatest that is a number.
 TURNS = "".join(f"%{{D{top - down}}}" for top in range(60, 0, -6) for down in range(3))
 GREATEST = {
-    134: "length 18446744073709551614 groups 0 nesting 61",
-    135: "length 18446744073709551615 groups 0 nesting 61",
+    134: model.size_text(2**64 - 2, 0, 61),
+    135: model.size_text(2**64 - 1, 0, 61),
     136: "too long",
     137: "too long",
 }
 
-# What `check` writes for the default definitions, if all placeholders capture and if only those with an alias do, of which there
-# are none.
-DEFAULT_SIZES = """CISCOMAC: length 50 groups 1 nesting 1
-COMMONMAC: length 49 groups 1 nesting 1
-DAY: length 104 groups 1 nesting 1
-MAC: length 163 groups 4 nesting 2
-MONTH: length 157 groups 1 nesting 1
-SPACE: length 12 groups 1 nesting 1
-USER: length 33 groups 2 nesting 2
-USERNAME: length 24 groups 1 nesting 1
-WINDOWSMAC: length 49 groups 1 nesting 1
-YEAR: length 20 groups 1 nesting 1
-"""
-DEFAULT_SIZES_OF_ALIASES = """CISCOMAC: length 45 groups 0 nesting 1
-COMMONMAC: length 44 groups 0 nesting 1
-DAY: length 99 groups 0 nesting 1
-MAC: length 143 groups 0 nesting 2
-MONTH: length 152 groups 0 nesting 1
-SPACE: length 7 groups 0 nesting 1
-USER: length 23 groups 0 nesting 2
-USERNAME: length 19 groups 0 nesting 1
-WINDOWSMAC: length 44 groups 0 nesting 1
-YEAR: length 15 groups 0 nesting 1
-"""
 
-NO_NOPE_TEXT = 'The given pattern definition name "nope" could not be found in the definition map'
-NO_HYPHEN = model.compile_error("InvalidCharacter('-')")
+def measured(*words):
+    """Words of `measure`, and what it writes: the size that the model finds."""
+    alias_only = words[0] == "-a"
+    pattern, *definitions = words[1:] if alias_only else words
+    return ["measure", *words], model.measure_text(pattern, library_of(definitions), alias_only) + "\n"
+
+
+def checked(*words):
+    """The same of `check`."""
+    alias_only = words[:1] == ("-a",)
+    return ["check", *words], model.check_text(library_of(words[alias_only:]), alias_only)
+
 
 # A pattern that matches each line with a lowercase letter, and that could take a line feed.
 KEYED = r"(?<k>[a-z]\s?)"
@@ -572,20 +560,21 @@ RUNS = [
     (["split", ""], ""),
     (["split", "-a"], "-a\n"),
     (["split", "a%{b}%{c!}"], "a\n%{b}\n<error InvalidCharacter('!')>\n"),
-    (["measure", "%{A}%{A}", "A=a"], "length 20 groups 2 nesting 1\n"),
-    (["measure", "-a", "%{A}%{A}", "A=a"], "length 10 groups 0 nesting 1\n"),
-    (["measure", "-a", "%{A:k}%{A}", "A=a"], "length 15 groups 1 nesting 1\n"),
-    (["measure", "%{MAC}"], "length 163 groups 4 nesting 2\n"),
-    (["measure", "%{W=ab}"], "length 11 groups 1 nesting 1\n"),
-    (["measure", "é%{A}", "A=a"], "length 12 groups 1 nesting 1\n"),
-    (["measure", ""], "length 0 groups 0 nesting 0\n"),
-    (["measure", "-a", "-a"], "length 2 groups 0 nesting 0\n"),
-    (["measure", "%{A}", "A=a", "A=bcd"], "length 12 groups 1 nesting 1\n"),
-    (["measure", "%{A}", "A=b=c"], "length 12 groups 1 nesting 1\n"),
-    (["measure", "%{A}", "A="], "length 9 groups 1 nesting 1\n"),
-    (["measure", "%{DAY}", "DAY=x"], "length 10 groups 1 nesting 1\n"),
-    (["check"], DEFAULT_SIZES),
-    (["check", "-a"], DEFAULT_SIZES_OF_ALIASES),
+    measured("%{A}%{A}", "A=a"),
+    measured("-a", "%{A}%{A}", "A=a"),
+    measured("-a", "%{A:k}%{A}", "A=a"),
+    measured("%{MAC}"),
+    measured("%{W=ab}"),
+    measured("é%{A}", "A=a"),
+    measured(""),
+    measured("-a", "-a"),
+    measured("%{A}", "A=a", "A=bcd"),
+    measured("%{A}", "A=b=c"),
+    measured("%{A}", "A="),
+    measured("%{DAY}", "DAY=x"),
+    *(measured("%{A}" * count, "A=a") for count in (101, 1001)),  # the numbers of the groups have up to four digits
+    checked(),
+    checked("-a"),
     (["match", "%{USERNAME}"], "USERNAME=john\n\nno match\n\n", b"john doe\n###"),
     (["match", "[%{A}]", "A=a"], "\n", b"a\n"),
     (["match", "(?<k>x*)"], "k=\n\n", b"\n"),
@@ -608,25 +597,22 @@ RUNS = [
     (["json", "%{A}%{A}", "A=a"], '{"A":"a","A[1]":"a"}\nnull\n', b"aa\n\n"),
     (["json", "(?<k>.)"], '{"k":"p"}\n{"k":"q"}\n', b"p\nq"),
     (["json", KEYED], '{"k":"p"}\n{"k":"q"}\n', b"p\nq"),
-    (["check", "B=%{nope}", "A=%{A}", "=x", "a-b=x"],
-     f": {model.compile_error(model.INVALID)}\nA: {model.DEPTH_TEXT}\nB: {NO_NOPE_TEXT}\n{DEFAULT_SIZES}"
-     f"a-b: {NO_HYPHEN}\n"),
-    (["check", "A=a", "B=x", "A=bcd"],
-     "A: length 12 groups 1 nesting 1\nB: length 10 groups 1 nesting 1\n" + DEFAULT_SIZES),
-    (["check", "DAY=x"], DEFAULT_SIZES.replace("DAY: length 104", "DAY: length 10")),
+    checked("B=%{nope}", "A=%{A}", "=x", "a-b=x"),
+    checked("A=a", "B=x", "A=bcd"),
+    checked("DAY=x"),
 ]
 
 # Words of grok_tool whose pattern has a fault, and the text of the fault.
 FAULTY_RUNS = [
-    (["measure", "%{nope}"], NO_NOPE_TEXT),
+    (["measure", "%{nope}"], model.missing_text("nope")),
     (["measure", "%{A}", "A=%{A}"], model.DEPTH_TEXT),
     (["measure", "-a", "x%{a b}"], model.compile_error("InvalidCharacter(' ')")),
     (["measure", "%{BAD}", "BAD=%{"], model.compile_error("InvalidPattern")),
-    (["measure", "%{nope}%{A}", "A=%{A}"], NO_NOPE_TEXT),
+    (["measure", "%{nope}%{A}", "A=%{A}"], model.missing_text("nope")),
     (["match", "%{A}", "A=%{A}"], model.DEPTH_TEXT),
-    (["match", "%{P:x=a}%{P:x=b}%{P:x[1]=c}"], model.compile_error("Alias x[1] already exists")),
-    (["json", "%{A:x}%{A:x}%{A:x[1]}", "A=a"], model.compile_error("Alias x[1] already exists")),
-    (["match", "%{nope}", "A=a"], NO_NOPE_TEXT),
+    (["match", "%{P:x=a}%{P:x=b}%{P:x[1]=c}"], model.clash_text("x[1]")),
+    (["json", "%{A:x}%{A:x}%{A:x[1]}", "A=a"], model.clash_text("x[1]")),
+    (["match", "%{nope}", "A=a"], model.missing_text("nope")),
 ]
 
 # Words that are no command.
