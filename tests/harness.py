@@ -16,6 +16,10 @@ import threading
 ROOT = os.path.dirname(os.path.dirname(os.path.abspath(__file__)))
 SECONDS = 60  # a run that takes longer is ended, and its test fails
 
+# The exit statuses of both programs: a pattern or a definition has a fault, the words of the command line are wrong, or reading,
+# writing or an allocation failed.
+FAULT, USAGE, FAILURE = 1, 2, 3
+
 
 class Wrong(Exception):
     """What a program did against the rules."""

@@ -1,5 +1,6 @@
 """Patterns, definitions and lines of a given size that make the reports of groklog do the most work. `tests/groklog/run` checks
 that no report takes long, and `bench/reports.py` measures each."""
+from harness import FAULT
 
 
 class Run:
@@ -57,24 +58,24 @@ def wide(size, part, last=""):
 
 LOGSTASH = {
     "definitions that are rewritten": lambda size: logstash(*reversed(wide(size, "(?>a|b)(?<![0-9])"))),
-    "`%{` without an end, from Logstash": lambda size: logstash("%{" * (size // 2), status=1),
-    "nested atomic groups": lambda size: logstash(nested(size, "(?>", "a|b"), status=1),
-    "nested groups with flags": lambda size: logstash(nested(size, "(?i:", "a|b"), status=1),
-    "flags for what follows": lambda size: logstash(repeated(size, "(?i)a"), status=1),
+    "`%{` without an end, from Logstash": lambda size: logstash("%{" * (size // 2), status=FAULT),
+    "nested atomic groups": lambda size: logstash(nested(size, "(?>", "a|b"), status=FAULT),
+    "nested groups with flags": lambda size: logstash(nested(size, "(?i:", "a|b"), status=FAULT),
+    "flags for what follows": lambda size: logstash(repeated(size, "(?i)a"), status=FAULT),
     "nested lookaheads": lambda size: logstash(nested(size, "(?=", "a|b") + "c"),
     "nested lookbehinds": lambda size: logstash("c" + nested(size, "(?<=", "a|b")),
-    "nested named groups": lambda size: logstash(nested(size, "(?<k>", "a|b"), status=1),
-    "nested groups with names of Logstash": lambda size: logstash(nested(size, "(?<a-b>", "a"), status=1),
+    "nested named groups": lambda size: logstash(nested(size, "(?<k>", "a|b"), status=FAULT),
+    "nested groups with names of Logstash": lambda size: logstash(nested(size, "(?<a-b>", "a"), status=FAULT),
     "groups with names of Logstash": lambda size: logstash(repeated(size, lambda n: f"(?<[k][{n}]>x)(?>y|z)")),
-    "nested classes": lambda size: logstash(nested(size, "[a", "b", "]"), status=1),
+    "nested classes": lambda size: logstash(nested(size, "[a", "b", "]"), status=FAULT),
     "long classes": lambda size: logstash("[" + repeated(size, "a-z\\d") + "]"),
     "classes and alternatives": lambda size: logstash(repeated(size, "[ab&&b]|")),
-    "quantifiers of quantifiers": lambda size: logstash("a" + repeated(size, "*+?"), status=1),
+    "quantifiers of quantifiers": lambda size: logstash("a" + repeated(size, "*+?"), status=FAULT),
     "possessive quantifiers": lambda size: logstash(repeated(size, "a++")),
     "comments, then lookarounds": lambda size: logstash(repeated(size // 2, "(?#)") + repeated(size // 2, "(?!a)")),
     "lookarounds, then comments": lambda size: logstash(repeated(size // 2, "(?<!a)") + repeated(size // 2, "(?#)")),
     "comments after `(?x)`": lambda size: logstash("(?x)" + repeated(size, "a #b\n")),
-    "deep alternatives": lambda size: logstash(nested(size, "(?:a|", "b"), status=1),
+    "deep alternatives": lambda size: logstash(nested(size, "(?:a|", "b"), status=FAULT),
     "wide alternatives": lambda size: logstash(repeated(size, "ab|")),
     "keys that are lost": lambda size: logstash(repeated(size, lambda n: f"(?=%{{WORD:k{n}}})a++")),
     "inline definitions that are rewritten": lambda size: logstash(repeated(size, lambda n: f"%{{A{n}:k{n}=(?>x|y)++}}")),
@@ -82,28 +83,28 @@ LOGSTASH = {
 }
 
 FAULTS = {
-    "a missing name": lambda size: Run(["-D", "B" * (size // 2) + "=x", "%{" + "A" * (size // 2) + "}"], status=1),
+    "a missing name": lambda size: Run(["-D", "B" * (size // 2) + "=x", "%{" + "A" * (size // 2) + "}"], status=FAULT),
     "a missing name among many": lambda size: Run(["-d", "definitions", "%{" + "A" * 60 + "}"],
-                                                  repeated(size, lambda n: f"{'A' * 50}{n:09}=x\n"), status=1),
-    "`%{` without an end": lambda size: Run(["--", "%{" * (size // 2)], status=1),
-    "a malformed placeholder at the end": lambda size: Run(["--", repeated(size, "%{WORD:x}") + "%{WORD:!}"], status=1),
-    "an unclosed bracket after many uses": lambda size: Run(["-D", "A=\\w{300}", repeated(size, "%{A}") + "("], status=1),
-    "an unclosed bracket in a chain": lambda size: Run(["-d", "definitions", "%{D0}"], chain(size, "x("), status=1),
+                                                  repeated(size, lambda n: f"{'A' * 50}{n:09}=x\n"), status=FAULT),
+    "`%{` without an end": lambda size: Run(["--", "%{" * (size // 2)], status=FAULT),
+    "a malformed placeholder at the end": lambda size: Run(["--", repeated(size, "%{WORD:x}") + "%{WORD:!}"], status=FAULT),
+    "an unclosed bracket after many uses": lambda size: Run(["-D", "A=\\w{300}", repeated(size, "%{A}") + "("], status=FAULT),
+    "an unclosed bracket in a chain": lambda size: Run(["-d", "definitions", "%{D0}"], chain(size, "x("), status=FAULT),
     "an unclosed bracket in one of many": lambda size: Run(["-d", "definitions", wide(size, "a(b)c")[1]],
-                                                           wide(size, "a(b)c", "(")[0], status=1),
-    "an unclosed bracket used many times": lambda size: Run(["-D", "A=x(", repeated(size, "%{A}")], status=1),
-    "unclosed brackets": lambda size: Run(["--", "(" * size], status=1),
-    "a circle": lambda size: Run(["-d", "definitions", "%{D0}"], chain(size, "%{D0}"), status=1),
+                                                           wide(size, "a(b)c", "(")[0], status=FAULT),
+    "an unclosed bracket used many times": lambda size: Run(["-D", "A=x(", repeated(size, "%{A}")], status=FAULT),
+    "unclosed brackets": lambda size: Run(["--", "(" * size], status=FAULT),
+    "a circle": lambda size: Run(["-d", "definitions", "%{D0}"], chain(size, "%{D0}"), status=FAULT),
     "a chain that is too deep": lambda size: Run(["-d", "definitions", "%{D0}"],
-                                                 repeated(size, lambda n: f"D{n}={'x' * 40}%{{D{n + 1}}}\n"), status=1),
+                                                 repeated(size, lambda n: f"D{n}={'x' * 40}%{{D{n + 1}}}\n"), status=FAULT),
     "keys that clash": lambda size: Run(["--", repeated(size // 2, lambda n: f"%{{WORD:k{n}[1]}}")
-                                         + repeated(size // 2, lambda n: f"%{{WORD:k{n}}}") + "%{WORD:k0}"], status=1),
-    "a pattern that is too large": lambda size: Run(["--", repeated(size, "\\w{1000}")], status=1),
-    "a fault at the end": lambda size: Run(["--", repeated(size, "a") + "b{2,1}"], status=1),
+                                         + repeated(size // 2, lambda n: f"%{{WORD:k{n}}}") + "%{WORD:k0}"], status=FAULT),
+    "a pattern that is too large": lambda size: Run(["--", repeated(size, "\\w{1000}")], status=FAULT),
+    "a fault at the end": lambda size: Run(["--", repeated(size, "a") + "b{2,1}"], status=FAULT),
     "many patterns, the last with a fault": lambda size: Run(
-        [*(word for n in range(size // 100) for word in ("-e", f"%{{WORD:k{n}}}" + "x" * 80)), "-e", "("], status=1),
+        [*(word for n in range(size // 100) for word in ("-e", f"%{{WORD:k{n}}}" + "x" * 80)), "-e", "("], status=FAULT),
     "a file of definitions with a fault at its end": lambda size: Run(["-d", "definitions", "x"],
-                                                                      repeated(size, "A=b\n# c\n") + "!", status=1),
+                                                                      repeated(size, "A=b\n# c\n") + "!", status=FAULT),
 }
 
 # What comes after each of many keys. The engine compares the name of each group with all others, so 10,000 keys take it five seconds,
