@@ -1,6 +1,6 @@
 """Patterns, definitions and lines of a given size that make the reports of groklog do the most work. `tests/groklog/run` checks
 that no report takes long, and `bench/reports.py` measures each."""
-from harness import FAULT
+from harness import FAILURE, FAULT
 
 
 class Run:
@@ -32,7 +32,7 @@ def nested(size, start, middle, end=")"):
 
 
 def logstash(pattern, definitions="", status=0):
-    """Rewrites a pattern, and drops what has no form. Groups in one another end with the status 1, since `regex` refuses more than
+    """Rewrites a pattern, and drops what has no form. Groups in one another end with `FAULT`, since `regex` refuses more than
     250 levels."""
     return Run(["--from-logstash", "--loose", "-d", "definitions", "--explain", "--", pattern], definitions, "", status)
 
@@ -127,7 +127,7 @@ NOTES = {
     "keys of two groups": lambda size: optional([], keys(size, lambda n: f"(?<k{n}>a)?%{{A:k{n}}}"), ""),
     "keys that are extracts": lambda size: optional([], keys(size, "%{A:int}"), ""),
     "extracts that aren't known": lambda size: optional(["--typed"], keys(size, lambda n: f"%{{A:k{n}:e{n}}}"), ""),
-    "files that aren't there": lambda size: Run(["x", *(f"%{{no{n}}}" for n in range(size // 10))], status=3),
+    "files that aren't there": lambda size: Run(["x", *(f"%{{no{n}}}" for n in range(size // 10))], status=FAILURE),
 }
 
 KEYS = {
