@@ -376,7 +376,7 @@ FAULTS = [
     ("%{C1}", chain("C", LEVELS + 1, "x"), DEPTH_TEXT),
     (f"%{{A:x[{LEVELS - 1}]}}%{{C:c}}", {**A, "C": "%{A:x}%{C:c}"}, clash_text(f"x[{LEVELS - 1}]")),
     (f"%{{A:x[{LEVELS}]}}%{{C:c}}", {**A, "C": "%{A:x}%{C:c}"}, DEPTH_TEXT),
-    ("%{H1}%{C1}", {**chain("C", 600, "%{H1}"), **chain("H", 500, "x")}, DEPTH_TEXT),
+    ("%{H1}%{C1}", {**chain("C", LEVELS - 400, "%{H1}"), **chain("H", 500, "x")}, DEPTH_TEXT),
     ("%{BAD}", {"BAD": "%{"}, compile_error(INVALID)),
 ]
 

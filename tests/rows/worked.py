@@ -316,6 +316,9 @@ DEFAULTS = [
         }),
 ]
 
+# A chain of 500 definitions, and a chain that leads to it and has 100 links too many for that.
+TWO_CHAINS = chain("H", 500, "x") + chain("C", LEVELS - 400, "%{H1}")
+
 # Long chains, doublings, and keys that are used very often.
 LIMITS = [
     Row("as many placeholders in one another as are allowed", "%{C1}", ACCEPTED, chain("C", LEVELS, "x")),
@@ -328,13 +331,12 @@ LIMITS = [
     Row("a clash comes before the depth", "%{A:x[1]}%{A:x}%{C1}", clash("x[1]"), A + chain("C", LEVELS, "%{A:x}")),
     Row("an alias with a number that is not reached is no clash", "%{A:x[2]}%{A:x}%{C1}", TOO_DEEP,
         A + chain("C", LEVELS, "%{A:x}")),
-    Row("a chain alone and then below another one", "%{H1}%{C1}", TOO_DEEP, chain("H", 500, "x") + chain("C", 600, "%{H1}")),
-    Row("a chain below another one", "%{C1}", TOO_DEEP, chain("H", 500, "x") + chain("C", 600, "%{H1}")),
-    Row("a chain alone", "%{H1}", ACCEPTED, chain("H", 500, "x") + chain("C", 600, "%{H1}")),
-    Row("a chain below 523 links, which are as many as are allowed", "%{H1}%{C78}", ACCEPTED,
-        chain("H", 500, "x") + chain("C", 600, "%{H1}")),
-    Row("a chain below 524 links", "%{H1}%{C77}", TOO_DEEP, chain("H", 500, "x") + chain("C", 600, "%{H1}")),
-    Row("a circle after a long chain", "%{A}", TOO_DEEP, ["A=%{B1}%{A}%{missing}"] + chain("B", 600, "x")),
+    Row("a chain alone and then below another one", "%{H1}%{C1}", TOO_DEEP, TWO_CHAINS),
+    Row("a chain below another one", "%{C1}", TOO_DEEP, TWO_CHAINS),
+    Row("a chain alone", "%{H1}", ACCEPTED, TWO_CHAINS),
+    Row("a chain below as many links as are allowed", "%{H1}%{C101}", ACCEPTED, TWO_CHAINS),
+    Row("a chain below one link too many", "%{H1}%{C100}", TOO_DEEP, TWO_CHAINS),
+    Row("a circle after a long chain", "%{A}", TOO_DEEP, ["A=%{B1}%{A}%{missing}"] + chain("B", 500, "x")),
     Row("a text that doubles ten times", "%{D10}", ACCEPTED, doublings("a")),
     Row("a text that is too long with its groups, and larger than the memory without", "%{D60}", MEMORY, doublings("a")),
     Row("a text that is too long without its groups", "%{D61}", MEMORY, doublings("a")),
@@ -347,10 +349,10 @@ LIMITS = [
         doublings("a")),
     Row("a clash, a text that is far too long, and a missing definition", "%{A:x[1]}%{A:x}%{A:x}%{D70}%{missing}", clash("x[1]"),
         A + doublings("a")),
-    Row("a text that is far too long, and again below 952 links", "%{D70}%{K1}", MEMORY,
-        chain("K", 952, "%{D70}") + doublings("a")),
-    Row("a text that is far too long, and again below 953 links", "%{D70}%{K1}", TOO_DEEP,
-        chain("K", 953, "%{D70}") + doublings("a")),
+    Row("a text that is far too long, and again below as many links as are allowed", "%{D70}%{K1}", MEMORY,
+        chain("K", LEVELS - 71, "%{D70}") + doublings("a")),
+    Row("a text that is far too long, and again below one link too many", "%{D70}%{K1}", TOO_DEEP,
+        chain("K", LEVELS - 70, "%{D70}") + doublings("a")),
     Row("a key that is used 2^44 times", "%{A:x[17592186044416]}%{D44}%{missing}", missing("missing"), A + doublings("%{A:x}")),
     Row("a key that the second of 2^44 placeholders is to get", "%{A:x[1]}%{D44}%{missing}", clash("x[1]"),
         A + doublings("%{A:x}")),
