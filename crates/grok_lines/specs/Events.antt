@@ -8,11 +8,12 @@ use Rattle.grok_lines.specs.Lines.{line_feed}
 abbrev pub event_text : List (List ℕ) → List ℕ
 event_text event = join_with_byte line_feed event
 
--- Whether a line is a start, where `starts` decides that for lines that are UTF-8. No other line is one.
+-- Whether a line is a start, that is, begins an event. `starts` decides that for a line that is UTF-8, and any other
+-- line is no start.
 abbrev pub line_starts : (List ℕ → Bool) → List ℕ → Bool
 line_starts starts line = if is_utf8 line then starts line else false
 
--- The first of these lines is a start.
+-- There is a line, and the first one is a start.
 abbrev pub BeginsAtStart : (List ℕ → Bool) → List (List ℕ) → Type 0
 BeginsAtStart starts [] = ⊥
 BeginsAtStart starts (line ∷ lines) = starts line ≡ true
@@ -24,7 +25,7 @@ EndOnlyWhenDue starts most (event ∷ []) = Unit {0}
 EndOnlyWhenDue starts most (event ∷ next ∷ events) =
     ((length event ≡ most) ⊎ BeginsAtStart starts next) × EndOnlyWhenDue starts most (next ∷ events)
 
--- THE EVENTS of some lines, of which those are starts that `starts` says, and of which an event has `most` at most.
+-- THE EVENTS of these lines. `starts` says which lines begin an event, and an event has at most `most` lines.
 pub record AreEventsOf (starts : List ℕ → Bool) (most : ℕ) (lines : List (List ℕ)) (events : List (List (List ℕ))) : Type 0 where
   -- One after another, the events are the lines.
   pub joined : flat_map (λ event. event) events ≡ lines

@@ -17,10 +17,11 @@ escaped_byte b = if b == 38 then codes "&amp;" else if b == 60 then codes "&lt;"
 abbrev pub escaped : List ℕ → List ℕ
 escaped text = flat_map escaped_byte text
 
--- Whether a text has a byte that begins or ends a tag, or that ends the value of an attribute in quotes.
+-- Whether a byte begins or ends a tag, or ends the value of an attribute in quotes: < > " or '.
 abbrev pub is_markup : ℕ → Bool
 is_markup b = (b == 60) || ((b == 62) || ((b == 34) || (b == 39)))
 
+-- Whether a text has such a byte.
 abbrev pub has_markup : List ℕ → Bool
 has_markup text = list_any is_markup text
 

@@ -56,8 +56,8 @@ fn push_char(
     last.text.push(c)
 }
 
-/// Cuts a line into runs. A field comes after those around it, so a character in several fields has
-/// the key of the innermost one.
+/// Cuts a line into runs. A character that is in several fields has the key of the last of them. If
+/// `fields` has each field after those that it lies in, this is the innermost one.
 ///
 /// # Errors
 ///

@@ -8,8 +8,8 @@ use Rattle.regex.specs.declared.error.Error.TheVariants.{Internal, OutOfMemory}
 use Rattle.regex.specs.declared.string.regex.Regex.{Regex}
 use Rattle.regex_beginnings.specs.declared.compiled.Found.{Found}
 
--- The regex was built with the defaults of `regex`: its pattern is what the grammar reads in its text, without flags or
--- limits.
+-- The regex was built with the default settings of `regex`: its pattern is what its text means in the syntax of `regex`,
+-- without flags or limits.
 abbrev pub IsReadByDefault : Regex → Type 0
 IsReadByDefault regex = (regex_config regex ≡ default_config) × IsReadFromSource regex
 

@@ -31,7 +31,8 @@ const KNOWN: [(&str, &str); 21] = [
     ("NUMBER", "number"),
 ];
 
-/// Returns the definition with this index in [`KNOWN`], and the key of its placeholder.
+/// Returns the definition with this index in [`KNOWN`], and the key of its placeholder. If there is
+/// none, returns `DATA`, which finds any text.
 pub(crate) fn known_definition(known: usize) -> (&'static str, &'static str) {
     if known < KNOWN.len() {
         KNOWN[known]
