@@ -39,7 +39,7 @@ def size(text):
 Regular = collections.namedtuple("Regular", "begin text")
 # A placeholder. A part that is missing is empty.
 Placeholder = collections.namedtuple("Placeholder", "begin text name alias extract definition")
-# A malformed placeholder, with all that follows it: the fault as the crate calls it, the reason in words of our own, and from
+# A malformed placeholder, with all that follows it: the fault as the crate calls it, the reason as groklog puts it, and from
 # where on in the piece it is malformed. If it has no end, that is the end of the piece.
 Malformed = collections.namedtuple("Malformed", "begin text fault reason at")
 
@@ -47,14 +47,14 @@ NAME = re.compile(r"[A-Za-z0-9_]*")
 WORD = re.compile(r"[A-Za-z0-9_.\[\]-]*")
 NO_BRACE = re.compile(r"[^{}]*")
 
-NO_END = "no end"
-BAD_CHARACTER = "bad character"
-NO_NAME = "no name"
-FOUR_PARTS = "four parts"
-EMPTY_EXTRACT = "empty extract"
-EMPTY_ALIAS = "empty alias"
-BRACE = "brace in the definition"
-EMPTY_DEFINITION = "empty definition"
+NO_END = "this placeholder isn't closed by }"
+BAD_CHARACTER = "a placeholder can't have {} here"  # which has the character
+NO_NAME = "this placeholder has no name"
+FOUR_PARTS = "this placeholder has more than a name, an alias and an extract"
+EMPTY_EXTRACT = "the extract of this placeholder is empty"
+EMPTY_ALIAS = "the alias of this placeholder is empty"
+BRACE = "a definition inside a placeholder can't have a {"
+EMPTY_DEFINITION = "the definition in this placeholder is empty"
 
 INVALID = "InvalidPattern"
 INVALID_DEFINITION = "InvalidPatternDefinition"
