@@ -478,7 +478,7 @@ fn times_of_colours<'a>() -> &'a [&'a str] {
 fn options_of_answers<'a>() -> &'a [&'a str] {
     &[
         "csv", "pairs", "typed", "no-empty", "nested", "merge", "logstash", "keep", "tag",
-        "number", "file", "failed", "start", "count", "why", "suggest", "list", "explain",
+        "number", "file", "failed", "count", "why", "suggest", "list", "explain",
     ]
 }
 

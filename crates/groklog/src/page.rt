@@ -1,43 +1,53 @@
-//! Collects what the page of `--html` shows of the first lines.
+//! Collects what the page of `--html` shows of the first lines or events.
 ghost use Rattle.std.specs.Prelude.{[]};
 
 use crate::located_fields::LocatedFields;
 use crate::stop_report::Explainer;
-use grok_lines::LineAnswers;
+use crate::unit::Unit;
+use grok_lines::{LineAnswers, SkipLines};
 use groklog_answers::{Lines, ValueCounts};
 use marked_lines::{Html, runs_of};
 use std::alloc::{AllocError, Global};
 
-/// For how many lines that don't match the page shows where the pattern stops.
-pub const EXPLAINED: usize = 20;
+/// For how many lines or events that don't match the page shows where the pattern stops.
+pub const EXPLAINED: u64 = 20;
 
-/// What the page shows of the first lines. It has no answers.
+/// What a page is about.
+#[derive(Clone, Copy)]
+pub struct PageContent {
+    /// What its items are.
+    pub unit: Unit,
+    /// Which of them it lists. All of them count.
+    pub lines: Lines,
+    /// How many of them it is about at most.
+    pub most: usize,
+}
+
+/// What the page shows of the first lines, or of the first events. It has no answers.
 #[derive(Drop)]
 pub struct Page<'a, 'p, 'd> {
     alloc: Global,
     pub located: LocatedFields<'a>,
     explainer: Explainer<'p, 'd>,
-    /// Which lines the page lists. All of them count.
-    lines: Lines,
+    pub content: PageContent,
     /// For each key its title.
     titles: Vec<String>,
     /// For each key how often its values came.
     pub values: Vec<ValueCounts>,
-    /// The lines, as the items of a list.
+    /// The lines or events, as the items of a list.
     pub items: Html,
-    /// How many lines were read.
+    /// How many lines or events were answered.
     pub count: u64,
-    /// How many more lines are read at most.
-    left: usize,
-    /// How many lines may still be explained.
-    explained_left: usize,
+    /// The number of the line, or of the first line of the event, that was answered last.
+    number: u64,
+    /// How many may still be explained.
+    explained_left: u64,
     /// Whether there are enough lines. Then an answer fails, so that no more are read.
     pub is_full: bool,
 }
 
 impl<'a, 'p, 'd> Page<'a, 'p, 'd> {
-    /// Takes the first `most` lines, of which the page lists those that `lines` chooses. `titles` has
-    /// the title of each key.
+    /// Makes a page that is about no lines yet. `titles` has the title of each key.
     ///
     /// # Errors
     ///
@@ -46,36 +56,41 @@ impl<'a, 'p, 'd> Page<'a, 'p, 'd> {
         alloc: Global,
         located: LocatedFields<'a>,
         explainer: Explainer<'p, 'd>,
-        (lines, most): (Lines, usize),
+        content: PageContent,
         titles: Vec<String>,
     ) -> Result<Page<'a, 'p, 'd>, AllocError> {
         let mut values = Vec::new(alloc);
         for _ in &located.keys {
-            values.push(ValueCounts::new(alloc, most))?;
+            values.push(ValueCounts::new(alloc, content.most))?;
         }
         Ok(Page {
             alloc,
             located,
             explainer,
-            lines,
+            content,
             titles,
             values,
             items: Html::new(alloc),
             count: 0,
-            left: most,
+            number: 0,
             explained_left: EXPLAINED,
-            is_full: most == 0,
+            is_full: content.most == 0,
         })
     }
 
-    /// Counts a line.
+    /// Counts a line or an event.
+    fn count(&mut self) {
+        self.count = self.count.saturating_add(1);
+        self.number = self.number.saturating_add(1);
+    }
+
+    /// Looks whether there are enough lines.
     ///
     /// # Errors
     ///
-    /// If there are enough lines now.
-    fn count(&mut self) -> Result<(), AllocError> {
-        self.left = self.left.saturating_sub(1);
-        if self.left > 0 {
+    /// If there are.
+    fn end_if_full(&mut self) -> Result<(), AllocError> {
+        if self.count < self.content.most as u64 {
             return Ok(());
         }
         self.is_full = true;
@@ -85,7 +100,7 @@ impl<'a, 'p, 'd> Page<'a, 'p, 'd> {
 
     /// Begins the item of the next line.
     fn begin_item(&mut self) -> Result<(), AllocError> {
-        let number = format!(in self.alloc; "{}", self.count)?;
+        let number = format!(in self.alloc; "{}", self.number)?;
         self.items.push_markup("<li value=\"")?;
         self.items.push_text(number.as_str())?;
         self.items.push_markup("\">")
@@ -99,7 +114,7 @@ impl<'a, 'p, 'd> Page<'a, 'p, 'd> {
                 values.note(line.get(field.start..field.end).unwrap_or(""))?;
             }
         }
-        if matches!(self.lines, Lines::Unmatched) {
+        if matches!(self.content.lines, Lines::Unmatched) {
             return Ok(());
         }
         let runs = runs_of(self.alloc, line, &fields)?;
@@ -133,7 +148,7 @@ impl<'a, 'p, 'd> Page<'a, 'p, 'd> {
             return Ok(String::new(self.alloc));
         }
         self.explained_left = self.explained_left.saturating_sub(1);
-        let place = format!(in self.alloc; "line {}", self.count)?;
+        let place = self.content.unit.at(self.alloc, self.number)?;
         self.explainer.report(place.as_str(), line)
     }
 }
@@ -144,26 +159,35 @@ impl LineAnswers for Page<'_, '_, '_> {
     fn answer_str(&mut self, text: &mut Vec<u8>, line: &str) -> Result<(), AllocError> {
         let _ = text;
         let pattern = self.located.pattern_of(line)?;
-        self.count = self.count.saturating_add(1);
+        self.count();
         match pattern {
             Some(pattern) => self.add_matched(pattern, line)?,
-            None if matches!(self.lines, Lines::Matched) => {}
+            None if matches!(self.content.lines, Lines::Matched) => {}
             None => {
                 let report = self.explanation(line)?;
                 self.add_unmatched(line, report.as_str())?;
             }
         }
-        self.count()
+        self.end_if_full()
     }
 
     fn answer_broken(&mut self, text: &mut Vec<u8>, line: &[u8]) -> Result<(), AllocError> {
         let _ = text;
         self.located.note_broken(line)?;
-        self.count = self.count.saturating_add(1);
-        if !matches!(self.lines, Lines::Matched) {
+        self.count();
+        if !matches!(self.content.lines, Lines::Matched) {
             let line = String::from_utf8_lossy(self.alloc, line)?;
-            self.add_unmatched(line.as_str(), "this line isn't UTF-8")?;
+            let report = format!(in self.alloc; "this {} isn't UTF-8", self.content.unit.word(1))?;
+            self.add_unmatched(line.as_str(), report.as_str())?;
         }
-        self.count()
+        self.end_if_full()
+    }
+}
+
+impl SkipLines for Page<'_, '_, '_> {
+    fn skip_lines(&mut self, count: u64) -> Result<(), AllocError> {
+        self.located.answers.skip_lines(count)?;
+        self.number = self.number.saturating_add(count);
+        Ok(())
     }
 }

@@ -2,6 +2,7 @@
 
 use crate::options::Options;
 use crate::page::{EXPLAINED, Page};
+use crate::unit::Unit;
 use groklog_answers::{Counted, ValueCounts};
 use groklog_input::{Failure, Fault, Report};
 use marked_lines::Html;
@@ -49,14 +50,6 @@ fn share(count: u64, total: u64) -> u64 {
     (tenths / total).min(1000)
 }
 
-/// Returns how many lines there are, in words.
-fn lines_in_words(alloc: Global, count: u64) -> Result<String, AllocError> {
-    if count == 1 {
-        return String::from_str(alloc, "1 line");
-    }
-    format!(in alloc; "{count} lines")
-}
-
 /// Appends the cell with a bar for a share, in tenths of a percent.
 fn push_bar(alloc: Global, html: &mut Html, share: u64) -> Result<(), AllocError> {
     let width = format!(in alloc; "{}.{}", share / 10, share % 10)?;
@@ -65,17 +58,17 @@ fn push_bar(alloc: Global, html: &mut Html, share: u64) -> Result<(), AllocError
     html.push_markup("%\"></div></td>")
 }
 
-/// Appends the row with the share of the lines that `words` are about.
+/// Appends the row with the share of the lines or events that `words` are about.
 fn push_share(
     alloc: Global,
     html: &mut Html,
-    (count, total): (u64, u64),
+    (count, page): (u64, &Page<'_, '_, '_>),
     words: &str,
     is_pattern: bool,
 ) -> Result<(), AllocError> {
-    let share = share(count, total);
+    let share = share(count, page.count);
     let percent = format!(in alloc; "{}.{}%", share / 10, share % 10)?;
-    let lines = lines_in_words(alloc, count)?;
+    let lines = page.content.unit.counted(alloc, count)?;
     html.push_markup("<tr><td class=\"number\">")?;
     html.push_text(percent.as_str())?;
     html.push_markup("</td>")?;
@@ -95,25 +88,25 @@ fn push_share(
     })
 }
 
-/// Appends the table with the share of the lines that each pattern matches, and of those that none
-/// matches.
+/// Appends the table with the share of the lines or events that each pattern matches, and of those that
+/// none matches.
 fn push_shares(
     alloc: Global,
     html: &mut Html,
     options: &Options<'_>,
     page: &Page<'_, '_, '_>,
 ) -> Result<(), AllocError> {
-    let (answers, total) = (&page.located.answers, page.count);
+    let answers = &page.located.answers;
     let matched = answers.matched()?;
     html.push_markup("<h2>Patterns</h2>\n<table>\n")?;
     let named = options.patterns.iter().zip(&options.names);
     for ((text, name), count) in named.zip(&matched) {
         let words = name.unwrap_or(*text);
-        push_share(alloc, html, (*count, total), words, true)?;
+        push_share(alloc, html, (*count, page), words, true)?;
     }
-    push_share(alloc, html, (answers.unmatched(), total), "no match", false)?;
+    push_share(alloc, html, (answers.unmatched(), page), "no match", false)?;
     if answers.broken() > 0 {
-        push_share(alloc, html, (answers.broken(), total), "not UTF-8", false)?;
+        push_share(alloc, html, (answers.broken(), page), "not UTF-8", false)?;
     }
     html.push_markup("</table>\n")
 }
@@ -204,9 +197,9 @@ fn push_head(alloc: Global, html: &mut Html, files: &[&str]) -> Result<(), Alloc
     html.push_markup("</h1>\n")
 }
 
-/// Returns the sentence that says which lines the page has.
+/// Returns the sentence that says which lines or events the page has.
 fn read_lines_in_words(alloc: Global, page: &Page<'_, '_, '_>) -> Result<String, AllocError> {
-    let lines = lines_in_words(alloc, page.count)?;
+    let lines = page.content.unit.counted(alloc, page.count)?;
     if page.is_full {
         format!(in alloc; "The first {lines} were read: --max N reads more.")
     } else {
@@ -214,8 +207,8 @@ fn read_lines_in_words(alloc: Global, page: &Page<'_, '_, '_>) -> Result<String,
     }
 }
 
-/// Returns the page: which share of the lines each pattern matches, the commonest values of each key,
-/// and the lines.
+/// Returns the page: which share of the lines or events each pattern matches, the commonest values of
+/// each key, and the lines or events.
 fn page_html(
     alloc: Global,
     options: &Options<'_>,
@@ -230,9 +223,13 @@ fn page_html(
     push_shares(alloc, &mut html, options, page)?;
     push_keys(alloc, &mut html, page)?;
     let words = format!(in alloc;
-        "A field shows its key and its definition when the pointer is over it. Of the lines that don't match, the first {EXPLAINED} say where the pattern stops."
+        "A field shows its key and its definition when the pointer is over it. Of the {} that don't match, the first {EXPLAINED} say where the pattern stops.",
+        page.content.unit.word(EXPLAINED)
     )?;
-    html.push_markup("<h2>Lines</h2>\n<p>")?;
+    html.push_markup(match page.content.unit {
+        Unit::Line => "<h2>Lines</h2>\n<p>",
+        Unit::Event => "<h2>Events</h2>\n<p>",
+    })?;
     html.push_text(words.as_str())?;
     html.push_markup("</p>\n<ol>\n")?;
     html.push_html(&page.items)?;

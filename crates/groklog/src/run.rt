@@ -15,7 +15,7 @@ use crate::located_fields::LocatedFields;
 use crate::log_lines::LogLines;
 use crate::notes::{notes_of_pattern, notes_of_words};
 use crate::options::{Options, repeated_key};
-use crate::page::Page;
+use crate::page::{Page, PageContent};
 use crate::page_html::{check_page, write_page};
 use crate::pattern_text::{PatternText, patterns_of, start_pattern};
 use crate::plans::{WrittenKey, plan_all, written_keys};
@@ -398,10 +398,11 @@ fn run_why<'a>(
     Ok(outcome)
 }
 
-/// Shows lines with their fields marked, and reports the counts of the lines if that is wanted.
+/// Shows lines or events with their fields marked, and reports their counts if that is wanted.
 fn run_show<'a>(
     rt: &HostRuntime,
     options: &Options<'a>,
+    start: Option<&Pattern>,
     located: LocatedFields<'a>,
 ) -> Result<Outcome, Fault> {
     let is_coloured = is_coloured(rt, options.colours)?;
@@ -409,9 +410,7 @@ fn run_show<'a>(
     if let Err(error) = show.write_legend() {
         return outcome_of(rt, &show.output, Err(Fault::from(error)));
     }
-    let mut formed = FormedAnswers::new(rt.alloc(), show, options.form);
-    let answered = answer_inputs(rt, options, &mut formed);
-    let show = &formed.answers;
+    let (show, answered) = answer_each(rt, options, start, show)?;
     let outcome = outcome_of(rt, &show.output, answered)?;
     if options.has_summary && show.output.failure.is_none() {
         show_summary(rt, options, &show.located.answers)?;
@@ -419,18 +418,18 @@ fn run_show<'a>(
     Ok(outcome)
 }
 
-/// Reads the first lines, and writes a page about them to the file `name`. Reports the counts of the
-/// lines if that is wanted.
+/// Reads the first lines or events, and writes a page about them to the file `name`. Reports their counts
+/// if that is wanted.
 fn run_page<'a>(
     rt: &HostRuntime,
     options: &Options<'a>,
+    start: Option<&Pattern>,
     page: Page<'a, '_, '_>,
     name: &str,
 ) -> Result<Outcome, Fault> {
-    let mut formed = FormedAnswers::new(rt.alloc(), page, options.form);
-    let outcome = answer_inputs(rt, options, &mut formed)?;
-    let page = &formed.answers;
-    write_page(rt, options, page, name)?;
+    let (page, outcome) = answer_each(rt, options, start, page)?;
+    let outcome = outcome?;
+    write_page(rt, options, &page, name)?;
     if options.has_summary {
         show_summary(rt, options, &page.located.answers)?;
     }
@@ -558,7 +557,7 @@ fn show_notes_of_patterns(
     Ok(())
 }
 
-/// Returns the page about the first lines, before any of them is read.
+/// Returns the page about the first lines or events, before any of them is read.
 fn page_of<'a, 'd>(
     alloc: Global,
     options: &Options<'_>,
@@ -576,8 +575,12 @@ fn page_of<'a, 'd>(
         with_alias_only,
     )?;
     let explainer = Explainer::new(alloc, library, texts, patterns, with_alias_only)?;
-    let size = (options.lines, options.page_lines());
-    Page::new(alloc, located, explainer, size, titles)
+    let content = PageContent {
+        unit: options.unit(),
+        lines: options.lines,
+        most: options.page_lines(),
+    };
+    Page::new(alloc, located, explainer, content, titles)
 }
 
 /// Answers the lines or events, counts values in them, or explains those that don't match, or shows the
@@ -602,12 +605,12 @@ fn answer_by_plans<'a>(
     let answers = LogAnswers::new(alloc, &named, layout)?;
     if options.is_shown {
         let located = LocatedFields::new(alloc, answers, &sources.patterns, fields.as_deref())?;
-        return run_show(rt, options, located);
+        return run_show(rt, options, sources.start.as_ref(), located);
     }
     if let Some(name) = options.page {
         let located = LocatedFields::new(alloc, answers, &sources.patterns, fields.as_deref())?;
         let page = page_of(alloc, options, library, sources, located)?;
-        return run_page(rt, options, page, name);
+        return run_page(rt, options, sources.start.as_ref(), page, name);
     }
     let Some(most) = options.why else {
         if options.are_records {

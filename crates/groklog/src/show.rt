@@ -3,7 +3,7 @@ ghost use Rattle.std.specs.Prelude.{[]};
 
 use crate::direct_output::DirectOutput;
 use crate::located_fields::LocatedFields;
-use grok_lines::LineAnswers;
+use grok_lines::{LineAnswers, SkipLines};
 use groklog_answers::Lines;
 use groklog_input::visible;
 use marked_lines::{Run, letter_of, push_coloured, push_letters, runs_of};
@@ -129,5 +129,11 @@ impl LineAnswers for Show<'_, '_> {
         self.located.note_broken(line)?;
         let line = String::from_utf8_lossy(self.alloc, line)?;
         self.write_unmatched(line.as_str())
+    }
+}
+
+impl SkipLines for Show<'_, '_> {
+    fn skip_lines(&mut self, count: u64) -> Result<(), AllocError> {
+        self.located.answers.skip_lines(count)
     }
 }

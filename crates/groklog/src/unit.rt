@@ -22,6 +22,15 @@ impl Unit {
         }
     }
 
+    /// Returns so many of them in words, such as `2 lines`.
+    ///
+    /// # Errors
+    ///
+    /// If an allocation fails.
+    pub fn counted(self, alloc: Global, count: u64) -> Result<String, AllocError> {
+        format!(in alloc; "{count} {}", self.word(count))
+    }
+
     /// Returns words for the one whose first line has this number.
     ///
     /// # Errors
