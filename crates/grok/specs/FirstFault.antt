@@ -14,7 +14,8 @@ pub data IsFaultAfter (alias_only : Bool) (before : List Event) : Event → Tree
       → IsFaultAfter alias_only before (Open label meaning)
       (Clash (key_after (capturing alias_only before) label))
 
--- none of these events is a fault after those before it
+-- None of these events is a fault. Whether an event is one depends on the events before it (`IsFaultAfter`), since it
+-- can get the key of an earlier placeholder.
 abbrev pub HasNoFault : Bool → List Event → Type 0
 HasNoFault alias_only events =
     (before : List Event) (event : Event) (after : List Event) (tree_fault : TreeFault)

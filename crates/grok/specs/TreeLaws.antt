@@ -53,8 +53,8 @@ StoredDefinitionHolds = (stored : Definitions) (text : List ℕ) (before after :
 abbrev pub IsUnused : List ℕ → List Event → Type 0
 IsUnused name tree = (reaches name (reached tree) ≡ false) × (first_structural tree ≡ Some (Missing name) → ⊥)
 
--- Libraries that differ only in definitions of unused names give the same first fault, so a fault in a
--- definition that is not reached is never reported. They also reach the same definitions.
+-- Libraries that differ only in definitions that a pattern doesn't use give it the same first structural fault. So a
+-- fault in a definition that isn't reached is never reported. The pattern also reaches the same definitions.
 abbrev pub UnusedDefinitionsDoNotMatter : Type 0
 UnusedDefinitionsDoNotMatter = (stored other : Definitions) (pattern : List ℕ)
     → ((name : List ℕ) → (stored name ≡ other name) ⊎ IsUnused name (tree stored pattern))

@@ -14,7 +14,7 @@ use crate::defs::Grok;
 use crate::defs::definition::Definition;
 use crate::defs::items::{Item, Label, Meaning};
 use crate::defs::placed_items::{PlacedItem, PlacedItems};
-use crate::errors::fault::{Fault, LEVELS};
+use crate::errors::fault::{Fault, MAX_NESTING};
 use crate::expand::events::Event;
 use crate::location::{Location, PathStep};
 use std::alloc::AllocError;
@@ -222,7 +222,7 @@ pub(crate) fn descend<'a, S: Search<'a>>(
     let mut inner = PlacedItems::of_text(grok, pattern);
     'items: loop {
         match inner.next()? {
-            Some(placed) => match step_at_item(search, placed.item, LEVELS - around.len())? {
+            Some(placed) => match step_at_item(search, placed.item, MAX_NESTING - around.len())? {
                 Step::Passed => {}
                 Step::Stopped => return Ok(Some(place_of(grok, &around, inner.text, placed)?)),
                 Step::Entered(name, meaning) => {

@@ -13,7 +13,7 @@ use crate::compile::expand_clean;
 use crate::defs::Grok;
 use crate::defs::items::Item;
 use crate::defs::placed_items::PlacedItems;
-use crate::errors::fault::{Fault, LEVELS};
+use crate::errors::fault::{Fault, MAX_NESTING};
 use crate::locate::locate_fault;
 use crate::locate_byte::{WrittenByte, locate_written};
 use crate::locate_clash::{Clash, locate_clash};
@@ -49,7 +49,7 @@ pub enum Diagnosis<'a> {
         /// The placeholder.
         location: Location<'a>,
     },
-    /// The placeholder here is nested more than 1,023 levels deep.
+    /// The placeholder here is nested more than [`MAX_NESTING`] levels deep.
     TooDeep(Location<'a>),
     /// Two placeholders would get the same key.
     Clash(Clash<'a>),
@@ -270,7 +270,7 @@ fn innermost<'a>(settings: Settings<'a>, refused: Refused<'a>) -> Result<Refused
 {
     let mut path = Vec::new(settings.grok.alloc());
     let mut inner = refused;
-    'levels: for _level in 0..LEVELS {
+    'levels: for _level in 0..MAX_NESTING {
         if !inner.reason.is_of_brackets() {
             break;
         }
@@ -294,8 +294,8 @@ impl Grok {
     /// its definitions the reason is. Returns `None` if the pattern compiles.
     ///
     /// Each definition is read as often as [`Grok::compile`] reads it. Then only the definitions that
-    /// lead to a location are read again, at most 1,023 for each location. If `regex` refuses the
-    /// pattern because brackets don't match, it is also asked for the definitions of the pattern, and
+    /// lead to a location are read again, at most [`MAX_NESTING`] for each location. If `regex` refuses
+    /// the pattern because brackets don't match, it is also asked for the definitions of the pattern, and
     /// for those of each definition that it refuses.
     ///
     /// # Errors

@@ -84,7 +84,7 @@ fn fault_of_item<'a>(item: Item<'a>) -> Fault<'a>
 /// [`Grok::measure`](crate::Grok::measure) reports. Returns `None` if there is none.
 ///
 /// Each definition that `measurer` doesn't remember is measured once. Then only the definitions on
-/// the path are read again, at most 1,023 of them.
+/// the path are read again, at most `MAX_NESTING` of them.
 ///
 /// # Errors
 ///

@@ -37,12 +37,13 @@ pub enum WrittenByte {
     OfGroup,
 }
 
-/// The piece that writes a byte of an expanded text. [`Grok::locate_byte`] returns it.
+/// Where a byte of an expanded text comes from: the piece that stands for it, and what part of the
+/// piece's text it is. [`Grok::locate_byte`] returns it.
 #[derive(Clone, PartialEq, Eq, Debug, Drop)]
 pub struct ByteLocation<'a> {
     /// Where the piece stands.
     pub location: Location<'a>,
-    /// What it writes at that byte.
+    /// Whether the byte was copied from the piece, or belongs to the group of a placeholder.
     pub part: WrittenByte,
 }
 
@@ -135,7 +136,7 @@ fn part_of_item(item: Item<'_>, offset: usize) -> WrittenByte
 /// Returns `None` if the text has no byte at this position.
 ///
 /// Each definition that `measurer` doesn't remember is measured once. Then only the definitions on
-/// the path are read again, at most 1,023 of them.
+/// the path are read again, at most `MAX_NESTING` of them.
 ///
 /// # Errors
 ///
@@ -170,7 +171,7 @@ impl Grok {
     /// pattern has a structural fault, or if its expanded text has no byte at this position.
     ///
     /// Each definition is measured once. Then only the definitions on the path are read again, at
-    /// most 1,023 of them.
+    /// most [`MAX_NESTING`](crate::MAX_NESTING) of them.
     ///
     /// # Errors
     ///

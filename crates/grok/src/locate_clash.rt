@@ -207,7 +207,7 @@ fn locate_both<'a>(
 /// is what measuring the pattern found.
 ///
 /// Each definition is read once. Then only the definitions on the two paths are read again, at most
-/// 1,023 on each.
+/// `MAX_NESTING` on each.
 ///
 /// # Errors
 ///

@@ -63,8 +63,8 @@ impl Hints {
         }
     }
 
-    /// Returns the hint at the end of a run, or `None` if there is none. `has_matched` says whether a
-    /// pattern matched a line.
+    /// Returns the hint to use `--crlf`, which comes at the end of a run if nothing matched and the first
+    /// line of an input ended in a carriage return. `has_matched` is whether any line or event matched.
     pub fn at_end(&self, has_matched: bool) -> Option<&'static str> {
         if !self.has_return || self.form.drops_return || has_matched {
             return None;

@@ -7,7 +7,7 @@ use grok::{Matcher, Pattern};
 use grok_lines::EventStarts;
 use std::alloc::AllocError;
 
-/// Decides that each line is a start, that is, begins an event, in which a pattern is found.
+/// Finds the lines that begin an event, which are those in which a pattern is found.
 pub struct StartPattern<'p> {
     matcher: Matcher<'p>,
 }
@@ -20,7 +20,7 @@ impl Drop for StartPattern<'_> {
 }
 
 impl<'p> StartPattern<'p> {
-    /// Makes a `StartPattern` of this pattern.
+    /// Makes the starts of events: the lines in which this pattern is found.
     ///
     /// # Errors
     ///

@@ -2,11 +2,9 @@
 
 use crate::parser::GrokPatternError;
 
-/// How many placeholders may be nested in one another.
+/// How many placeholders may be nested in one another: the outermost one and 1,022 further levels. One
+/// more is [`Fault::TooDeep`].
 pub const MAX_NESTING: usize = 1023;
-
-/// The same, as the modules of the library know it.
-pub(crate) const LEVELS: usize = MAX_NESTING;
 
 /// A structural fault of a pattern. `Grok::measure` returns the first one in reading order.
 #[derive(Clone, Copy, PartialEq, Eq, Debug)]
@@ -15,6 +13,6 @@ pub enum Fault<'a> {
     Malformed(GrokPatternError),
     /// No definition has the name of a placeholder, which is given here.
     Missing(&'a str),
-    /// A placeholder is nested more than 1,023 levels deep.
+    /// A placeholder is nested more than [`MAX_NESTING`] levels deep.
     TooDeep,
 }

@@ -10,7 +10,7 @@ ghost use Rattle.grok.specs.steps.KnownParts.{own_keys, AddKeys, IsSoundItem, wi
 use crate::defs::Grok;
 use crate::defs::definition::Definition;
 use crate::defs::items::{Item, Items, Label, Meaning};
-use crate::errors::fault::LEVELS;
+use crate::errors::fault::MAX_NESTING;
 use crate::expand::numbered::base_key;
 use crate::expand::rows::Row;
 use crate::settings::Settings;
@@ -140,7 +140,7 @@ impl<'a> KnownParts<'a> {
                     Ok(true)
                 }
                 Meaning::Stored(_) => match self.of_name(label.name) {
-                    Some(part) if part.stop.is_none() && part.height < LEVELS => {
+                    Some(part) if part.stop.is_none() && part.height < MAX_NESTING => {
                         known.add_open(settings, label, part.height)?;
                         known.rows.push(Row::Part(part.index))?;
                         Ok(true)

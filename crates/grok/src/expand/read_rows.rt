@@ -13,7 +13,7 @@ ghost use Rattle.grok.specs.steps.RowReading.{StepsAtText, StepsAtItem};
 
 use crate::defs::deferred_items::DeferredItems;
 use crate::defs::items::{Item, Items, Label, Meaning};
-use crate::errors::fault::LEVELS;
+use crate::errors::fault::MAX_NESTING;
 use crate::expand::known_parts::{KnownPart, KnownParts, push_use};
 use crate::expand::rows::Row;
 use crate::settings::Settings;
@@ -126,7 +126,7 @@ pub(crate) fn read_rows<'a>(
     'items: loop {
         match items.next()? {
             Some(item) => {
-                match read_item(settings, parts, &mut rows, item, LEVELS - around.len())? {
+                match read_item(settings, parts, &mut rows, item, MAX_NESTING - around.len())? {
                     ReadStep::Skip => {}
                     ReadStep::Enter(inner) => around.push(mem::replace(&mut items, inner))?,
                     ReadStep::Stop => return Ok(rows),

@@ -2,7 +2,7 @@
 ghost use Rattle.std.specs.Prelude.{◌≡◌, IfOk};
 ghost use Rattle.grok.specs.steps.FullMeasures.{IsFullMeasure};
 
-use crate::errors::fault::LEVELS;
+use crate::errors::fault::MAX_NESTING;
 use crate::measure::cache::Progress;
 use crate::measure::measurer::Measurer;
 use crate::measure::partial_size::measure_of_result;
@@ -31,7 +31,7 @@ impl<'a> FullMeasure<'a> {
         ensures { IfOk result (IsFullMeasure settings.entry pattern.now) }
     {
         let mut measurer = Measurer::new(settings);
-        let answer = measurer.measure_within(pattern, LEVELS)?;
+        let answer = measurer.measure_within(pattern, MAX_NESTING)?;
         Ok(FullMeasure {
             measure: measure_of_result(answer),
             measurer,

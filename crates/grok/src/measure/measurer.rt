@@ -12,7 +12,7 @@ ghost use Rattle.grok.specs.Keys.{is_capturing};
 
 use crate::defs::definition::Definition;
 use crate::defs::items::{Item, Items, Label};
-use crate::errors::fault::{Fault, LEVELS};
+use crate::errors::fault::{Fault, MAX_NESTING};
 use crate::measure::cache::{MeasureCache, Progress, progress_of_failure};
 use crate::measure::partial_size::{
     Failure, PartialSize, add, bracketed, fault_after, fault_of, measure_of_result, size_of_text,
@@ -219,7 +219,7 @@ impl<'a> Measurer<'a> {
             HasCorrectCache self.new) }
         ensures settings { IfOk result (λ measure. self.new.settings ≡ self.old.settings) }
     {
-        let answer = self.measure_within(pattern, LEVELS)?;
+        let answer = self.measure_within(pattern, MAX_NESTING)?;
         Ok(measure_of_result(answer))
     }
 
