@@ -13,7 +13,6 @@ pub mod Tiles
 pub mod KeyRanges
 pub mod Spans
 pub mod Sources
-pub mod Endings
 pub mod Events
 pub mod KeyUses
 pub mod Writes

@@ -1,11 +1,12 @@
--- A numbered key is read back as its base key and its number.
-use Rattle.std.proofs.Common.{◌≡◌, ℕ, zero, suc, ◌<◌, false, List, [], ◌∷◌, ◌++◌, length, get_or, take, drop, Some, None, refl, sym, ◌∙◌, ap, subst, arith, append_assoc}
+-- A numbered key is read back as its base key and the digits of its number.
+use Rattle.std.proofs.Common.{◌≡◌, ℕ, suc, ◌<◌, false, List, [], ◌∷◌, ◌++◌, length, get_or, take, drop, Some, None, refl, sym, ◌∙◌, ap, subst, arith, append_assoc}
 use Rattle.std.specs.Str.Pattern.{RFindsChar}
 use Rattle.std.proofs.lemmas.Bool.{true≢false, ne_eqb}
 use Rattle.std.proofs.lemmas.List.{append_cancel_left, append_cancel_right, take-append-drop}
 use Rattle.std.proofs.lemmas.Str.Pattern.{NoCharPasses-char, drop_at_char}
-use Rattle.grok.specs.Keys.{numbered}
+use Rattle.grok.specs.Keys.{numbered, ends_in_number}
 use Rattle.grok.specs.Numeral.{numeral}
+use Rattle.grok.proofs.Keys.NumberedKeysEndInNumber.{not_numbered}
 use Rattle.grok.proofs.Keys.KeysAreDistinct.{opens_bracket, in_middle, last_bracket, numeral_plain}
 
 -- ---- the last bracket of a text
@@ -41,46 +42,29 @@ unfolding opens_bracket
 plain [] none = refl
 plain (x ∷ xs) none = rw (ne_eqb x 91 (none 0 (omega arith))) (plain xs (λ i low. none (suc i) (omega arith)))
 
-module _ (key base : List ℕ) (count : ℕ) (is : key ≡ numbered base (suc count)) where
-  -- it has its last bracket
-  pub is_closed : ((front : List ℕ) → key ≡ front ++ 93 ∷ [] → ⊥) → ⊥
-  is_closed unclosed = unclosed (base ++ 91 ∷ numeral (suc count)) (is ∙ closed base count)
+-- it has its last bracket
+pub not_closed : (key : List ℕ) → ((inside : List ℕ) → key ≡ inside ++ 93 ∷ [] → ⊥) → ends_in_number key ≡ false
+not_closed key unclosed = not_numbered key (λ base count is. unclosed (base ++ 91 ∷ numeral (suc count)) (is ∙ closed base count))
 
-  module _ (inside : List ℕ) (ends : key ≡ inside ++ 93 ∷ []) where
-    whole : inside ++ 93 ∷ [] ≡ base ++ 91 ∷ (numeral (suc count) ++ 93 ∷ [])
-    whole = sym ends ∙ is ∙ regroup base count
+module _ (key inside : List ℕ) (ends : key ≡ inside ++ 93 ∷ []) where
+  whole : (base : List ℕ) (count : ℕ) → key ≡ numbered base (suc count) → inside ++ 93 ∷ [] ≡ base ++ 91 ∷ (numeral (suc count) ++ 93 ∷ [])
+  whole base count is = sym ends ∙ is ∙ regroup base count
 
-    -- and its first one
-    pub is_opened : HasNoBracket inside → ⊥
-    is_opened none = true≢false (sym (in_middle base (numeral (suc count) ++ 93 ∷ [])) ∙ ap opens_bracket (sym whole) ∙ plain inside none)
+  -- and its first one
+  pub not_opened : HasNoBracket inside → ends_in_number key ≡ false
+  not_opened none = not_numbered key (λ base count is.
+      true≢false (sym (in_middle base (numeral (suc count) ++ 93 ∷ [])) ∙ ap opens_bracket (sym (whole base count is)) ∙ plain inside none))
 
-    -- and its number between them
-    pub has_number : (front digits : List ℕ) → IsSplit inside front digits → digits ≡ numeral (suc count)
-    has_number front digits split =
+  -- and its number between them
+  module _ (front digits : List ℕ) (split : IsSplit inside front digits) where
+    pub no_number : ((count : ℕ) → digits ≡ numeral (suc count) → ⊥) → ends_in_number key ≡ false
+    no_number none = not_numbered key (λ base count is.
         let both = last_bracket front base (digits ++ 93 ∷ []) (numeral (suc count) ++ 93 ∷ []) (plain digits split.last) (numeral_plain count)
-        (sym (append_assoc front (91 ∷ digits) (93 ∷ [])) ∙ ap (λ xs. xs ++ 93 ∷ []) (sym split.cut) ∙ whole) in
-        append_cancel_right digits (numeral (suc count)) (93 ∷ []) both.1
+        (sym (append_assoc front (91 ∷ digits) (93 ∷ [])) ∙ ap (λ xs. xs ++ 93 ∷ []) (sym split.cut) ∙ whole base count is) in
+        none count (append_cancel_right digits (numeral (suc count)) (93 ∷ []) both.1))
 
--- what it is read back as
-pub is_numbered : (key inside front digits : List ℕ) (number : ℕ) → key ≡ inside ++ 93 ∷ [] → inside ≡ front ++ 91 ∷ digits → digits ≡ numeral number → 0 < number → key ≡ numbered front number
-is_numbered key inside front digits zero ends cut is_numeral some = absurd (omega arith)
-is_numbered key inside front digits (suc count) ends cut is_numeral some = ends ∙ ap (λ xs. xs ++ 93 ∷ []) (cut ∙ ap (λ ds. front ++ 91 ∷ ds) is_numeral) ∙ sym (closed front count)
-
--- ---- its base key
-
-plain_all : (xs : List ℕ) → HasNoBracket xs → opens_bracket xs ≡ false
-unfolding opens_bracket
-plain_all [] none = refl
-plain_all (x ∷ xs) none = rw (ne_eqb x 91 (none 0 (omega arith))) (plain_all xs (λ i low. none (suc i) (omega arith)))
-
-module _ (key base : List ℕ) (count : ℕ) (is : key ≡ numbered base (suc count)) where
-  pub has_bracket : HasNoBracket key → ⊥
-  has_bracket none = true≢false (sym (in_middle base (numeral (suc count) ++ 93 ∷ [])) ∙ ap opens_bracket (sym (is ∙ regroup base count)) ∙ plain_all key none)
-
-  -- what comes before the last bracket
-  pub base_is : (front back : List ℕ) → IsSplit key front back → front ≡ base
-  base_is front back split =
-      (last_bracket front base back (numeral (suc count) ++ 93 ∷ []) (plain_all back split.last) (numeral_plain count) (sym split.cut ∙ is ∙ regroup base count)).0
+    pub is_numbered : (count : ℕ) → digits ≡ numeral (suc count) → key ≡ numbered front (suc count)
+    is_numbered count is = ends ∙ ap (λ xs. xs ++ 93 ∷ []) (split.cut ∙ ap (λ ds. front ++ 91 ∷ ds) is) ∙ sym (closed front count)
 
 -- ---- a base key and an ending
 

@@ -1,11 +1,13 @@
 -- A key ends in a number from 1 up in brackets exactly if it is a numbered key.
-use Rattle.std.proofs.Common.{◌≡◌, ℕ, suc, ◌+◌, ◌-◌, ◌*◌, ◌/◌, ◌%◌, ◌<◌, ◌≤◌, Bool, true, false, List, [], ◌∷◌, ◌++◌, map, get_or, refl, sym, ◌∙◌, ap, inl, inr, arith, append_assoc, append-nil, ap₂, cond, nat_le}
+use Rattle.std.proofs.Common.{length, ◌≡◌, ℕ, suc, ◌+◌, ◌-◌, ◌*◌, ◌/◌, ◌%◌, ◌<◌, ◌≤◌, Bool, true, false, List, [], ◌∷◌, ◌++◌, map, get_or, refl, sym, ◌∙◌, ap, inl, inr, arith, append_assoc, append-nil, ap₂, cond, nat_le}
 use Rattle.std.specs.Prelude.{◌==◌, not, ◌&&◌, ◌||◌}
+use Rattle.std.specs.Bool.{Decides}
 use Rattle.std.specs.Char.{is_ascii_digit}
-use Rattle.std.specs.List.{AllByRecursion}
+use Rattle.std.specs.List.{AllByRecursion, list_all}
 use Rattle.std.specs.Int.Digits.{digits_of, number_from_digits_after}
-use Rattle.std.proofs.lemmas.Bool.{ne_eqb, eqb-true, eqb-false, not-true, and_parts, or_cases, leb-true}
+use Rattle.std.proofs.lemmas.Bool.{true≢false, false_from_ne_true, ne_eqb, eqb-true, eqb-false, not-true, and_parts, or_cases, leb-true}
 use Rattle.std.proofs.lemmas.Bool.Decides.{nat_tests}
+use Rattle.std.proofs.lemmas.List.{append_cancel_right}
 use Rattle.std.proofs.lemmas.Int.Digits.{all_below_base_digits_of, first_digits_of, digits_of_step}
 use Rattle.grok.specs.Tree.{is_absent}
 use Rattle.grok.specs.Numeral.{numeral}
@@ -39,11 +41,11 @@ number_after_bracket (c ∷ front) rest h = rw (number_after_bracket front rest 
     or_true true = refl
     or_true false = refl
 
+numeral_end : (count : ℕ) → ends_number (numeral (suc count) ++ 93 ∷ []) ≡ true
+numeral_end count = number_end (digits_of 10 (suc count)) (all_below_base_digits_of 10 (suc count) (omega arith)) (first_digits_of 10 (suc count) (omega arith) (omega arith))
+
 pub numbered_ends : (key : List ℕ) (count : ℕ) → ends_in_number (numbered key (suc count)) ≡ true
-numbered_ends key count =
-    let ds = digits_of 10 (suc count) in
-    ap ends_in_number (regroup key count) ∙ number_after_bracket key (numeral (suc count) ++ 93 ∷ [])
-    (number_end ds (all_below_base_digits_of 10 (suc count) (omega arith)) (first_digits_of 10 (suc count) (omega arith) (omega arith)))
+numbered_ends key count = ap ends_in_number (regroup key count) ∙ number_after_bracket key (numeral (suc count) ++ 93 ∷ []) (numeral_end count)
 
 -- ---- and back
 of_digit : (c : ℕ) → is_ascii_digit c ≡ true → (d : ℕ) × (d < 10) × (c ≡ 48 + d)
@@ -120,3 +122,42 @@ of_ending (c ∷ cs) h = elim (or_cases (c == 91 && ends_number cs) (ends_in_num
 
 pub ends_in_number_where_numbered : EndsInNumberWhereNumbered
 ends_in_number_where_numbered key = (of_ending key, λ (front, count, is). ap ends_in_number is ∙ numbered_ends front count)
+
+pub not_numbered : (key : List ℕ) → ((front : List ℕ) (count : ℕ) → key ≡ numbered front (suc count) → ⊥) → ends_in_number key ≡ false
+not_numbered key none = false_from_ne_true (ends_in_number key) (λ ends. let (front, count, is) = of_ending key ends in none front count is)
+
+-- ---- a number from 1 up
+digits_alone : (cs : List ℕ) → ends_digits (cs ++ 93 ∷ []) ≡ list_all is_ascii_digit cs
+digits_alone [] = refl
+digits_alone (c ∷ cs) = go (c == 93) refl (digits_alone cs)
+  where
+    some : (xs : List ℕ) → is_absent (xs ++ 93 ∷ []) ≡ false
+    some [] = refl
+    some (x ∷ xs) = refl
+
+    go : (b : Bool) → (c == 93) ≡ b → ends_digits (cs ++ 93 ∷ []) ≡ list_all is_ascii_digit cs → ends_digits (c ∷ (cs ++ 93 ∷ [])) ≡ is_ascii_digit c && list_all is_ascii_digit cs
+    go true is rest = rw (eqb-true c 93 is) (some cs)
+    go false is rest = rw (is, rest) refl
+
+-- it begins with another digit than 0
+pub none_first : (text : List ℕ) → length text ≡ 0 → (count : ℕ) → text ≡ numeral (suc count) → ⊥
+none_first [] none count is = true≢false (sym (numeral_end count) ∙ ap (λ ds. ends_number (ds ++ 93 ∷ [])) (sym is))
+none_first (c ∷ cs) none count is = absurd (omega arith)
+
+pub zero_first : (text : List ℕ) → get_or text 0 0 ≡ 48 → (count : ℕ) → text ≡ numeral (suc count) → ⊥
+zero_first [] zero count is = absurd (omega arith)
+zero_first (c ∷ cs) zero count is =
+    let parts = and_parts (not (c == 48)) (is_ascii_digit c && ends_digits (cs ++ 93 ∷ [])) (ap (λ ds. ends_number (ds ++ 93 ∷ [])) is ∙ numeral_end count) in
+    eqb-false c 48 (not-true (c == 48) parts.0) zero
+
+pub other_first : (text : List ℕ) (r : Bool) → 0 < length text → (get_or text 0 0 ≡ 48 → ⊥) → r ≡ list_all is_ascii_digit text → Decides r ((count : ℕ) × (text ≡ numeral (suc count)))
+other_first [] r some other all = absurd (omega arith)
+other_first (c ∷ cs) r some other all = (of_text, λ (count, e). is ∙ ap (λ ds. ends_number (ds ++ 93 ∷ [])) e ∙ numeral_end count)
+  where
+    is : r ≡ ends_number (c ∷ (cs ++ 93 ∷ []))
+    is = all ∙ rw (ne_eqb c 48 other, digits_alone cs) refl
+
+    of_text : r ≡ true → (count : ℕ) × (c ∷ cs ≡ numeral (suc count))
+    of_text holds =
+        let (count, same) = of_number (c ∷ (cs ++ 93 ∷ [])) (sym is ∙ holds) in
+        (count, append_cancel_right (c ∷ cs) (numeral (suc count)) (93 ∷ []) same)

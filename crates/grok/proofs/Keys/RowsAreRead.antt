@@ -1,18 +1,17 @@
 -- Reading a pattern up to its first structural fault lists the base keys that are used before it, also where what is
 -- known of a definition is skipped.
-use Rattle.std.proofs.Common.{◌≡◌, ℕ, ◌+◌, ◌-◌, ◌<◌, ◌≤◌, List, [], ◌∷◌, ◌++◌, length, drop, Some, None, Result, Ok, Err, IfOk, refl, sym, ◌∙◌, ap, subst, arith, append_assoc, append-nil, length-append}
+use Rattle.std.proofs.Common.{◌≡◌, ℕ, ◌+◌, ◌-◌, ◌<◌, ◌≤◌, List, [], ◌∷◌, ◌++◌, length, drop, Some, None, refl, sym, ◌∙◌, ap, subst, arith, append_assoc, append-nil, length-append}
 use Rattle.std.specs.FinMap as finite
 use Rattle.grok.specs.Tree.{Fault, TooDeep, Label, Meaning, meaning_text, Item, FaultItem, PlaceholderItem, Event, Text, Open, Close, FaultEvent, events, deepest, tree, first_structural, reached}
 use Rattle.grok.specs.Items.{item_view}
 use Rattle.grok.specs.steps.Rows.{part_keys, flat, AreBelow}
-use Rattle.grok.specs.steps.KnownParts.{resolve, opened_events, used_keys, own_keys, AddKeys, HaveKeys, IsKnownText, IsSoundItem, IsCutAt, IsKnownPartOf, AreKnown}
+use Rattle.grok.specs.steps.KnownParts.{resolve, opened_events, used_keys, own_keys, AddKeys, HaveKeys, IsKnownText, IsSoundItem, IsCutAt, IsKnownPartOf}
 use Rattle.grok.specs.steps.RowReading.{ArePassed, HaveFault, events_inside, EntersText, StepsAtText, EntersPlaceholder, StepsAtItem}
 use Rattle.grok.specs.declared.defs.items.Item as code
 use Rattle.grok.specs.declared.expand.rows.Row.{Row}
 use Rattle.grok.specs.declared.expand.rows.Row.TheVariants.{Part}
 use Rattle.grok.specs.declared.settings.Settings.{Settings}
 use Rattle.grok.specs.declared.expand.known_parts.KnownPart.{KnownPart}
-use Rattle.grok.specs.declared.expand.known_parts.KnownParts.{KnownParts}
 use Rattle.grok.specs.declared.expand.read_rows.ReadStep.{ReadStep}
 use Rattle.grok.specs.declared.expand.read_rows.ReadStep.TheVariants.{Skip, Enter, Stop}
 use Rattle.grok.proofs.Trees.EventsOnStack.{events_left, left_item, left_items, some_event, left_enter, left_close}
@@ -133,15 +132,6 @@ module _ (settings : Settings) (done : List (List (List ℕ))) where
   pub fault_stops : (levels : ℕ) (item : Item) (fault : Fault) (rows : List Row) → item ≡ FaultItem fault → HaveFault settings done (events (opened_events settings levels) (item ∷ [])) rows rows
   fault_stops levels item fault rows is =
       subst (λ i. HaveFault settings done (events (opened_events settings levels) (i ∷ [])) rows rows) (sym is) (record { fault = fault; is = refl; adds = adds_none done rows })
-
--- the step at a placeholder, by what opening it returned
-pub steps_if_ok : {E : Type 0} (settings : Settings) (parts : KnownParts) (levels : ℕ) (item : Item) (label : Label) (meaning : Meaning) (old mid new : List Row) (r : Result ReadStep E) → item ≡ PlaceholderItem label meaning
-    → ((done : List (List (List ℕ))) → AddKeys done old mid (own_keys settings label))
-    → IfOk r (λ step. IsSoundItem settings (PlaceholderItem label meaning) → (known : AreKnown settings parts) → StepsAtText settings known.done levels (meaning_text meaning) mid new step)
-    → IfOk r (λ step. IsSoundItem settings item → (known : AreKnown settings parts) → StepsAtItem settings known.done levels item old new step)
-steps_if_ok settings parts levels item label meaning old mid new (Err e) is own h = tt
-steps_if_ok settings parts levels item label meaning old mid new (Ok step) is own h = λ sound known.
-    steps_at_placeholder settings known.done levels item label meaning old mid new step is (own known.done) (h (subst (IsSoundItem settings) is sound) known)
 
 -- ---- the whole pattern
 

@@ -1,12 +1,12 @@
 //! Base keys, and keys with a number such as `key[2]`: how they are written and read back.
-ghost use Rattle.std.specs.Prelude.{◌≡◌, ℕ, suc, ◌<◌, ◌^◌, false, List, ◌∷◌, IfOk, MatchOption};
+ghost use Rattle.std.specs.Prelude.{◌≡◌, ℕ, suc, false, IfOk, MatchOption};
 ghost use Rattle.std.specs.String.{string_bytes};
 ghost use Rattle.grok.specs.Keys.{numbered, ends_in_number, base_key as base_key_of};
 ghost use Rattle.grok.specs.Items.{label_view};
-ghost use Rattle.grok.specs.steps.Endings.{ends_after};
+ghost use Rattle.grok.specs.Numeral.{numeral};
 
 use crate::defs::items::Label;
-use crate::numeral::number_of_numeral;
+use crate::numeral::is_numeral_from_one;
 use std::alloc::{AllocError, Global};
 
 /// Returns the base key of a placeholder: its alias, or its name if it has no alias.
@@ -31,54 +31,29 @@ pub(crate) fn numbered_key(alloc: Global, base: &str, count: usize) -> Result<St
     }
 }
 
-/// How the bytes that were read so far end.
-#[derive(Clone, Copy)]
-enum Ending {
-    Other,
-    /// In `[`.
-    Bracket,
-    /// In `[` and a number from 1 up, as `x[12`.
-    Number,
-    /// In a number from 1 up in brackets, as `x[12]`.
-    Closed,
-}
-
-impl Ending {
-    /// Returns how the bytes end after one more byte.
-    fn then(self, byte: u8) -> Ending
-        ensures { (rest : List ℕ) → ends_after self (byte ∷ rest) ≡ ends_after result rest }
-    {
-        match (self, byte) {
-            (_, b'[') => Ending::Bracket,
-            (Ending::Bracket, b'1'..=b'9') | (Ending::Number, b'0'..=b'9') => Ending::Number,
-            (Ending::Number, b']') => Ending::Closed,
-            _ => Ending::Other,
-        }
-    }
-}
-
-/// Returns whether `alias` ends in a number from 1 up in brackets, such as `x[12]`. Reads all of
-/// its bytes.
-fn bytes_end_in_number(alias: &str) -> bool
-    ensures { result ≡ ends_in_number alias.now }
+/// Splits a key that ends in a number from 1 up in brackets, such as `x[12]`, into its base key and
+/// the digits of the number.
+pub(crate) fn split_numbered(key: &str) -> Option<(&str, &str)>
+    ensures { MatchOption result (ends_in_number key.now ≡ false)
+        (λ parts. (count : ℕ) × (parts.1.now ≡ numeral (suc count))
+        × (key.now ≡ numbered parts.0.now (suc count))) }
 {
-    let mut ending = Ending::Other;
-    for byte in alias.as_bytes() {
-        ending = ending.then(*byte);
+    let inside = key.strip_suffix(']')?;
+    let (base, digits) = inside.rsplit_once('[')?;
+    if is_numeral_from_one(digits) {
+        Some((base, digits))
+    } else {
+        None
     }
-    matches!(ending, Ending::Closed)
 }
 
 /// Returns whether the alias ends in a number from 1 up in brackets. Only such an alias can be equal
 /// to the numbered key of another alias.
+#[tactic(auto, using(crate::proofs::Keys::NumberedKeysEndInNumber::numbered_ends))]
 pub(crate) fn ends_in_number(alias: &str) -> bool
     ensures { result ≡ ends_in_number alias.now }
 {
-    // Few aliases end in a bracket, so most of them aren't read here.
-    match alias.strip_suffix(']') {
-        Some(_) => bytes_end_in_number(alias),
-        None => false,
-    }
+    split_numbered(alias).is_some()
 }
 
 /// Returns the base of an alias that ends in a number from 1 up in brackets: `x` for `x[1]`.
@@ -86,25 +61,6 @@ pub(crate) fn base_of_numbered(alias: &str) -> Option<&str>
     ensures { MatchOption result (ends_in_number alias.now ≡ false)
         (λ base. (count : ℕ) × (alias.now ≡ numbered base.now (suc count))) }
 {
-    if !ends_in_number(alias) {
-        return None;
-    }
-    let (base, _digits) = alias.rsplit_once('[')?;
+    let (base, _digits) = split_numbered(alias)?;
     Some(base)
-}
-
-/// Returns the base key and the number of a numbered key, if the number fits a `usize`.
-pub(crate) fn parts_of_numbered(key: &str) -> Option<(&str, usize)>
-    ensures { MatchOption result
-        ((base : List ℕ) (count : ℕ) → suc count < 2 ^ 64 → key.now ≡ numbered base (suc count) → ⊥)
-        (λ parts. (0 < parts.1) × (key.now ≡ numbered parts.0.now parts.1) × (parts.1 < 2 ^ 64)) }
-{
-    let inside = key.strip_suffix(']')?;
-    let (base, digits) = inside.rsplit_once('[')?;
-    let number = number_of_numeral(digits)?;
-    if number == 0 {
-        None
-    } else {
-        Some((base, number))
-    }
 }

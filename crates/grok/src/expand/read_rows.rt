@@ -3,16 +3,15 @@
 //! levels of a circle don't read its definitions again.
 ghost use Rattle.std.specs.Prelude.{◌≡◌, ◌<◌, ℕ, List, length, map, IfOk};
 ghost use Rattle.std.specs.FinMap as finite;
-ghost use Rattle.grok.specs.Tree as tree;
 ghost use Rattle.grok.specs.Tree.{tree as tree_of, reached};
 ghost use Rattle.grok.specs.Keys.{capturing, base_key as base_key_of};
-ghost use Rattle.grok.specs.Items.{label_view, meaning_view, item_view};
+ghost use Rattle.grok.specs.Items.{item_view};
 ghost use Rattle.grok.specs.steps.Rows.{flat, AreBelow};
 ghost use Rattle.grok.specs.steps.KnownParts.{resolve, IsSoundItem, IsKnownPartOf, AreKnown};
 ghost use Rattle.grok.specs.steps.RowReading.{StepsAtText, StepsAtItem};
 
 use crate::defs::deferred_items::DeferredItems;
-use crate::defs::items::{Item, Items, Label, Meaning};
+use crate::defs::items::{Item, Items, Meaning};
 use crate::errors::fault::MAX_NESTING;
 use crate::expand::known_parts::{KnownPart, KnownParts, push_use};
 use crate::expand::rows::Row;
@@ -52,37 +51,6 @@ fn open_after_known<'a>(
     }
 }
 
-/// Returns whether to skip the definition of a placeholder, to enter it, or to stop, since it is
-/// nested too deeply. The placeholder and what it uses may be nested up to `levels` levels deep.
-fn open_placeholder<'a>(
-    settings: Settings<'a>,
-    parts: &KnownParts<'a>,
-    rows: &mut Vec<Row<'a>>,
-    label: Label<'a>,
-    meaning: Meaning<'a>,
-    levels: usize,
-) -> Result<ReadStep<'a>, AllocError>
-    ensures { IfOk result (λ step. IsSoundItem settings.entry (tree.PlaceholderItem
-        (label_view label.entry) (meaning_view meaning.entry)) → (known : AreKnown settings.entry parts.now)
-        → StepsAtText settings.entry known.done levels (tree.meaning_text (meaning_view meaning.entry))
-        rows.old.items rows.new.items step) }
-{
-    if levels == 0 {
-        return Ok(ReadStep::Stop);
-    }
-    match meaning {
-        // It has no placeholder and no fault.
-        Meaning::Inline(_) => Ok(ReadStep::Skip),
-        Meaning::Stored(stored) => {
-            let items = Items::of_stored(settings.grok.alloc(), settings.grok, stored);
-            match parts.of_name(label.name) {
-                Some(part) if part.height < levels => open_after_known(rows, part, items),
-                _ => Ok(ReadStep::Enter(DeferredItems::of_items(items))),
-            }
-        }
-    }
-}
-
 /// Reads an item, whose placeholders may be nested up to `levels` levels deep. Returns whether to
 /// skip the item, to enter its definition, or to stop.
 fn read_item<'a>(
@@ -96,13 +64,23 @@ fn read_item<'a>(
         → (known : AreKnown settings.entry parts.now) → StepsAtItem settings.entry known.done levels
         (item_view item.entry) rows.old.items rows.new.items step) }
 {
-    match item {
-        Item::Text(_) => Ok(ReadStep::Skip),
-        Item::Fault(_) => Ok(ReadStep::Stop),
-        Item::Placeholder(label, meaning) => {
-            push_use(settings, rows, label)?;
-            open_placeholder(settings, parts, rows, label, meaning, levels)
-        }
+    let (label, meaning) = match item {
+        Item::Text(_) => return Ok(ReadStep::Skip),
+        Item::Fault(_) => return Ok(ReadStep::Stop),
+        Item::Placeholder(label, meaning) => (label, meaning),
+    };
+    push_use(settings, rows, label)?;
+    if levels == 0 {
+        return Ok(ReadStep::Stop);
+    }
+    let Meaning::Stored(stored) = meaning else {
+        // An inline definition has no placeholder and no fault.
+        return Ok(ReadStep::Skip);
+    };
+    let items = Items::of_stored(settings.grok.alloc(), settings.grok, stored);
+    match parts.of_name(label.name) {
+        Some(part) if part.height < levels => open_after_known(rows, part, items),
+        _ => Ok(ReadStep::Enter(DeferredItems::of_items(items))),
     }
 }
 

@@ -4,8 +4,9 @@ ghost use Rattle.grok.specs.Keys.{numbered};
 ghost use Rattle.grok.specs.steps.Rows.{flat, AreKeysOfParts};
 ghost use Rattle.grok.specs.steps.CountedUses.{no_uses, lesser, IsFreeAt, AreUsesOf, AreCountsOf};
 
-use crate::expand::numbered::{base_of_numbered, parts_of_numbered};
+use crate::expand::numbered::split_numbered;
 use crate::expand::rows::Row;
+use crate::numeral::number_of_numeral;
 use std::alloc::{AllocError, Global};
 
 /// How some base keys use the base key `x`.
@@ -24,14 +25,11 @@ fn number_of_base(base: &str, key: &str) -> Option<usize>
         (λ number. (count : ℕ) × (key.now ≡ numbered base.now (suc count)) × (number ≡ min (suc count) (2 ^ 64 - 1))) }
 {
     let ending = key.strip_prefix(base)?;
-    let inner_base = base_of_numbered(ending)?;
+    let (inner_base, digits) = split_numbered(ending)?;
     if !inner_base.is_empty() {
         return None;
     }
-    match parts_of_numbered(ending) {
-        Some((_, number)) => Some(number),
-        None => Some(usize::MAX),
-    }
+    Some(number_of_numeral(digits).unwrap_or(usize::MAX))
 }
 
 /// Returns the lesser one of two numbers, or the only one.

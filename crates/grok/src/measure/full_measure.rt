@@ -1,6 +1,7 @@
 //! All that measuring a pattern finds out, as compiling and diagnosing need it.
-ghost use Rattle.std.specs.Prelude.{◌≡◌, IfOk};
-ghost use Rattle.grok.specs.steps.FullMeasures.{IsFullMeasure};
+ghost use Rattle.std.specs.Prelude.{◌≡◌, IfOk, map};
+ghost use Rattle.std.specs.List.Sorted.{IsPermutation, IsNonDecreasingBy};
+ghost use Rattle.grok.specs.steps.FullMeasures.{IsFullMeasure, levels_of, levels_and_name};
 
 use crate::errors::fault::MAX_NESTING;
 use crate::measure::cache::Progress;
@@ -59,15 +60,27 @@ impl<'a> FullMeasure<'a> {
     /// # Errors
     ///
     /// If an allocation fails.
-    pub fn read_names(&self, alloc: Global) -> Result<Vec<(usize, &'a str)>, AllocError> {
+    pub fn read_names(&self, alloc: Global) -> Result<Vec<(usize, &'a str)>, AllocError>
+        ensures all { IfOk result (λ names. IsPermutation
+            (map levels_and_name self.now.measurer.cache.by_name.entries) names.items) }
+        ensures sorted { IfOk result (λ names. IsNonDecreasingBy (λ pair. pair.0) names.items) }
+    {
         let mut names = Vec::new(alloc);
-        for (name, progress) in &self.measurer.cache.by_name {
-            match progress {
-                Progress::HasSize(sum) => names.push((sum.height, *name))?,
-                _ => names.push((usize::MAX, *name))?,
-            }
+        'names: for (name, progress) in &self.measurer.cache.by_name {
+            names.push((levels_of(progress), *name))?;
         }
         names.sort()?;
         Ok(names)
+    }
+}
+
+/// Returns how many levels a definition needs, or `usize::MAX` if it has a fault or wasn't read to
+/// the end.
+fn levels_of(progress: &Progress<'_>) -> usize
+    ensures { result ≡ levels_of progress.now }
+{
+    match progress {
+        Progress::HasSize(sum) => sum.height,
+        Progress::InProgress | Progress::HasFault(_) | Progress::NeedsMoreThan(_) => usize::MAX,
     }
 }
