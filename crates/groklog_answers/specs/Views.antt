@@ -1,5 +1,5 @@
 -- What contracts see of patterns, of their matches, of a `LogAnswers`, and of a `StartPattern`.
-use Rattle.std.specs.Prelude.{ℕ, Bool, List, Option, option_map, map}
+use Rattle.std.specs.Prelude.{ℕ, Bool, List, Option, Some, None, option_map, map}
 use Rattle.grok.specs.Engines.{engine_regex}
 use Rattle.grok.specs.RegexFinds.{captures_by}
 use Rattle.grok.specs.Answers.{walk, value_of}
@@ -10,6 +10,7 @@ use Rattle.groklog_answers.specs.Layouts.{LayoutValue, layout_value}
 use Rattle.groklog_answers.specs.Plans.{FieldText}
 use Rattle.groklog_answers.specs.PlanViews.{plan_text}
 use Rattle.groklog_answers.specs.Patterns.{PatternText, MatchText, is_found}
+use Rattle.groklog_answers.specs.Records.{no_value}
 use Rattle.groklog_answers.specs.declared.found.Found.{Found}
 use Rattle.groklog_answers.specs.declared.log_answers.NamedPattern.{NamedPattern}
 use Rattle.groklog_answers.specs.declared.log_answers.Search.{Search}
@@ -34,6 +35,11 @@ pattern_text named = record {
   extracts = named.pattern.now.extracts;
   plan = named_plan named;
 }
+
+-- The value of each key in a match, if there is one.
+abbrev pub value_in : Option MatchesRef → List ℕ → Option (List ℕ)
+value_in None = no_value
+value_in (Some matches) = value_of (borrowed_keys matches) (borrowed_captures matches)
 
 -- What contracts see of a match of the pattern `named`.
 abbrev pub match_text_of : NamedPattern → MatchesRef → MatchText

@@ -83,6 +83,7 @@ impl Layout<'_> {
 
     /// Appends the answer to a line that has no fields, for the reason `why`. If only matched lines
     /// are answered, appends nothing.
+    #[inline(never)]
     fn append_unmatched(
         &self,
         alloc: Global,
@@ -195,26 +196,9 @@ impl<'p> AnswerWriter<'p> {
         if self.layout.answers_with_empty_objects() {
             return text.extend_from_slice(b"{}\n");
         }
-        self.append_buffered(text, why, line)
-    }
-
-    /// Does the same as `append_unmatched`, for any layout.
-    #[inline(never)]
-    fn append_buffered(
-        &mut self,
-        text: &mut Vec<u8>,
-        why: Failure,
-        line: NumberedLine<'_>,
-    ) -> Result<(), AllocError>
-        ensures ok { OnOk result (text.new.items ≡ text.old.items
-            ++ unmatched_answer self.old.layout.lines (layout_value self.old.layout)
-            line.entry.number why line.entry.text.now) }
-        ensures memory { OnErr result (text.new.items ≡ text.old.items) }
-        ensures layout { self.new.layout ≡ self.old.layout }
-    {
-        let answer = &mut self.buffer;
-        answer.clear();
-        self.layout.append_unmatched(self.alloc, answer, why, line)?;
+        self.buffer.clear();
+        self.layout
+            .append_unmatched(self.alloc, &mut self.buffer, why, line)?;
         text.extend_from_slice(&self.buffer)
     }
 }

@@ -2,12 +2,10 @@
 ghost use Rattle.std.specs.Prelude.{◌≡◌, ◌++◌, IfOk, OnOk, option_map, map};
 ghost use Rattle.std.specs.Option.{option_to_list};
 ghost use Rattle.csv.specs.Writing.{default_writer, row_text};
-ghost use Rattle.grok.specs.Answers.{value_of};
-ghost use Rattle.grok.specs.BorrowedMatches.{borrowed_keys, borrowed_captures};
 ghost use Rattle.grok.specs.Numeral.{numeral};
 ghost use Rattle.groklog_answers.specs.Layouts.{layout_value, failure_words};
-ghost use Rattle.groklog_answers.specs.Records.{optional_value, columns_of, value_or_empty, no_value, values_of, match_record, unmatched_record, header_record};
-ghost use Rattle.groklog_answers.specs.Views.{found_layout, found_text};
+ghost use Rattle.groklog_answers.specs.Records.{optional_value, columns_of, value_or_empty, match_record, unmatched_record, header_record};
+ghost use Rattle.groklog_answers.specs.Views.{found_layout, found_text, value_in};
 
 use crate::found::Found;
 use crate::layout::{Failure, Layout};
@@ -63,45 +61,27 @@ fn add_optional<'v>(
     Ok(())
 }
 
-/// Returns the value of a key in a match, which is empty if it has none.
-fn value_of<'m>(matches: MatchesRef<'m>, name: &str) -> &'m str
-    ensures { result.now ≡ value_or_empty
-        (value_of (borrowed_keys matches.entry) (borrowed_captures matches.entry)) name.now }
+/// Returns the value of a key in a match. It is empty if the key has none, or if there is no match.
+fn value_of<'m>(matches: Option<MatchesRef<'m>>, name: &str) -> &'m str
+    ensures { result.now ≡ value_or_empty (value_in matches.entry) name.now }
 {
-    matches.get(name).unwrap_or("")
+    match matches {
+        Some(matches) => matches.get(name).unwrap_or(""),
+        None => "",
+    }
 }
 
-/// Adds the values of the chosen keys in a match.
-fn add_found<'v>(
+/// Adds the values of the chosen keys in a match, or an empty value for each if there is no match.
+fn add_values<'v>(
     values: &mut Values<'v>,
     names: &[&str],
-    matches: MatchesRef<'v>,
+    matches: Option<MatchesRef<'v>>,
 ) -> Result<(), AllocError>
     ensures { OnOk result (map (λ value. value.now) values.new.items ≡ map (λ value. value.now) values.old.items
-        ++ map (value_or_empty (value_of (borrowed_keys matches.entry) (borrowed_captures matches.entry)))
-        (map (λ name. name.now) names.now)) }
+        ++ map (value_or_empty (value_in matches.entry)) (map (λ name. name.now) names.now)) }
 {
     'names: for name in names {
         values.push(value_of(matches, name).as_bytes())?;
-    }
-    Ok(())
-}
-
-/// Returns the value of a key in a line that doesn't match: the empty text.
-fn missing_value(name: &str) -> &'static str
-    ensures { result.now ≡ value_or_empty no_value name.now }
-{
-    let _ = name;
-    ""
-}
-
-/// Adds an empty value for each of the chosen keys.
-fn add_missing(values: &mut Values<'_>, names: &[&str]) -> Result<(), AllocError>
-    ensures { OnOk result (map (λ value. value.now) values.new.items ≡ map (λ value. value.now) values.old.items
-        ++ map (value_or_empty no_value) (map (λ name. name.now) names.now)) }
-{
-    'names: for name in names {
-        values.push(missing_value(name).as_bytes())?;
     }
     Ok(())
 }
@@ -148,7 +128,7 @@ pub fn append_match(
     add_optional(&mut values, layout.file, layout.file_name)?;
     add_optional(&mut values, layout.failed, "")?;
     add_optional(&mut values, layout.tag, found.named.tag)?;
-    add_found(&mut values, layout.columns(), found.matches)?;
+    add_values(&mut values, layout.columns(), Some(found.matches))?;
     add_optional(&mut values, layout.keep, line.text)?;
     append_record(alloc, text, &values)
 }
@@ -171,11 +151,12 @@ pub fn append_unmatched(
 {
     let mut number = Buffer::new();
     let mut values = Vec::new(alloc);
+    let no_match: Option<MatchesRef<'static>> = None;
     add_optional(&mut values, layout.number, number.format(line.number))?;
     add_optional(&mut values, layout.file, layout.file_name)?;
     add_optional(&mut values, layout.failed, why.words())?;
     add_optional(&mut values, layout.tag, "")?;
-    add_missing(&mut values, layout.columns())?;
+    add_values(&mut values, layout.columns(), no_match)?;
     add_optional(&mut values, layout.keep, line.text)?;
     append_record(alloc, text, &values)
 }

@@ -1,6 +1,6 @@
 //! What was changed in a text, so that lines may match in another way.
-ghost use Rattle.std.specs.Prelude.{◌≡◌, ◌≢◌, ◌++◌, ◌∷◌, [], Contains, IsTrue, ◌↔◌, IfOk, OnOk, string_bytes};
-ghost use Rattle.oniguruma_syntax.specs.declared.change.ChangeKind.TheVariants.{Lost};
+ghost use Rattle.std.specs.Prelude.{◌≡◌, [], IfOk, OnOk, string_bytes};
+ghost use Rattle.oniguruma_syntax.specs.Changes.{has_kind, with_change, HasCopies, NameKindsOnce};
 
 use std::alloc::{AllocError, Global};
 use std::fmt;
@@ -25,7 +25,7 @@ pub enum ChangeKind {
 }
 
 /// A change.
-#[derive(Debug, Drop)]
+#[derive(Clone, Debug, Drop)]
 pub struct Change {
     pub kind: ChangeKind,
     /// The text that was replaced or dropped.
@@ -47,19 +47,6 @@ impl Change {
             keys: String::new(alloc),
         })
     }
-
-    /// Returns a copy of the change.
-    fn clone_in(&self, alloc: Global) -> Result<Change, AllocError>
-        ensures kind { IfOk result (λ change. change.kind ≡ self.now.kind) }
-        ensures text { IfOk result (λ change. string_bytes change.text ≡ string_bytes self.now.text) }
-        ensures keys { IfOk result (λ change. string_bytes change.keys ≡ string_bytes self.now.keys) }
-    {
-        Ok(Change {
-            kind: self.kind,
-            text: String::from_str(alloc, self.text.as_str())?,
-            keys: String::from_str(alloc, self.keys.as_str())?,
-        })
-    }
 }
 
 /// The changes of a text, in reading order. Each kind comes once, but that of keys which are lost comes
@@ -67,8 +54,7 @@ impl Change {
 #[derive(Drop)]
 pub(crate) struct Changes {
     recorded: Vec<Change>,
-    /// The kinds that aren't recorded again.
-    kinds: Vec<ChangeKind>,
+    ghost once: { NameKindsOnce recorded.items },
 }
 
 impl Changes {
@@ -77,47 +63,40 @@ impl Changes {
     {
         Changes {
             recorded: Vec::new(alloc),
-            kinds: Vec::new(alloc),
         }
     }
 
     /// Returns whether a further change of this kind isn't recorded.
     pub fn has(&self, kind: ChangeKind) -> bool
-        ensures { IsTrue result ↔ Contains self.now.kinds.items kind }
+        ensures { result ≡ has_kind self.now.recorded.items kind }
     {
-        self.kinds.contains(&kind)
+        kind != ChangeKind::Lost && self.recorded.iter().any(|change| change.kind == kind)
     }
 
     /// Records a change, unless there is one of its kind already.
     pub fn add(&mut self, change: Change) -> Result<(), AllocError>
-        ensures known { Contains self.old.kinds.items change.kind
-            → OnOk result (self.new.recorded ≡ self.old.recorded) }
-        ensures new { (Contains self.old.kinds.items change.kind → ⊥)
-            → OnOk result (self.new.recorded.items ≡ self.old.recorded.items ++ change ∷ []) }
-        ensures kinds { OnOk result (change.kind ≢ Lost → Contains self.new.kinds.items change.kind) }
+        ensures { OnOk result (self.new.recorded.items ≡ with_change self.old.recorded.items change) }
     {
-        let kind = change.kind;
-        if self.has(kind) {
-            return Ok(());
-        }
-        self.recorded.push(change)?;
-        if kind != ChangeKind::Lost {
-            self.kinds.push(kind)?;
+        if !self.has(change.kind) {
+            self.recorded.push(change)?;
         }
         Ok(())
     }
 
     /// Records the changes of an inline definition of the text.
-    pub fn add_all(&mut self, alloc: Global, changes: &[Change]) -> Result<(), AllocError> {
+    pub fn add_all(&mut self, changes: &[Change]) -> Result<(), AllocError>
+        ensures { OnOk result (HasCopies self.old.recorded.items changes.now self.new.recorded.items) }
+    {
         for change in changes {
-            self.add(change.clone_in(alloc)?)?;
+            self.add(change.clone()?)?;
         }
         Ok(())
     }
 
     /// Returns the changes.
     pub fn into_recorded(self) -> Vec<Change>
-        ensures { result ≡ self.recorded }
+        ensures recorded { result ≡ self.recorded }
+        ensures once { NameKindsOnce result.items }
     {
         self.recorded
     }

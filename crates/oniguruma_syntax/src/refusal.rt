@@ -121,7 +121,12 @@ pub(crate) enum Stop {
 
 impl Stop {
     /// The text is refused for a token.
-    pub fn at(reason: Reason, node: &Node<'_>) -> Stop {
+    pub fn at(reason: Reason, node: &Node<'_>) -> Stop
+        ensures { result ≡ Stop.Refused (record {
+          reason = reason;
+          range = record { start = node.now.start; end = node.now.end };
+        }) }
+    {
         let range = node.range();
         Stop::Refused(Refused { reason, range })
     }

@@ -1,4 +1,5 @@
 //! Writes the tokens of a text for `regex`.
+ghost use Rattle.oniguruma_syntax.specs.Changes.{NameKindsOnce};
 
 use crate::change::{Change, ChangeKind, Changes};
 use crate::characters::{char_by_number, escaped_char, set_text};
@@ -28,6 +29,7 @@ pub struct Wish {
 pub struct Rewritten {
     pub text: String,
     pub changes: Vec<Change>,
+    ghost once: { NameKindsOnce changes.items },
 }
 
 /// A group that isn't closed yet, or the whole text.
@@ -383,7 +385,7 @@ impl<'a> Writer<'_, 'a> {
         if has_brace(inline.text.as_str()) {
             return Err(Stop::at(Reason::InlineDefinition, node));
         }
-        self.changes.add_all(self.alloc, &inline.changes)?;
+        self.changes.add_all(&inline.changes)?;
         self.write_parts(placeholder, inline.text.as_str())?;
         Ok(())
     }
