@@ -4,6 +4,7 @@ use crate::library::Library;
 use crate::options::Options;
 use crate::pattern_text::PatternText;
 use grok::{Pattern, PlaceholderKey};
+use groklog_answers::asks_for_numbers;
 use std::alloc::{AllocError, Global};
 use std::collections::BTreeMap;
 use std::fs;
@@ -72,7 +73,7 @@ impl<'p> Noted<'p> {
         let words = self.words;
         for PlaceholderKey { key, .. } in self.keys {
             let name = key.as_str();
-            if (name == "int" || name == "float") && self.pattern.get_extract(name).is_none() {
+            if asks_for_numbers(name) && self.pattern.get_extract(name).is_none() {
                 notes.push(format!(in alloc;
                     "in {words}, {name} is the key of a placeholder and not its extract; for the extract write %{{NAME:KEY:{name}}}"
                 )?)?;

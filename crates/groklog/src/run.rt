@@ -29,7 +29,8 @@ use crate::why::Why;
 use grok::Pattern;
 use grok_lines::{EventAnswers, LineHandler, SkipLines};
 use groklog_answers::{
-    Layout, Lines, LogAnswers, NamedPattern, OutputFormat, Plan, StartPattern, header_of,
+    Layout, Lines, LogAnswers, NamedPattern, OutputFormat, Plan, StartPattern, asks_for_numbers,
+    header_of,
 };
 use groklog_input::{
     Answered, Failure, Fault, FormedAnswers, Report, Watched, answer_input, file_fault, visible,
@@ -79,8 +80,7 @@ fn notes_of_extracts(alloc: Global, pattern: &Pattern) -> Result<Vec<String>, Al
     let mut notes = Vec::new(alloc);
     for key in pattern.capture_names() {
         if let Some(extract) = pattern.get_extract(key)
-            && extract != "int"
-            && extract != "float"
+            && !asks_for_numbers(extract)
         {
             notes.push(format!(in alloc;
                 "the value of {key} is written as a text: --typed knows the extracts int and float, and not {extract}"

@@ -87,6 +87,10 @@ number_form text =
 
 -- ---- values
 
+-- An extract asks for numbers if it is `int` or `float`.
+abbrev pub asks_for_numbers : List ℕ → Bool
+asks_for_numbers extract = bytes_eq extract (codes "int") || bytes_eq extract (codes "float")
+
 -- A text is written as a number if the extract of its key is `int` and it is an integer, or if that
 -- extract is `float` and it is any number. The text is in the form of JSON.
 abbrev pub is_written_as_number : Option (List ℕ) → List ℕ → Bool

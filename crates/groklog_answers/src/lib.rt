@@ -31,3 +31,4 @@ pub use plan::{Clash, Plan, PlanError, SharedKey};
 pub use record::header_of;
 pub use start_pattern::StartPattern;
 pub use value_counts::{Counted, ValueCounts};
+pub use values::asks_for_numbers;

@@ -3,7 +3,7 @@ ghost use Rattle.std.specs.Prelude.{◌≡◌, ◌++◌, OnOk, IfOk, option_map,
 ghost use Rattle.std.specs.List.{list_any};
 ghost use Rattle.json.specs.Json.{Json, number, string};
 ghost use Rattle.json.specs.Tree.{json_tokens};
-ghost use Rattle.groklog_answers.specs.Values.{is_json_number, is_json_integer, begins_fraction_or_exponent, begins_with_digit, begins_with_fraction, ends_with_point, json_sign, begins_with_number, without_plus, without_sign, without_zeros, zero_if, with_both_sides, number_form, is_written_as_number, json_value};
+ghost use Rattle.groklog_answers.specs.Values.{is_json_number, is_json_integer, begins_fraction_or_exponent, begins_with_digit, begins_with_fraction, ends_with_point, json_sign, begins_with_number, without_plus, without_sign, without_zeros, zero_if, with_both_sides, number_form, asks_for_numbers, is_written_as_number, json_value};
 
 use json::{Writer, is_number};
 use std::alloc::{AllocError, Global};
@@ -124,6 +124,14 @@ fn other_form(alloc: Global, text: &str) -> Result<String, AllocError>
     form.push_str(digits)?;
     form.push_str(zero_if(ends_with_point(digits)))?;
     Ok(form)
+}
+
+/// Returns whether an extract asks for values that are written as numbers where they are numbers: `int`
+/// and `float` do.
+pub fn asks_for_numbers(extract: &str) -> bool
+    ensures { result ≡ asks_for_numbers extract.now }
+{
+    extract == "int" || extract == "float"
 }
 
 /// Returns whether a text in the form of JSON is written as a number if `extract` is the extract of
