@@ -5,13 +5,18 @@ use common_definitions::COMMON_DEFINITIONS;
 use groklog_input::read_definition;
 use std::alloc::{AllocError, Global};
 
+/// Returns the groups of the common definitions. Each is a text in the form of a file of definitions.
+fn groups() -> [&'static str; 10] {
+    COMMON_DEFINITIONS
+}
+
 /// Appends the common definitions to `found`.
 ///
 /// # Errors
 ///
 /// If an allocation fails.
 pub fn add_common_definitions(found: &mut Vec<Definition<'_>>) -> Result<(), AllocError> {
-    for group in &COMMON_DEFINITIONS {
+    for group in &groups() {
         for line in group.split('\n') {
             // Comments and empty lines are no definitions.
             if let Some((name, text)) = read_definition(line) {
@@ -25,7 +30,7 @@ pub fn add_common_definitions(found: &mut Vec<Definition<'_>>) -> Result<(), All
 
 /// Returns whether there is a common definition of this name.
 pub fn has_common_definition(name: &str) -> bool {
-    COMMON_DEFINITIONS
+    groups()
         .iter()
         .any(|group| group.split('\n').any(|line| names(line, name)))
 }

@@ -63,7 +63,7 @@ impl<'a> LogLines<'a> for Page<'a, '_, '_> {
     }
 
     fn has_enough(&self) -> bool {
-        self.is_full
+        self.content.is_full
     }
 }
 

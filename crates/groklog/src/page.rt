@@ -6,7 +6,7 @@ use crate::stop_report::Explainer;
 use crate::unit::Unit;
 use grok_lines::{LineAnswers, SkipLines};
 use groklog_answers::{Lines, ValueCounts};
-use marked_lines::{Html, runs_of};
+use marked_lines::{Field, Html, runs_of};
 use std::alloc::{AllocError, Global};
 
 /// For how many lines or events that don't match the page shows where the pattern stops.
@@ -14,7 +14,7 @@ pub const EXPLAINED: u64 = 20;
 
 /// What a page is about.
 #[derive(Clone, Copy)]
-pub struct PageContent {
+pub struct Scope {
     /// What its items are.
     pub unit: Unit,
     /// Which of them it lists. All of them count.
@@ -23,13 +23,11 @@ pub struct PageContent {
     pub most: usize,
 }
 
-/// What the page shows of the first lines, or of the first events. It has no answers.
+/// What a page shows of the lines or events so far.
 #[derive(Drop)]
-pub struct Page<'a, 'p, 'd> {
+pub struct PageContent {
     alloc: Global,
-    pub located: LocatedFields<'a>,
-    explainer: Explainer<'p, 'd>,
-    pub content: PageContent,
+    pub scope: Scope,
     /// For each key its title.
     titles: Vec<String>,
     /// For each key how often its values came.
@@ -40,41 +38,34 @@ pub struct Page<'a, 'p, 'd> {
     pub count: u64,
     /// The number of the line, or of the first line of the event, that was answered last.
     number: u64,
-    /// How many may still be explained.
-    explained_left: u64,
     /// Whether there are enough lines. Then an answer fails, so that no more are read.
     pub is_full: bool,
 }
 
-impl<'a, 'p, 'd> Page<'a, 'p, 'd> {
-    /// Makes a page that is about no lines yet. `titles` has the title of each key.
+impl PageContent {
+    /// Makes the content of a page about no lines. `titles` has the title of each key.
     ///
     /// # Errors
     ///
     /// If an allocation fails.
     pub fn new(
         alloc: Global,
-        located: LocatedFields<'a>,
-        explainer: Explainer<'p, 'd>,
-        content: PageContent,
+        scope: Scope,
         titles: Vec<String>,
-    ) -> Result<Page<'a, 'p, 'd>, AllocError> {
+    ) -> Result<PageContent, AllocError> {
         let mut values = Vec::new(alloc);
-        for _ in &located.keys {
-            values.push(ValueCounts::new(alloc, content.most))?;
+        for _ in &titles {
+            values.push(ValueCounts::new(alloc, scope.most))?;
         }
-        Ok(Page {
+        Ok(PageContent {
             alloc,
-            located,
-            explainer,
-            content,
+            scope,
             titles,
             values,
             items: Html::new(alloc),
             count: 0,
             number: 0,
-            explained_left: EXPLAINED,
-            is_full: content.most == 0,
+            is_full: scope.most == 0,
         })
     }
 
@@ -90,7 +81,7 @@ impl<'a, 'p, 'd> Page<'a, 'p, 'd> {
     ///
     /// If there are.
     fn end_if_full(&mut self) -> Result<(), AllocError> {
-        if self.count < self.content.most as u64 {
+        if self.count < self.scope.most as u64 {
             return Ok(());
         }
         self.is_full = true;
@@ -98,7 +89,7 @@ impl<'a, 'p, 'd> Page<'a, 'p, 'd> {
         Err(AllocError)
     }
 
-    /// Begins the item of the next line.
+    /// Begins the item of the line or event that was answered last.
     fn begin_item(&mut self) -> Result<(), AllocError> {
         let number = format!(in self.alloc; "{}", self.number)?;
         self.items.push_markup("<li value=\"")?;
@@ -106,18 +97,17 @@ impl<'a, 'p, 'd> Page<'a, 'p, 'd> {
         self.items.push_markup("\">")
     }
 
-    /// Adds a line that the pattern with this index matches.
-    fn add_matched(&mut self, pattern: usize, line: &str) -> Result<(), AllocError> {
-        let fields = self.located.fields(pattern, line)?;
-        for field in &fields {
+    /// Adds a line that a pattern matches, with the fields of the match.
+    fn add_matched(&mut self, line: &str, fields: &[Field]) -> Result<(), AllocError> {
+        for field in fields {
             if let Some(values) = self.values.get_mut(field.key) {
                 values.note(line.get(field.start..field.end).unwrap_or(""))?;
             }
         }
-        if matches!(self.content.lines, Lines::Unmatched) {
+        if matches!(self.scope.lines, Lines::Unmatched) {
             return Ok(());
         }
-        let runs = runs_of(self.alloc, line, &fields)?;
+        let runs = runs_of(self.alloc, line, fields)?;
         self.begin_item()?;
         self.items.push_markup("<code>")?;
         self.items.push_runs(&runs, &self.titles)?;
@@ -140,15 +130,42 @@ impl<'a, 'p, 'd> Page<'a, 'p, 'd> {
         }
         self.items.push_markup("</li>\n")
     }
+}
+
+/// Collects what a page shows of the first lines, or of the first events. It has no answers.
+#[derive(Drop)]
+pub struct Page<'a, 'p, 'd> {
+    pub located: LocatedFields<'a>,
+    explainer: Explainer<'p, 'd>,
+    /// How many lines or events may still be explained.
+    explained_left: u64,
+    pub content: PageContent,
+}
+
+impl<'a, 'p, 'd> Page<'a, 'p, 'd> {
+    /// Makes a page with this content.
+    pub fn new(
+        located: LocatedFields<'a>,
+        explainer: Explainer<'p, 'd>,
+        content: PageContent,
+    ) -> Page<'a, 'p, 'd> {
+        Page {
+            located,
+            explainer,
+            explained_left: EXPLAINED,
+            content,
+        }
+    }
 
     /// Returns where the pattern stops in a line that doesn't match. It is empty if enough lines were
     /// explained.
     fn explanation(&mut self, line: &str) -> Result<String, AllocError> {
+        let alloc = self.content.alloc;
         if self.explained_left == 0 {
-            return Ok(String::new(self.alloc));
+            return Ok(String::new(alloc));
         }
         self.explained_left = self.explained_left.saturating_sub(1);
-        let place = self.content.unit.at(self.alloc, self.number)?;
+        let place = self.content.scope.unit.at(alloc, self.content.number)?;
         self.explainer.report(place.as_str(), line)
     }
 }
@@ -159,35 +176,35 @@ impl LineAnswers for Page<'_, '_, '_> {
     fn answer_str(&mut self, text: &mut Vec<u8>, line: &str) -> Result<(), AllocError> {
         let _ = text;
         let pattern = self.located.pattern_of(line)?;
-        self.count();
-        match pattern {
-            Some(pattern) => self.add_matched(pattern, line)?,
-            None if matches!(self.content.lines, Lines::Matched) => {}
-            None => {
-                let report = self.explanation(line)?;
-                self.add_unmatched(line, report.as_str())?;
-            }
+        self.content.count();
+        if let Some(pattern) = pattern {
+            let fields = self.located.fields(pattern, line)?;
+            self.content.add_matched(line, &fields)?;
+        } else if !matches!(self.content.scope.lines, Lines::Matched) {
+            let report = self.explanation(line)?;
+            self.content.add_unmatched(line, report.as_str())?;
         }
-        self.end_if_full()
+        self.content.end_if_full()
     }
 
     fn answer_broken(&mut self, text: &mut Vec<u8>, line: &[u8]) -> Result<(), AllocError> {
         let _ = text;
         self.located.note_broken(line)?;
-        self.count();
-        if !matches!(self.content.lines, Lines::Matched) {
-            let line = String::from_utf8_lossy(self.alloc, line)?;
-            let report = format!(in self.alloc; "this {} isn't UTF-8", self.content.unit.word(1))?;
-            self.add_unmatched(line.as_str(), report.as_str())?;
+        self.content.count();
+        if !matches!(self.content.scope.lines, Lines::Matched) {
+            let alloc = self.content.alloc;
+            let line = String::from_utf8_lossy(alloc, line)?;
+            let report = format!(in alloc; "this {} isn't UTF-8", self.content.scope.unit.word(1))?;
+            self.content.add_unmatched(line.as_str(), report.as_str())?;
         }
-        self.end_if_full()
+        self.content.end_if_full()
     }
 }
 
 impl SkipLines for Page<'_, '_, '_> {
     fn skip_lines(&mut self, count: u64) -> Result<(), AllocError> {
         self.located.answers.skip_lines(count)?;
-        self.number = self.number.saturating_add(count);
+        self.content.number = self.content.number.saturating_add(count);
         Ok(())
     }
 }

@@ -1,9 +1,9 @@
 //! Writes the page of `--html`.
 
 use crate::options::Options;
-use crate::page::{EXPLAINED, Page};
+use crate::page::{EXPLAINED, Page, PageContent};
 use crate::unit::Unit;
-use groklog_answers::{Counted, ValueCounts};
+use groklog_answers::{Counted, LogAnswers, ValueCounts};
 use groklog_input::{Failure, Fault, Report};
 use marked_lines::Html;
 use std::alloc::{AllocError, Global};
@@ -42,7 +42,7 @@ const STYLE: &str = "<style>\n\
     </style>\n</head>\n<body>\n";
 
 /// Returns the share of `count` in `total` in tenths of a percent, rounded to the nearest.
-fn share(count: u64, total: u64) -> u64 {
+fn tenths_of(count: u64, total: u64) -> u64 {
     if total == 0 {
         return 0;
     }
@@ -50,63 +50,90 @@ fn share(count: u64, total: u64) -> u64 {
     (tenths / total).min(1000)
 }
 
-/// Appends the cell with a bar for a share, in tenths of a percent.
-fn push_bar(alloc: Global, html: &mut Html, share: u64) -> Result<(), AllocError> {
-    let width = format!(in alloc; "{}.{}", share / 10, share % 10)?;
+/// Appends the cell with a bar for a share in tenths of a percent.
+fn push_bar(alloc: Global, html: &mut Html, tenths: u64) -> Result<(), AllocError> {
+    let width = format!(in alloc; "{}.{}", tenths / 10, tenths % 10)?;
     html.push_markup("<td class=\"bar\"><div style=\"width:")?;
     html.push_text(width.as_str())?;
     html.push_markup("%\"></div></td>")
 }
 
-/// Appends the row with the share of the lines or events that `words` are about.
+/// How many of the lines or events of a page `words` are about: those that a pattern matches, or others.
+#[derive(Clone, Copy)]
+struct Share<'w> {
+    count: u64,
+    words: &'w str,
+    is_pattern: bool,
+}
+
+/// Returns how many lines or events each pattern matches, and how many none matches.
+fn shares_of<'o>(
+    alloc: Global,
+    options: &Options<'o>,
+    answers: &LogAnswers<'_>,
+) -> Result<Vec<Share<'o>>, AllocError> {
+    let mut shares = Vec::new(alloc);
+    let named = options.patterns.iter().zip(&options.names);
+    for ((text, name), count) in named.zip(&answers.matched()?) {
+        shares.push(Share {
+            count: *count,
+            words: name.unwrap_or(*text),
+            is_pattern: true,
+        })?;
+    }
+    let others = [
+        (answers.unmatched(), "no match"),
+        (answers.broken(), "not UTF-8"),
+    ];
+    for (number, (count, words)) in others.iter().enumerate() {
+        if number == 0 || *count > 0 {
+            let (count, words, is_pattern) = (*count, *words, false);
+            shares.push(Share {
+                count,
+                words,
+                is_pattern,
+            })?;
+        }
+    }
+    Ok(shares)
+}
+
+/// Appends the row of a share in the lines or events of a page.
 fn push_share(
     alloc: Global,
     html: &mut Html,
-    (count, page): (u64, &Page<'_, '_, '_>),
-    words: &str,
-    is_pattern: bool,
+    content: &PageContent,
+    share: Share<'_>,
 ) -> Result<(), AllocError> {
-    let share = share(count, page.count);
-    let percent = format!(in alloc; "{}.{}%", share / 10, share % 10)?;
-    let lines = page.content.unit.counted(alloc, count)?;
+    let tenths = tenths_of(share.count, content.count);
+    let percent = format!(in alloc; "{}.{}%", tenths / 10, tenths % 10)?;
+    let lines = content.scope.unit.counted(alloc, share.count)?;
+    let (before, after) = if share.is_pattern {
+        ("</td><td><code>", "</code></td></tr>\n")
+    } else {
+        ("</td><td>", "</td></tr>\n")
+    };
     html.push_markup("<tr><td class=\"number\">")?;
     html.push_text(percent.as_str())?;
     html.push_markup("</td>")?;
-    push_bar(alloc, html, share)?;
+    push_bar(alloc, html, tenths)?;
     html.push_markup("<td class=\"number\">")?;
     html.push_text(lines.as_str())?;
-    html.push_markup(if is_pattern {
-        "</td><td><code>"
-    } else {
-        "</td><td>"
-    })?;
-    html.push_text(words)?;
-    html.push_markup(if is_pattern {
-        "</code></td></tr>\n"
-    } else {
-        "</td></tr>\n"
-    })
+    html.push_markup(before)?;
+    html.push_text(share.words)?;
+    html.push_markup(after)
 }
 
-/// Appends the table with the share of the lines or events that each pattern matches, and of those that
-/// none matches.
+/// Appends the table of the shares.
 fn push_shares(
     alloc: Global,
     html: &mut Html,
-    options: &Options<'_>,
-    page: &Page<'_, '_, '_>,
+    content: &PageContent,
+    shares: &[Share<'_>],
 ) -> Result<(), AllocError> {
-    let answers = &page.located.answers;
-    let matched = answers.matched()?;
     html.push_markup("<h2>Patterns</h2>\n<table>\n")?;
-    let named = options.patterns.iter().zip(&options.names);
-    for ((text, name), count) in named.zip(&matched) {
-        let words = name.unwrap_or(*text);
-        push_share(alloc, html, (*count, page), words, true)?;
-    }
-    push_share(alloc, html, (answers.unmatched(), page), "no match", false)?;
-    if answers.broken() > 0 {
-        push_share(alloc, html, (answers.broken(), page), "not UTF-8", false)?;
+    for share in shares {
+        push_share(alloc, html, content, *share)?;
     }
     html.push_markup("</table>\n")
 }
@@ -120,7 +147,7 @@ fn push_value(
 ) -> Result<(), AllocError> {
     let count = format!(in alloc; "{}", counted.count)?;
     html.push_markup("<tr>")?;
-    push_bar(alloc, html, share(counted.count, greatest))?;
+    push_bar(alloc, html, tenths_of(counted.count, greatest))?;
     html.push_markup("<td class=\"number\">")?;
     html.push_text(count.as_str())?;
     html.push_markup("</td><td><code>")?;
@@ -166,12 +193,17 @@ fn push_key(
 }
 
 /// Appends each key with its commonest values.
-fn push_keys(alloc: Global, html: &mut Html, page: &Page<'_, '_, '_>) -> Result<(), AllocError> {
-    if page.located.keys.is_empty() {
+fn push_keys(
+    alloc: Global,
+    html: &mut Html,
+    keys: &[&str],
+    all_values: &[ValueCounts],
+) -> Result<(), AllocError> {
+    if keys.is_empty() {
         return Ok(());
     }
     html.push_markup("<h2>Keys</h2>\n<div class=\"keys\">\n")?;
-    for ((number, key), values) in page.located.keys.iter().enumerate().zip(&page.values) {
+    for ((number, key), values) in keys.iter().enumerate().zip(all_values) {
         push_key(alloc, html, (number, *key), values)?;
     }
     html.push_markup("</div>\n")
@@ -198,42 +230,50 @@ fn push_head(alloc: Global, html: &mut Html, files: &[&str]) -> Result<(), Alloc
 }
 
 /// Returns the sentence that says which lines or events the page has.
-fn read_lines_in_words(alloc: Global, page: &Page<'_, '_, '_>) -> Result<String, AllocError> {
-    let lines = page.content.unit.counted(alloc, page.count)?;
-    if page.is_full {
+fn read_lines_in_words(alloc: Global, content: &PageContent) -> Result<String, AllocError> {
+    let lines = content.scope.unit.counted(alloc, content.count)?;
+    if content.is_full {
         format!(in alloc; "The first {lines} were read: --max N reads more.")
     } else {
         format!(in alloc; "All {lines} were read.")
     }
 }
 
-/// Returns the page: which share of the lines or events each pattern matches, the commonest values of
-/// each key, and the lines or events.
-fn page_html(
-    alloc: Global,
-    options: &Options<'_>,
-    page: &Page<'_, '_, '_>,
-) -> Result<Html, AllocError> {
-    let mut html = Html::new(alloc);
-    push_head(alloc, &mut html, &options.files)?;
-    let words = read_lines_in_words(alloc, page)?;
-    html.push_markup("<p>")?;
-    html.push_text(words.as_str())?;
-    html.push_markup("</p>\n")?;
-    push_shares(alloc, &mut html, options, page)?;
-    push_keys(alloc, &mut html, page)?;
+/// Appends the lines or events.
+fn push_items(alloc: Global, html: &mut Html, content: &PageContent) -> Result<(), AllocError> {
+    let unit = content.scope.unit;
     let words = format!(in alloc;
         "A field shows its key and its definition when the pointer is over it. Of the {} that don't match, the first {EXPLAINED} say where the pattern stops.",
-        page.content.unit.word(EXPLAINED)
+        unit.word(EXPLAINED)
     )?;
-    html.push_markup(match page.content.unit {
+    html.push_markup(match unit {
         Unit::Line => "<h2>Lines</h2>\n<p>",
         Unit::Event => "<h2>Events</h2>\n<p>",
     })?;
     html.push_text(words.as_str())?;
     html.push_markup("</p>\n<ol>\n")?;
-    html.push_html(&page.items)?;
-    html.push_markup("</ol>\n</body>\n</html>\n")?;
+    html.push_html(&content.items)?;
+    html.push_markup("</ol>\n</body>\n</html>\n")
+}
+
+/// Returns the page about these files: which share of the lines or events each pattern matches, the
+/// commonest values of each key, and the lines or events.
+fn page_html(
+    alloc: Global,
+    files: &[&str],
+    keys: &[&str],
+    shares: &[Share<'_>],
+    content: &PageContent,
+) -> Result<Html, AllocError> {
+    let mut html = Html::new(alloc);
+    push_head(alloc, &mut html, files)?;
+    let words = read_lines_in_words(alloc, content)?;
+    html.push_markup("<p>")?;
+    html.push_text(words.as_str())?;
+    html.push_markup("</p>\n")?;
+    push_shares(alloc, &mut html, content, shares)?;
+    push_keys(alloc, &mut html, keys, &content.values)?;
+    push_items(alloc, &mut html, content)?;
     Ok(html)
 }
 
@@ -266,7 +306,9 @@ pub fn write_page(
     name: &str,
 ) -> Result<(), Fault> {
     let alloc = rt.alloc();
-    let html = page_html(alloc, options, page)?;
+    let shares = shares_of(alloc, options, &page.located.answers)?;
+    let keys = &page.located.keys;
+    let html = page_html(alloc, &options.files, keys, &shares, &page.content)?;
     let Err(error) = fs::write(rt, name, html.as_str()) else {
         return Ok(());
     };

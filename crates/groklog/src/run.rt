@@ -15,7 +15,7 @@ use crate::located_fields::LocatedFields;
 use crate::log_lines::LogLines;
 use crate::notes::{notes_of_pattern, notes_of_words};
 use crate::options::{Options, repeated_key};
-use crate::page::{Page, PageContent};
+use crate::page::{Page, PageContent, Scope};
 use crate::page_html::{check_page, write_page};
 use crate::pattern_text::{PatternText, patterns_of, start_pattern};
 use crate::plans::{WrittenKey, plan_all, written_keys};
@@ -575,12 +575,13 @@ fn page_of<'a, 'd>(
         with_alias_only,
     )?;
     let explainer = Explainer::new(alloc, library, texts, patterns, with_alias_only)?;
-    let content = PageContent {
+    let scope = Scope {
         unit: options.unit(),
         lines: options.lines,
         most: options.page_lines(),
     };
-    Page::new(alloc, located, explainer, content, titles)
+    let content = PageContent::new(alloc, scope, titles)?;
+    Ok(Page::new(located, explainer, content))
 }
 
 /// Answers the lines or events, counts values in them, or explains those that don't match, or shows the
