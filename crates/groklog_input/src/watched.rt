@@ -6,7 +6,6 @@ ghost use Rattle.std.specs.Io.KnownBytes.{ReadConsumes};
 ghost use Rattle.groklog_input.specs.Faults.{failure_of};
 
 use crate::failure::Failure;
-use memchr::memchr_iter;
 use std::io::{self, Read};
 use std::time::{Duration, Instant};
 
@@ -40,7 +39,7 @@ impl<'a> Progress<'a> {
     /// second.
     fn count(&mut self, block: &[u8]) {
         self.bytes = self.bytes.saturating_add(block.len() as u64);
-        let ended = memchr_iter(b'\n', block).count();
+        let ended = block.iter().filter(|byte| **byte == b'\n').count();
         self.lines = self.lines.saturating_add(ended as u64);
         let Ok(now) = Instant::now(self.rt) else {
             return;
