@@ -22,7 +22,7 @@ impl Unit {
         }
     }
 
-    /// Returns so many of them in words, such as `2 lines`.
+    /// Returns `count` of them in words, such as `2 lines`.
     ///
     /// # Errors
     ///
