@@ -1,7 +1,9 @@
-//! Reads the files and folders of definitions that are named after `-d`.
+//! Reads the files and folders of definitions that are named after `-d`, and writes the file of
+//! `--write-definitions`.
 
-use crate::library::DefinitionFile;
-use groklog_input::{Failure, Fault, Report, file_fault};
+use groklog_input::{Failure, Fault, Report, file_fault, write_fault};
+use groklog_patterns::{DefinitionFile, Library, definition_lines};
+use oniguruma_syntax::Wish;
 use std::alloc::{AllocError, Global};
 use std::{fs, io};
 
@@ -84,4 +86,26 @@ pub fn read_definition_files(
         }
     }
     Ok(files)
+}
+
+/// Writes the user's definitions to the file `name`. Those that no pattern uses are rewritten first if `wish` is
+/// given.
+///
+/// # Errors
+///
+/// Returns an error if the file can't be written, or if an allocation fails.
+pub fn write_definitions(
+    rt: &HostRuntime,
+    library: &Library<'_>,
+    name: &str,
+    wish: Option<Wish>,
+) -> Result<(), Fault> {
+    let alloc = rt.alloc();
+    let lines = definition_lines(alloc, library, wish)?;
+    if let Err(error) = fs::write(rt, name, lines.as_str())
+        && let Some(fault) = write_fault(alloc, &error)?
+    {
+        return Err(fault);
+    }
+    Ok(())
 }

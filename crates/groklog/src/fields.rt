@@ -1,43 +1,17 @@
 //! The keys of patterns that are written: those of `--fields`, or in records all of them.
 
-use crate::compiled::has_key;
+use crate::keys::check_known;
 use crate::options::Options;
 use grok::Pattern;
 use groklog_input::{Fault, Report};
 use std::alloc::{AllocError, Global};
 use std::collections::BTreeMap;
 
-/// Returns the fault that reports a key that no pattern has.
-fn unknown_key(alloc: Global, option: &str, key: &str) -> Result<Fault, AllocError> {
-    let what = format!(in alloc; "{option} has the key {key}, which no pattern has")?;
-    let advice = "write a key of a pattern; --explain shows them";
-    Ok(Fault::Usage(Report::new(alloc, what.as_str(), advice)?))
-}
-
-/// Returns a fault if no pattern has the key that an option names, and otherwise `None`.
-///
-/// # Errors
-///
-/// If an allocation fails.
-pub fn missing_key(
-    alloc: Global,
-    patterns: &[Pattern],
-    option: &str,
-    key: &str,
-) -> Result<Option<Fault>, AllocError> {
-    if patterns.iter().any(|pattern| has_key(pattern, key)) {
-        return Ok(None);
-    }
-    Ok(Some(unknown_key(alloc, option, key)?))
-}
-
 /// Checks that each of the keys that `--fields` names is a key of a pattern, and is named once.
 fn check_fields(alloc: Global, patterns: &[Pattern], fields: &[&str]) -> Result<(), Fault> {
     let mut named = BTreeMap::new(alloc);
     for field in fields {
-        if let Some(fault) = missing_key(alloc, patterns, "--fields", field)? {
-            return Err(fault);
-        }
+        check_known(alloc, patterns, "--fields", field)?;
         if named.insert(*field, true)?.is_some() {
             let what = format!(in alloc; "--fields has the key {field} twice")?;
             let advice = "name each key once";

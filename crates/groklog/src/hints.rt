@@ -1,8 +1,8 @@
 //! Hints at what an input is, for a user whose lines have no fields. They are shown after its lines
 //! were answered.
 
-use crate::unit::Unit;
 use groklog_input::{Encoding, LineForm, Signs};
+use groklog_views::Unit;
 use std::alloc::{AllocError, Global};
 
 /// Finds the hints of a run. Each hint comes once, but that at a compressed file or at UTF-16 comes

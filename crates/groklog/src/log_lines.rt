@@ -1,12 +1,12 @@
 //! What a run does with the lines or events of its files: it answers, explains or shows them, or counts
 //! values in them.
 
-use crate::count::KeyCounts;
 use crate::page::Page;
 use crate::show::Show;
 use crate::why::Why;
 use grok_lines::{EventAnswers, EventStarts, LineHandler, SkipLines};
 use groklog_answers::LogAnswers;
+use groklog_views::KeyCounts;
 
 /// Answers to the lines or events of several files.
 pub trait LogLines<'p>: LineHandler {

@@ -1,39 +1,26 @@
 //! Reads logs with grok patterns, and writes what they find.
 #![tactic(auto)]
 
-mod common;
-mod compiled;
-mod count;
 mod definition_files;
-mod definitions;
-mod diagnosis;
-mod direct_output;
-mod excerpt;
-mod explain;
 mod fields;
-mod from_logstash;
 mod hints;
-mod key_titles;
-mod library;
-mod located_fields;
+mod inputs;
+mod keys;
+mod layouts;
 mod log_lines;
 mod notes;
 mod options;
+mod output;
 mod page;
-mod page_html;
-mod pattern_text;
 mod plans;
 mod run;
 mod show;
-mod stop_report;
-mod stops;
 mod suggest;
 mod summary;
 mod terminal;
-mod unit;
 mod why;
 
-use crate::run::Outcome;
+use crate::inputs::Outcome;
 use groklog_input::{Fault, Report};
 use std::env;
 use std::io::ErrorKind;
@@ -63,7 +50,7 @@ fn work(rt: &HostRuntime) -> Result<Outcome, Fault> {
         Ok(options) => run::run(rt, &options),
         Err(error) if options::is_answer(&error) => {
             let text = error.to_string(rt.alloc())?;
-            run::write_output(rt, text.as_str())?;
+            output::write_output(rt, text.as_str())?;
             Ok(Outcome::AllRead)
         }
         Err(error) => Err(options::usage_fault(rt.alloc(), &error)?),

@@ -1,10 +1,9 @@
 //! Notes on what is allowed, but hardly what the user meant. They are shown before any line is read.
 
-use crate::library::Library;
 use crate::options::Options;
-use crate::pattern_text::PatternText;
 use grok::{Pattern, PlaceholderKey};
 use groklog_answers::asks_for_numbers;
+use groklog_patterns::{Library, PatternText};
 use std::alloc::{AllocError, Global};
 use std::collections::BTreeMap;
 use std::fs;
@@ -109,6 +108,25 @@ pub fn notes_of_pattern(
     noted.note_lost_keys(alloc, &mut notes)?;
     noted.note_shared_keys(alloc, &mut notes)?;
     noted.note_extracts_as_keys(alloc, &mut notes)?;
+    Ok(notes)
+}
+
+/// Returns a note for each key of a pattern that has an extract which `--typed` doesn't know.
+///
+/// # Errors
+///
+/// If an allocation fails.
+pub fn notes_of_extracts(alloc: Global, pattern: &Pattern) -> Result<Vec<String>, AllocError> {
+    let mut notes = Vec::new(alloc);
+    for key in pattern.capture_names() {
+        if let Some(extract) = pattern.get_extract(key)
+            && !asks_for_numbers(extract)
+        {
+            notes.push(format!(in alloc;
+                "the value of {key} is written as a text: --typed knows the extracts int and float, and not {extract}"
+            )?)?;
+        }
+    }
     Ok(notes)
 }
 

@@ -1,11 +1,11 @@
 //! Reads the options of the program.
 
 use crate::terminal::Colours;
-use crate::unit::Unit;
 use clap::error::ErrorKind;
 use clap::{Arg, ArgAction, ArgMatches, Command, Error, value_parser};
 use groklog_answers::Lines;
 use groklog_input::{Fault, LineForm, Report};
+use groklog_views::Unit;
 use oniguruma_syntax::Wish;
 use std::alloc::{AllocError, Global};
 use std::collections::BTreeMap;
@@ -158,6 +158,19 @@ impl<'a> Options<'a> {
     /// Returns how many lines a page is about at most.
     pub fn page_lines(&self) -> usize {
         self.most.unwrap_or(PAGE_LINES)
+    }
+
+    /// Returns for each pattern what answers and reports call it: its name, or else its text.
+    ///
+    /// # Errors
+    ///
+    /// If an allocation fails.
+    pub fn tags(&self, alloc: Global) -> Result<Vec<&'a str>, AllocError> {
+        let mut tags = Vec::new(alloc);
+        for (text, name) in self.patterns.iter().zip(&self.names) {
+            tags.push(name.unwrap_or(*text))?;
+        }
+        Ok(tags)
     }
 
     /// Returns what has one answer.
@@ -782,46 +795,6 @@ pub fn read_options<'a>(alloc: Global, words: &'a [String]) -> Result<Options<'a
         is_loose: is_set(&matches, "loose"),
         written_definitions: matches.get_str("write-definitions"),
     })
-}
-
-/// Returns the option among these that names `key`, or `None` if none of them does.
-fn option_of_key(options: &[KeyOption<'_>], key: &str) -> Option<&'static str> {
-    for named in options {
-        if let Some(other) = named.key
-            && other == key
-        {
-            return Some(named.option);
-        }
-    }
-    None
-}
-
-/// Returns a fault if two options name the same key, and otherwise `None`.
-///
-/// # Errors
-///
-/// If an allocation fails.
-pub fn repeated_key(alloc: Global, options: &Options<'_>) -> Result<Option<Fault>, AllocError> {
-    let all = options.key_options();
-    if options.tags_failures
-        && let Some(option) = option_of_key(&all, "tags")
-    {
-        let what = format!(in alloc; "--logstash and {option} have the same key tags")?;
-        let advice = format!(in alloc; "name another key after {option}")?;
-        let report = Report::new(alloc, what.as_str(), advice.as_str())?;
-        return Ok(Some(Fault::Usage(report)));
-    }
-    for (i, named) in all.iter().enumerate() {
-        let earlier = all.get(..i).unwrap_or(&[]);
-        if let Some(key) = named.key
-            && let Some(other) = option_of_key(earlier, key)
-        {
-            let what = format!(in alloc; "{other} and {} have the same key {key}", named.option)?;
-            let advice = "name another key after one of them";
-            return Ok(Some(Fault::Usage(Report::new(alloc, what.as_str(), advice)?)));
-        }
-    }
-    Ok(None)
 }
 
 /// Returns whether the error of clap is not a fault, but the help or the version that the words ask

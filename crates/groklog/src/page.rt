@@ -1,136 +1,14 @@
-//! Collects what the page of `--html` shows of the first lines or events.
+//! Collects a page about the first lines or events, for `--html`, and writes it.
 ghost use Rattle.std.specs.Prelude.{[]};
 
-use crate::located_fields::LocatedFields;
-use crate::stop_report::Explainer;
-use crate::unit::Unit;
+use crate::options::Options;
 use grok_lines::{LineAnswers, SkipLines};
-use groklog_answers::{Lines, ValueCounts};
-use marked_lines::{Field, Html, runs_of};
+use groklog_input::{Failure, Fault, Report};
+use groklog_patterns::Explainer;
+use groklog_views::{EXPLAINED, LocatedFields, PageContent, page_html};
 use std::alloc::{AllocError, Global};
-
-/// For how many lines or events that don't match the page shows where the pattern stops.
-pub const EXPLAINED: u64 = 20;
-
-/// What a page is about.
-#[derive(Clone, Copy)]
-pub struct Scope {
-    /// What its items are.
-    pub unit: Unit,
-    /// Which of them it lists. All of them count.
-    pub lines: Lines,
-    /// How many of them it is about at most.
-    pub most: usize,
-}
-
-/// What a page shows of the lines or events so far.
-#[derive(Drop)]
-pub struct PageContent {
-    alloc: Global,
-    pub scope: Scope,
-    /// For each key its title.
-    titles: Vec<String>,
-    /// For each key how often its values came.
-    pub values: Vec<ValueCounts>,
-    /// The lines or events, as the items of a list.
-    pub items: Html,
-    /// How many lines or events were answered.
-    pub count: u64,
-    /// The number of the line, or of the first line of the event, that was answered last.
-    number: u64,
-    /// Whether there are enough lines. Then an answer fails, so that no more are read.
-    pub is_full: bool,
-}
-
-impl PageContent {
-    /// Makes the content of a page about no lines. `titles` has the title of each key.
-    ///
-    /// # Errors
-    ///
-    /// If an allocation fails.
-    pub fn new(
-        alloc: Global,
-        scope: Scope,
-        titles: Vec<String>,
-    ) -> Result<PageContent, AllocError> {
-        let mut values = Vec::new(alloc);
-        for _ in &titles {
-            values.push(ValueCounts::new(alloc, scope.most))?;
-        }
-        Ok(PageContent {
-            alloc,
-            scope,
-            titles,
-            values,
-            items: Html::new(alloc),
-            count: 0,
-            number: 0,
-            is_full: scope.most == 0,
-        })
-    }
-
-    /// Counts a line or an event.
-    fn count(&mut self) {
-        self.count = self.count.saturating_add(1);
-        self.number = self.number.saturating_add(1);
-    }
-
-    /// Looks whether there are enough lines.
-    ///
-    /// # Errors
-    ///
-    /// If there are.
-    fn end_if_full(&mut self) -> Result<(), AllocError> {
-        if self.count < self.scope.most as u64 {
-            return Ok(());
-        }
-        self.is_full = true;
-        // own error: there are enough lines, as `is_full` says, and no more are read.
-        Err(AllocError)
-    }
-
-    /// Begins the item of the line or event that was answered last.
-    fn begin_item(&mut self) -> Result<(), AllocError> {
-        let number = format!(in self.alloc; "{}", self.number)?;
-        self.items.push_markup("<li value=\"")?;
-        self.items.push_text(number.as_str())?;
-        self.items.push_markup("\">")
-    }
-
-    /// Adds a line that a pattern matches, with the fields of the match.
-    fn add_matched(&mut self, line: &str, fields: &[Field]) -> Result<(), AllocError> {
-        for field in fields {
-            if let Some(values) = self.values.get_mut(field.key) {
-                values.note(line.get(field.start..field.end).unwrap_or(""))?;
-            }
-        }
-        if matches!(self.scope.lines, Lines::Unmatched) {
-            return Ok(());
-        }
-        let runs = runs_of(self.alloc, line, fields)?;
-        self.begin_item()?;
-        self.items.push_markup("<code>")?;
-        self.items.push_runs(&runs, &self.titles)?;
-        self.items.push_markup("</code></li>\n")
-    }
-
-    /// Adds a line that no pattern matches, with a report on it, which may be empty.
-    fn add_unmatched(&mut self, line: &str, report: &str) -> Result<(), AllocError> {
-        self.begin_item()?;
-        self.items.push_markup("<code class=\"unmatched\">")?;
-        self.items.push_text(line)?;
-        self.items.push_markup("</code>")?;
-        if !report.is_empty() {
-            self.items.push_markup("<pre>")?;
-            for (number, row) in report.trim_end().split('\n').enumerate() {
-                self.items.push_markup(if number > 0 { "\n" } else { "" })?;
-                self.items.push_text(row)?;
-            }
-            self.items.push_markup("</pre>")?;
-        }
-        self.items.push_markup("</li>\n")
-    }
-}
+use std::fs;
+use std::io::ErrorKind;
 
 /// Collects what a page shows of the first lines, or of the first events. It has no answers.
 #[derive(Drop)]
@@ -176,11 +54,11 @@ impl LineAnswers for Page<'_, '_, '_> {
     fn answer_str(&mut self, text: &mut Vec<u8>, line: &str) -> Result<(), AllocError> {
         let _ = text;
         let pattern = self.located.pattern_of(line)?;
-        self.content.count();
+        self.content.count_item();
         if let Some(pattern) = pattern {
             let fields = self.located.fields(pattern, line)?;
             self.content.add_matched(line, &fields)?;
-        } else if !matches!(self.content.scope.lines, Lines::Matched) {
+        } else if self.content.lists_unmatched() {
             let report = self.explanation(line)?;
             self.content.add_unmatched(line, report.as_str())?;
         }
@@ -190,8 +68,8 @@ impl LineAnswers for Page<'_, '_, '_> {
     fn answer_broken(&mut self, text: &mut Vec<u8>, line: &[u8]) -> Result<(), AllocError> {
         let _ = text;
         self.located.note_broken(line)?;
-        self.content.count();
-        if !matches!(self.content.scope.lines, Lines::Matched) {
+        self.content.count_item();
+        if self.content.lists_unmatched() {
             let alloc = self.content.alloc;
             let line = String::from_utf8_lossy(alloc, line)?;
             let report = format!(in alloc; "this {} isn't UTF-8", self.content.scope.unit.word(1))?;
@@ -204,7 +82,52 @@ impl LineAnswers for Page<'_, '_, '_> {
 impl SkipLines for Page<'_, '_, '_> {
     fn skip_lines(&mut self, count: u64) -> Result<(), AllocError> {
         self.located.answers.skip_lines(count)?;
-        self.content.number = self.content.number.saturating_add(count);
+        self.content.skip_lines(count);
         Ok(())
     }
+}
+
+/// Checks that the page isn't written over a file that is read.
+///
+/// # Errors
+///
+/// Returns an error if the page has the name of a file that is read, or if an allocation fails.
+pub fn check_page(alloc: Global, options: &Options<'_>) -> Result<(), Fault> {
+    let Some(name) = options.page else {
+        return Ok(());
+    };
+    if !options.files.iter().any(|file| *file == name) {
+        return Ok(());
+    }
+    let what = format!(in alloc; "--html would write over {name}, which is also read")?;
+    let advice = "name another file after --html";
+    Err(Fault::Usage(Report::new(alloc, what.as_str(), advice)?))
+}
+
+/// Writes the page to the file `name`.
+///
+/// # Errors
+///
+/// Returns an error if the file can't be written, or if an allocation fails.
+pub fn write_page(
+    rt: &HostRuntime,
+    options: &Options<'_>,
+    page: &Page<'_, '_, '_>,
+    name: &str,
+) -> Result<(), Fault> {
+    let alloc = rt.alloc();
+    let tags = options.tags(alloc)?;
+    let html = page_html(alloc, &options.files, &tags, &page.located, &page.content)?;
+    let Err(error) = fs::write(rt, name, html.as_str()) else {
+        return Ok(());
+    };
+    let failure = Failure::of(&error);
+    if failure.kind == ErrorKind::OutOfMemory {
+        // own error: the system reported that an allocation failed.
+        return Err(Fault::Memory);
+    }
+    let what = format!(in alloc; "can't write the page {name}: {failure}")?;
+    let advice = "check that its folder is there, and whether you may write there";
+    // own error: the system reported that the file can't be written.
+    Err(Fault::Write(Report::new(alloc, what.as_str(), advice)?))
 }

@@ -1,11 +1,10 @@
 //! Plans where the values of each pattern are written, for `--nested` and `--merge`.
 
-use crate::library::Library;
 use crate::options::Options;
-use crate::pattern_text::PatternText;
 use grok::Pattern;
 use groklog_answers::{Clash, Plan, PlanError, SharedKey};
 use groklog_input::{Fault, Report};
+use groklog_patterns::{Library, PatternText};
 use std::alloc::{AllocError, Global};
 use std::collections::BTreeMap;
 

@@ -1,274 +1,29 @@
 //! Runs the program over files, or over standard input.
 
-use crate::common::list_common_definitions;
-use crate::compiled::{compile, compile_all, taken_key};
-use crate::count::KeyCounts;
-use crate::definition_files::read_definition_files;
-use crate::direct_output::DirectOutput;
-use crate::explain::explain;
-use crate::fields::{chosen_fields, missing_key};
-use crate::from_logstash::{Adapted, adapt_all, write_definitions};
-use crate::hints::Hints;
-use crate::key_titles::titles_of;
-use crate::library::Library;
-use crate::located_fields::LocatedFields;
-use crate::log_lines::LogLines;
-use crate::notes::{notes_of_pattern, notes_of_words};
-use crate::options::{Options, repeated_key};
-use crate::page::{Page, PageContent, Scope};
-use crate::page_html::{check_page, write_page};
-use crate::pattern_text::{PatternText, patterns_of, start_pattern};
+use crate::definition_files::{read_definition_files, write_definitions};
+use crate::fields::chosen_fields;
+use crate::inputs::{Outcome, STANDARD_INPUT, answer_each, answer_file};
+use crate::keys::check_keys;
+use crate::layouts::{layout_of, layout_of_count, with_tags};
+use crate::notes::{notes_of_extracts, notes_of_pattern, notes_of_words};
+use crate::options::Options;
+use crate::output::{DirectOutput, show_note, show_notes, write_bytes, write_output};
+use crate::page::{Page, check_page, write_page};
 use crate::plans::{WrittenKey, plan_all, written_keys};
 use crate::show::Show;
-use crate::stop_report::Explainer;
 use crate::suggest::{Sample, report_of_sample};
 use crate::summary::summary_of;
-use crate::terminal::{is_coloured, shows_progress};
-use crate::unit::Unit;
+use crate::terminal::is_coloured;
 use crate::why::Why;
 use grok::Pattern;
-use grok_lines::{EventAnswers, LineHandler, SkipLines};
-use groklog_answers::{
-    Layout, Lines, LogAnswers, NamedPattern, OutputFormat, Plan, StartPattern, asks_for_numbers,
-    header_of,
+use groklog_answers::{LogAnswers, OutputFormat, Plan, header_of};
+use groklog_input::{Fault, FormedAnswers, write_fault};
+use groklog_patterns::{
+    Adapted, Explainer, Library, PatternText, adapt_all, compile, compile_all, explain,
+    list_common_definitions, patterns_of, start_pattern, titles_of,
 };
-use groklog_input::{
-    Answered, Failure, Fault, FormedAnswers, Report, Watched, answer_input, file_fault, visible,
-    write_fault,
-};
+use groklog_views::{KeyCounts, LocatedFields, PageContent, Scope};
 use std::alloc::{AllocError, Global};
-use std::fs::File;
-use std::io::{self, Write};
-
-/// How a run ended in which nothing failed but reading.
-#[derive(Clone, Copy, PartialEq, Eq)]
-pub enum Outcome {
-    /// All files were read, or as much of them as was wanted.
-    AllRead,
-    /// A file couldn't be read, which was reported. The other files were read.
-    SomeUnread,
-}
-
-/// The files that are read if none is named: standard input.
-const STANDARD_INPUT: &[&str] = &["-"];
-
-/// Writes a note to standard error. The run goes on if that fails.
-///
-/// # Errors
-///
-/// If an allocation fails.
-fn show_note(rt: &HostRuntime, note: &str) -> Result<(), AllocError> {
-    let note = visible(rt.alloc(), note)?;
-    let _ = eprintln!(rt; "groklog: {note}");
-    Ok(())
-}
-
-/// Writes these notes to standard error.
-///
-/// # Errors
-///
-/// If an allocation fails.
-fn show_notes(rt: &HostRuntime, notes: &[String]) -> Result<(), AllocError> {
-    for note in notes {
-        show_note(rt, note.as_str())?;
-    }
-    Ok(())
-}
-
-/// Returns a note for each key of a pattern that has an extract which `--typed` doesn't know.
-fn notes_of_extracts(alloc: Global, pattern: &Pattern) -> Result<Vec<String>, AllocError> {
-    let mut notes = Vec::new(alloc);
-    for key in pattern.capture_names() {
-        if let Some(extract) = pattern.get_extract(key)
-            && !asks_for_numbers(extract)
-        {
-            notes.push(format!(in alloc;
-                "the value of {key} is written as a text: --typed knows the extracts int and float, and not {extract}"
-            )?)?;
-        }
-    }
-    Ok(notes)
-}
-
-/// Pairs each pattern with its tag, which is its name or else its text, and with its plan if there are
-/// plans.
-fn with_tags<'p>(
-    alloc: Global,
-    options: &Options<'p>,
-    patterns: &'p [Pattern],
-    plans: &'p [Plan<'p>],
-) -> Result<Vec<NamedPattern<'p>>, AllocError> {
-    let mut tags = Vec::new(alloc);
-    for (text, name) in options.patterns.iter().zip(&options.names) {
-        tags.push(name.unwrap_or(*text))?;
-    }
-    let mut named = Vec::new(alloc);
-    for (i, (tag, pattern)) in tags.iter().zip(patterns).enumerate() {
-        let plan = plans.get(i);
-        named.push(NamedPattern {
-            tag: *tag,
-            pattern,
-            plan,
-        })?;
-    }
-    Ok(named)
-}
-
-/// Returns the layout that the options ask for, with these keys of patterns.
-fn layout_of<'a>(options: &Options<'a>, fields: Option<&'a [&'a str]>) -> Layout<'a> {
-    Layout {
-        lines: if options.has_answers() {
-            options.lines
-        } else {
-            // No answer is written, so the shortest one will do.
-            Lines::Unmatched
-        },
-        format: if options.are_pairs {
-            OutputFormat::Pairs
-        } else if options.are_records {
-            OutputFormat::Csv
-        } else {
-            OutputFormat::Json
-        },
-        keep: options.keep,
-        tag: options.tag,
-        number: options.number,
-        file: options.file,
-        file_name: "",
-        failed: options.failed,
-        typed: options.is_typed,
-        drops_empty: options.drops_empty,
-        fields,
-        tags_failures: options.tags_failures,
-    }
-}
-
-/// Returns the layout for counting the values of the one key in `fields`: its pair in each line that
-/// matches.
-fn layout_of_count<'a>(fields: &'a [&'a str]) -> Layout<'a> {
-    Layout {
-        lines: Lines::Matched,
-        format: OutputFormat::Pairs,
-        keep: None,
-        tag: None,
-        number: None,
-        file: None,
-        file_name: "",
-        failed: None,
-        typed: false,
-        drops_empty: false,
-        fields: Some(fields),
-        tags_failures: false,
-    }
-}
-
-/// Checks that the keys that options such as `--tag` name differ from each other and from the keys
-/// of the patterns.
-fn check_keys(
-    alloc: Global,
-    options: &Options<'_>,
-    patterns: &[Pattern],
-    plans: &[Plan<'_>],
-) -> Result<(), Fault> {
-    if let Some(fault) = repeated_key(alloc, options)? {
-        return Err(fault);
-    }
-    if let Some(key) = options.count
-        && let Some(fault) = missing_key(alloc, patterns, "--count", key)?
-    {
-        return Err(fault);
-    }
-    for named in &options.key_options() {
-        if let Some(fault) = taken_key(alloc, patterns, plans, named.option, named.key)? {
-            return Err(fault);
-        }
-    }
-    Ok(())
-}
-
-/// Returns the file as an input that is watched while it is read. It shows the progress if `shows`
-/// is set and the size of the file is known and isn't 0.
-fn watch<'a>(rt: &'a HostRuntime, file: File, name: &'a str, shows: bool) -> Watched<'a, File> {
-    let size = match file.metadata() {
-        Ok(metadata) => metadata.len(),
-        Err(_) => 0,
-    };
-    let watched = Watched::new(file);
-    if shows && size > 0 {
-        watched.with_progress(rt, name, size)
-    } else {
-        watched
-    }
-}
-
-/// Returns what messages call the file `name`.
-fn shown_name(name: &str) -> &str {
-    if name == "-" { "standard input" } else { name }
-}
-
-/// Answers each line or event of a file, and shows the progress if `shows` is set. The name `-` means
-/// standard input, which has no progress.
-fn answer_file<A: LineHandler>(
-    rt: &HostRuntime,
-    answers: &mut FormedAnswers<A>,
-    name: &str,
-    shows: bool,
-) -> Result<Answered, Fault> {
-    let alloc = rt.alloc();
-    let mut output = io::writer(rt);
-    answers.begin_input();
-    if name == "-" {
-        let mut input = Watched::new(rt.stdin());
-        return answer_input(alloc, answers, &mut input, &mut output, shown_name(name));
-    }
-    match File::open(rt, name) {
-        Ok(file) => {
-            let shown = visible(alloc, name)?;
-            let mut input = watch(rt, file, shown.as_str(), shows);
-            answer_input(alloc, answers, &mut input, &mut output, name)
-        }
-        Err(error) => Err(file_fault(alloc, name, Failure::of(&error))?),
-    }
-}
-
-/// Answers each line of each file, or each event as `unit` says, and shows the hints at its lines, and its
-/// progress if `shows` is set. Reports each file that can't be read, and goes on with the next one.
-fn answer_files<'p, A: LogLines<'p>>(
-    rt: &HostRuntime,
-    answers: &mut FormedAnswers<A>,
-    files: &[&'p str],
-    unit: Unit,
-    shows: bool,
-) -> Result<Outcome, Fault> {
-    let mut hints = Hints::new(answers.form, unit);
-    let mut outcome = Outcome::AllRead;
-    for file in files {
-        if answers.answers.has_enough() {
-            break;
-        }
-        answers.answers.log_answers().begin_file(file);
-        let answered = answer_file(rt, answers, file, shows);
-        if let Some(hint) = hints.of_input(rt.alloc(), shown_name(file), answers.signs)? {
-            show_note(rt, hint.as_str())?;
-        }
-        match answered {
-            Ok(Answered::All) => {}
-            Ok(Answered::Enough) => break,
-            Err(_) if answers.answers.has_enough() => break,
-            Err(Fault::Read(report)) => {
-                // The run goes on if the report can't be written.
-                let _ = eprint!(rt; "{report}");
-                outcome = Outcome::SomeUnread;
-            }
-            Err(fault) => return Err(fault),
-        }
-    }
-    let matched = answers.answers.log_answers().matched()?;
-    if let Some(hint) = hints.at_end(matched.iter().any(|count| *count > 0)) {
-        show_note(rt, hint)?;
-    }
-    Ok(outcome)
-}
 
 /// Reports the counts of the lines on standard error.
 fn show_summary(
@@ -280,45 +35,6 @@ fn show_summary(
     // The run goes on if the line can't be written.
     let _ = eprintln!(rt; "groklog: {line}");
     Ok(())
-}
-
-/// Answers each line or event of the files that the options name, or of standard input.
-fn answer_inputs<'p, A: LogLines<'p>>(
-    rt: &HostRuntime,
-    options: &Options<'p>,
-    answers: &mut FormedAnswers<A>,
-) -> Result<Outcome, Fault> {
-    if options.files.is_empty() {
-        return answer_files(rt, answers, STANDARD_INPUT, options.unit(), false);
-    }
-    answer_files(
-        rt,
-        answers,
-        &options.files,
-        options.unit(),
-        shows_progress(rt),
-    )
-}
-
-/// Answers each line of the inputs, or each event if `start` is the pattern of `--start`. Returns what
-/// answered them, and how that ended.
-fn answer_each<'p, A: LogLines<'p> + SkipLines + Drop>(
-    rt: &HostRuntime,
-    options: &Options<'p>,
-    start: Option<&Pattern>,
-    answers: A,
-) -> Result<(A, Result<Outcome, Fault>), AllocError> {
-    let alloc = rt.alloc();
-    let Some(start) = start else {
-        let mut lines = FormedAnswers::new(alloc, answers, options.form);
-        let outcome = answer_inputs(rt, options, &mut lines);
-        return Ok((lines.into_answers(), outcome));
-    };
-    let start = StartPattern::new(start)?;
-    let events = EventAnswers::new(alloc, answers, start, options.most_lines);
-    let mut lines = FormedAnswers::new(alloc, events, options.form);
-    let outcome = answer_inputs(rt, options, &mut lines);
-    Ok((lines.into_answers().into_answers(), outcome))
 }
 
 /// Answers the lines or events, and reports their counts if that is wanted.
@@ -465,22 +181,6 @@ fn run_suggest(
     let report = report_of_sample(rt.alloc(), options, library, &formed.answers)?;
     write_output(rt, report.as_str())?;
     Ok(Outcome::AllRead)
-}
-
-/// Writes a text to standard output.
-pub fn write_output(rt: &HostRuntime, text: &str) -> Result<(), Fault> {
-    write_bytes(rt, text.as_bytes())
-}
-
-/// Writes bytes to standard output.
-fn write_bytes(rt: &HostRuntime, bytes: &[u8]) -> Result<(), Fault> {
-    let mut output = io::writer(rt);
-    if let Err(error) = output.write_all(bytes)
-        && let Some(fault) = write_fault(rt.alloc(), &error)?
-    {
-        return Err(fault);
-    }
-    Ok(())
 }
 
 /// Writes the explanation of each pattern to standard output.

@@ -1,12 +1,10 @@
 //! Shows lines with their fields marked, for `--show`.
 ghost use Rattle.std.specs.Prelude.{[]};
 
-use crate::direct_output::DirectOutput;
-use crate::located_fields::LocatedFields;
+use crate::output::DirectOutput;
 use grok_lines::{LineAnswers, SkipLines};
 use groklog_answers::Lines;
-use groklog_input::visible;
-use marked_lines::{Run, letter_of, push_coloured, push_letters, runs_of};
+use groklog_views::{LocatedFields, legend_of, shown_line, shown_unmatched};
 use std::alloc::{AllocError, Global};
 
 /// Writes each line to standard output with its fields marked: in colours, or by letters under them. It
@@ -18,31 +16,6 @@ pub struct Show<'r, 'a> {
     pub located: LocatedFields<'a>,
     lines: Lines,
     is_coloured: bool,
-}
-
-/// Returns the line that shows which key has which colour, or which letter. It is empty if there are no
-/// keys.
-fn legend_of(alloc: Global, keys: &[&str], is_coloured: bool) -> Result<String, AllocError> {
-    let mut legend = String::new(alloc);
-    if keys.is_empty() {
-        return Ok(legend);
-    }
-    legend.push_str("keys:")?;
-    for (number, key) in keys.iter().enumerate() {
-        legend.push(' ')?;
-        if is_coloured {
-            let text = String::from_str(alloc, key)?;
-            let key = Some(number);
-            push_coloured(alloc, &mut legend, &[Run { key, text }])?;
-        } else {
-            let key = visible(alloc, key)?;
-            legend.push(letter_of(number))?;
-            legend.push('=')?;
-            legend.push_str(key.as_str())?;
-        }
-    }
-    legend.push('\n')?;
-    Ok(legend)
 }
 
 impl<'r, 'a> Show<'r, 'a> {
@@ -72,17 +45,12 @@ impl<'r, 'a> Show<'r, 'a> {
         self.output.write(legend.as_str())
     }
 
-    /// Writes a line that no pattern matches: dimmed if there are colours, and else as it is.
+    /// Writes a line that no pattern matches.
     fn write_unmatched(&mut self, line: &str) -> Result<(), AllocError> {
         if matches!(self.lines, Lines::Matched) {
             return Ok(());
         }
-        let line = visible(self.alloc, line)?;
-        let shown = if self.is_coloured {
-            format!(in self.alloc; "\u{1b}[2m{line}\u{1b}[0m\n")?
-        } else {
-            format!(in self.alloc; "{line}\n")?
-        };
+        let shown = shown_unmatched(self.alloc, line, self.is_coloured)?;
         self.output.write(shown.as_str())
     }
 
@@ -91,24 +59,8 @@ impl<'r, 'a> Show<'r, 'a> {
         if matches!(self.lines, Lines::Unmatched) {
             return Ok(());
         }
-        let alloc = self.alloc;
         let fields = self.located.fields(pattern, line)?;
-        let runs = runs_of(alloc, line, &fields)?;
-        let mut shown = String::new(alloc);
-        if self.is_coloured {
-            push_coloured(alloc, &mut shown, &runs)?;
-        } else {
-            let line = visible(alloc, line)?;
-            shown.push_str(line.as_str())?;
-            let mut row = String::new(alloc);
-            push_letters(alloc, &mut row, &runs)?;
-            let row = row.as_str().trim_end();
-            if !row.is_empty() {
-                shown.push('\n')?;
-                shown.push_str(row)?;
-            }
-        }
-        shown.push('\n')?;
+        let shown = shown_line(self.alloc, line, &fields, self.is_coloured)?;
         self.output.write(shown.as_str())
     }
 }

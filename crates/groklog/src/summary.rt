@@ -1,9 +1,9 @@
 //! Counts for `--summary`.
 
-use crate::pattern_text::ordinal;
-use crate::unit::Unit;
 use groklog_answers::LogAnswers;
 use groklog_input::visible;
+use groklog_patterns::ordinal;
+use groklog_views::Unit;
 use std::alloc::{AllocError, Global};
 
 /// Returns how many lines or events were read, how many each pattern was the first to match, how many

@@ -1,11 +1,11 @@
 //! Explains the lines that don't match, for `--why`.
 ghost use Rattle.std.specs.Prelude.{[]};
 
-use crate::direct_output::DirectOutput;
-use crate::stop_report::Explainer;
-use crate::unit::Unit;
+use crate::output::DirectOutput;
 use grok_lines::{LineAnswers, SkipLines};
 use groklog_answers::LogAnswers;
+use groklog_patterns::Explainer;
+use groklog_views::Unit;
 use std::alloc::{AllocError, Global};
 
 /// Counts the lines, and writes to standard output where the patterns stop in the first of them that

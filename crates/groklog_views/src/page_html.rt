@@ -1,14 +1,11 @@
-//! Writes the page of `--html`.
+//! The page of `--html` as a text.
 
-use crate::options::Options;
-use crate::page::{EXPLAINED, Page, PageContent};
+use crate::located_fields::LocatedFields;
+use crate::page_content::{EXPLAINED, PageContent};
 use crate::unit::Unit;
 use groklog_answers::{Counted, LogAnswers, ValueCounts};
-use groklog_input::{Failure, Fault, Report};
 use marked_lines::Html;
 use std::alloc::{AllocError, Global};
-use std::fs;
-use std::io::ErrorKind;
 
 /// How many values of a key are shown at most.
 const MOST_VALUES: usize = 10;
@@ -66,19 +63,20 @@ struct Share<'w> {
     is_pattern: bool,
 }
 
-/// Returns how many lines or events each pattern matches, and how many none matches.
+/// Returns how many lines or events each pattern matches, and how many none matches. `tags` has the tag of
+/// each pattern.
 fn shares_of<'o>(
     alloc: Global,
-    options: &Options<'o>,
+    tags: &[&'o str],
     answers: &LogAnswers<'_>,
 ) -> Result<Vec<Share<'o>>, AllocError> {
     let mut shares = Vec::new(alloc);
-    let named = options.patterns.iter().zip(&options.names);
-    for ((text, name), count) in named.zip(&answers.matched()?) {
+    for (tag, count) in tags.iter().zip(&answers.matched()?) {
+        let (count, words, is_pattern) = (*count, *tag, true);
         shares.push(Share {
-            count: *count,
-            words: name.unwrap_or(*text),
-            is_pattern: true,
+            count,
+            words,
+            is_pattern,
         })?;
     }
     let others = [
@@ -257,68 +255,28 @@ fn push_items(alloc: Global, html: &mut Html, content: &PageContent) -> Result<(
 }
 
 /// Returns the page about these files: which share of the lines or events each pattern matches, the
-/// commonest values of each key, and the lines or events.
-fn page_html(
+/// commonest values of each key, and the lines or events. `tags` has the tag of each pattern, by which the page
+/// calls it.
+///
+/// # Errors
+///
+/// If an allocation fails.
+pub fn page_html(
     alloc: Global,
     files: &[&str],
-    keys: &[&str],
-    shares: &[Share<'_>],
+    tags: &[&str],
+    located: &LocatedFields<'_>,
     content: &PageContent,
 ) -> Result<Html, AllocError> {
+    let shares = shares_of(alloc, tags, &located.answers)?;
     let mut html = Html::new(alloc);
     push_head(alloc, &mut html, files)?;
     let words = read_lines_in_words(alloc, content)?;
     html.push_markup("<p>")?;
     html.push_text(words.as_str())?;
     html.push_markup("</p>\n")?;
-    push_shares(alloc, &mut html, content, shares)?;
-    push_keys(alloc, &mut html, keys, &content.values)?;
+    push_shares(alloc, &mut html, content, &shares)?;
+    push_keys(alloc, &mut html, &located.keys, &content.values)?;
     push_items(alloc, &mut html, content)?;
     Ok(html)
-}
-
-/// Checks that the page isn't written over a file that is read.
-///
-/// # Errors
-///
-/// Returns an error if the page has the name of a file that is read, or if an allocation fails.
-pub fn check_page(alloc: Global, options: &Options<'_>) -> Result<(), Fault> {
-    let Some(name) = options.page else {
-        return Ok(());
-    };
-    if !options.files.iter().any(|file| *file == name) {
-        return Ok(());
-    }
-    let what = format!(in alloc; "--html would write over {name}, which is also read")?;
-    let advice = "name another file after --html";
-    Err(Fault::Usage(Report::new(alloc, what.as_str(), advice)?))
-}
-
-/// Writes the page to the file `name`.
-///
-/// # Errors
-///
-/// Returns an error if the file can't be written, or if an allocation fails.
-pub fn write_page(
-    rt: &HostRuntime,
-    options: &Options<'_>,
-    page: &Page<'_, '_, '_>,
-    name: &str,
-) -> Result<(), Fault> {
-    let alloc = rt.alloc();
-    let shares = shares_of(alloc, options, &page.located.answers)?;
-    let keys = &page.located.keys;
-    let html = page_html(alloc, &options.files, keys, &shares, &page.content)?;
-    let Err(error) = fs::write(rt, name, html.as_str()) else {
-        return Ok(());
-    };
-    let failure = Failure::of(&error);
-    if failure.kind == ErrorKind::OutOfMemory {
-        // own error: the system reported that an allocation failed.
-        return Err(Fault::Memory);
-    }
-    let what = format!(in alloc; "can't write the page {name}: {failure}")?;
-    let advice = "check that its folder is there, and whether you may write there";
-    // own error: the system reported that the file can't be written.
-    Err(Fault::Write(Report::new(alloc, what.as_str(), advice)?))
 }

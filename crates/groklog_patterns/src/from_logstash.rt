@@ -6,11 +6,10 @@ use crate::excerpt::add_excerpt;
 use crate::library::{Library, Source};
 use crate::pattern_text::PatternText;
 use grok::parser::{GrokComponent, grok_split};
-use groklog_input::{Fault, Report, write_fault};
+use groklog_input::{Fault, Report};
 use oniguruma_syntax::{Outcome, Reason, Refused, Rewritten, Wish, rewrite};
 use std::alloc::{AllocError, Global};
 use std::collections::BTreeMap;
-use std::fs;
 
 /// The patterns as they are compiled, and notes on what was changed in them and in the definitions
 /// that they use, ready to be shown.
@@ -210,19 +209,17 @@ fn rewritten_line(
     }
 }
 
-/// Writes the user's definitions to the file `name`, in the byte order of their names. Those that no
-/// pattern uses aren't rewritten yet: they are rewritten if `wish` is given.
+/// Returns the user's definitions as the lines of a file of definitions, in the byte order of their names.
+/// Those that no pattern uses aren't rewritten yet: they are rewritten if `wish` is given.
 ///
 /// # Errors
 ///
-/// Returns an error if the file can't be written, or if an allocation fails.
-pub fn write_definitions(
-    rt: &HostRuntime,
+/// If an allocation fails.
+pub fn definition_lines(
+    alloc: Global,
     library: &Library<'_>,
-    name: &str,
     wish: Option<Wish>,
-) -> Result<(), Fault> {
-    let alloc = rt.alloc();
+) -> Result<String, AllocError> {
     let mut lines = String::new(alloc);
     for source in library.sources() {
         if is_own(source.origin)
@@ -233,10 +230,5 @@ pub fn write_definitions(
             lines.push_str(line.as_str())?;
         }
     }
-    if let Err(error) = fs::write(rt, name, lines.as_str())
-        && let Some(fault) = write_fault(alloc, &error)?
-    {
-        return Err(fault);
-    }
-    Ok(())
+    Ok(lines)
 }

@@ -1,0 +1,78 @@
+//! How the answers of a run are written, by its options.
+
+use crate::options::Options;
+use grok::Pattern;
+use groklog_answers::{Layout, Lines, NamedPattern, OutputFormat, Plan};
+use std::alloc::{AllocError, Global};
+
+/// Pairs each pattern with its tag, which is its name or else its text, and with its plan if there are
+/// plans.
+///
+/// # Errors
+///
+/// If an allocation fails.
+pub fn with_tags<'p>(
+    alloc: Global,
+    options: &Options<'p>,
+    patterns: &'p [Pattern],
+    plans: &'p [Plan<'p>],
+) -> Result<Vec<NamedPattern<'p>>, AllocError> {
+    let mut named = Vec::new(alloc);
+    for (i, (tag, pattern)) in options.tags(alloc)?.iter().zip(patterns).enumerate() {
+        let plan = plans.get(i);
+        named.push(NamedPattern {
+            tag: *tag,
+            pattern,
+            plan,
+        })?;
+    }
+    Ok(named)
+}
+
+/// Returns the layout that the options ask for, with these keys of patterns.
+pub fn layout_of<'a>(options: &Options<'a>, fields: Option<&'a [&'a str]>) -> Layout<'a> {
+    Layout {
+        lines: if options.has_answers() {
+            options.lines
+        } else {
+            // No answer is written, so the shortest one will do.
+            Lines::Unmatched
+        },
+        format: if options.are_pairs {
+            OutputFormat::Pairs
+        } else if options.are_records {
+            OutputFormat::Csv
+        } else {
+            OutputFormat::Json
+        },
+        keep: options.keep,
+        tag: options.tag,
+        number: options.number,
+        file: options.file,
+        file_name: "",
+        failed: options.failed,
+        typed: options.is_typed,
+        drops_empty: options.drops_empty,
+        fields,
+        tags_failures: options.tags_failures,
+    }
+}
+
+/// Returns the layout for counting the values of the one key in `fields`: its pair in each line that
+/// matches.
+pub fn layout_of_count<'a>(fields: &'a [&'a str]) -> Layout<'a> {
+    Layout {
+        lines: Lines::Matched,
+        format: OutputFormat::Pairs,
+        keep: None,
+        tag: None,
+        number: None,
+        file: None,
+        file_name: "",
+        failed: None,
+        typed: false,
+        drops_empty: false,
+        fields: Some(fields),
+        tags_failures: false,
+    }
+}

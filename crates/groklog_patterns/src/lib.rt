@@ -1,0 +1,37 @@
+//! The definitions and the patterns of a run of `groklog`, and what is reported about them. It reads and
+//! writes no files.
+//!
+//! A [`Library`] has the definitions, and where each was given. [`compile_all`] compiles patterns with it, and
+//! returns a fault that says what is wrong with one, where, and what to do. An [`Explainer`] says where
+//! patterns stop in a line that doesn't match:
+//!
+//! ```text
+//! let library = Library::new(alloc, true, &files, &words)?;
+//! let texts = patterns_of(alloc, &["%{IP:client} %{WORD:verb}"])?;
+//! let patterns = compile_all(alloc, &library, &texts, true)?;
+//! let mut explainer = Explainer::new(alloc, &library, &texts, &patterns, true)?;
+//! let report = explainer.report("line 1", "10.0.0.7 -")?; // it stops at %{WORD:verb}
+//! ```
+#![tactic(auto)]
+
+mod common;
+mod compiled;
+mod definitions;
+mod diagnosis;
+mod excerpt;
+mod explain;
+mod from_logstash;
+mod key_titles;
+mod library;
+mod pattern_text;
+mod stop_report;
+mod stops;
+
+pub use common::list_common_definitions;
+pub use compiled::{compile, compile_all};
+pub use explain::explain;
+pub use from_logstash::{Adapted, adapt_all, definition_lines};
+pub use key_titles::titles_of;
+pub use library::{DefinitionFile, Library};
+pub use pattern_text::{PatternText, ordinal, patterns_of, start_pattern};
+pub use stop_report::Explainer;

@@ -1,0 +1,28 @@
+//! What `groklog` shows of the lines or events of a log in place of answers: how often the values of a key
+//! come, lines with their fields marked, and a page of HTML. It reads and writes no files.
+//!
+//! [`LocatedFields`] finds the pattern that matches a line, and where the values of its keys are. A line is then
+//! shown on a terminal, or added to the content of a page:
+//!
+//! ```text
+//! if let Some(pattern) = located.pattern_of(line)? {
+//!     let fields = located.fields(pattern, line)?;
+//!     let shown = shown_line(alloc, line, &fields, true)?; // in colours
+//!     content.add_matched(line, &fields)?;
+//! }
+//! ```
+#![tactic(auto)]
+
+mod key_counts;
+mod located_fields;
+mod page_content;
+mod page_html;
+mod shown_line;
+mod unit;
+
+pub use key_counts::KeyCounts;
+pub use located_fields::LocatedFields;
+pub use page_content::{EXPLAINED, PageContent, Scope};
+pub use page_html::page_html;
+pub use shown_line::{legend_of, shown_line, shown_unmatched};
+pub use unit::Unit;

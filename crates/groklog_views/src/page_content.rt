@@ -1,0 +1,147 @@
+//! What the page of `--html` shows of the first lines or events.
+
+use crate::unit::Unit;
+use groklog_answers::{Lines, ValueCounts};
+use marked_lines::{Field, Html, runs_of};
+use std::alloc::{AllocError, Global};
+
+/// For how many lines or events that don't match the page shows where the pattern stops.
+pub const EXPLAINED: u64 = 20;
+
+/// What a page is about.
+#[derive(Clone, Copy)]
+pub struct Scope {
+    /// What its items are.
+    pub unit: Unit,
+    /// Which of them it lists. All of them count.
+    pub lines: Lines,
+    /// How many of them it is about at most.
+    pub most: usize,
+}
+
+/// What a page shows of the lines or events so far.
+#[derive(Drop)]
+pub struct PageContent {
+    pub alloc: Global,
+    pub scope: Scope,
+    /// For each key its title.
+    titles: Vec<String>,
+    /// For each key how often its values came.
+    pub values: Vec<ValueCounts>,
+    /// The lines or events, as the items of a list.
+    pub items: Html,
+    /// How many lines or events were answered.
+    pub count: u64,
+    /// The number of the line, or of the first line of the event, that was answered last.
+    pub number: u64,
+    /// Whether there are enough lines. Then an answer fails, so that no more are read.
+    pub is_full: bool,
+}
+
+impl PageContent {
+    /// Makes the content of a page about no lines. `titles` has the title of each key.
+    ///
+    /// # Errors
+    ///
+    /// If an allocation fails.
+    pub fn new(
+        alloc: Global,
+        scope: Scope,
+        titles: Vec<String>,
+    ) -> Result<PageContent, AllocError> {
+        let mut values = Vec::new(alloc);
+        for _ in &titles {
+            values.push(ValueCounts::new(alloc, scope.most))?;
+        }
+        Ok(PageContent {
+            alloc,
+            scope,
+            titles,
+            values,
+            items: Html::new(alloc),
+            count: 0,
+            number: 0,
+            is_full: scope.most == 0,
+        })
+    }
+
+    /// Counts a line or an event.
+    pub fn count_item(&mut self) {
+        self.count = self.count.saturating_add(1);
+        self.number = self.number.saturating_add(1);
+    }
+
+    /// Counts lines that weren't answered.
+    pub fn skip_lines(&mut self, count: u64) {
+        self.number = self.number.saturating_add(count);
+    }
+
+    /// Looks whether there are enough lines or events, once the last one was added.
+    ///
+    /// # Errors
+    ///
+    /// If there are. Then `is_full` is set.
+    pub fn end_if_full(&mut self) -> Result<(), AllocError> {
+        if self.count < self.scope.most as u64 {
+            return Ok(());
+        }
+        self.is_full = true;
+        // own error: there are enough lines, as `is_full` says, and no more are read.
+        Err(AllocError)
+    }
+
+    /// Begins the item of the line or event that was answered last.
+    fn begin_item(&mut self) -> Result<(), AllocError> {
+        let number = format!(in self.alloc; "{}", self.number)?;
+        self.items.push_markup("<li value=\"")?;
+        self.items.push_text(number.as_str())?;
+        self.items.push_markup("\">")
+    }
+
+    /// Returns whether those that no pattern matches are listed.
+    pub fn lists_unmatched(&self) -> bool {
+        !matches!(self.scope.lines, Lines::Matched)
+    }
+
+    /// Adds a line or an event that a pattern matches, with the fields of the match.
+    ///
+    /// # Errors
+    ///
+    /// If an allocation fails.
+    pub fn add_matched(&mut self, line: &str, fields: &[Field]) -> Result<(), AllocError> {
+        for field in fields {
+            if let Some(values) = self.values.get_mut(field.key) {
+                values.note(line.get(field.start..field.end).unwrap_or(""))?;
+            }
+        }
+        if matches!(self.scope.lines, Lines::Unmatched) {
+            return Ok(());
+        }
+        let runs = runs_of(self.alloc, line, fields)?;
+        self.begin_item()?;
+        self.items.push_markup("<code>")?;
+        self.items.push_runs(&runs, &self.titles)?;
+        self.items.push_markup("</code></li>\n")
+    }
+
+    /// Adds a line or an event that no pattern matches, with a report on it, which may be empty.
+    ///
+    /// # Errors
+    ///
+    /// If an allocation fails.
+    pub fn add_unmatched(&mut self, line: &str, report: &str) -> Result<(), AllocError> {
+        self.begin_item()?;
+        self.items.push_markup("<code class=\"unmatched\">")?;
+        self.items.push_text(line)?;
+        self.items.push_markup("</code>")?;
+        if !report.is_empty() {
+            self.items.push_markup("<pre>")?;
+            for (number, row) in report.trim_end().split('\n').enumerate() {
+                self.items.push_markup(if number > 0 { "\n" } else { "" })?;
+                self.items.push_text(row)?;
+            }
+            self.items.push_markup("</pre>")?;
+        }
+        self.items.push_markup("</li>\n")
+    }
+}
