@@ -19,7 +19,7 @@ mod compiled;
 mod definitions;
 mod diagnosis;
 mod excerpt;
-mod explain;
+mod explanation;
 mod from_logstash;
 mod key_titles;
 mod library;
@@ -29,7 +29,7 @@ mod stops;
 
 pub use common::list_common_definitions;
 pub use compiled::{compile, compile_all};
-pub use explain::explain;
+pub use explanation::explain;
 pub use from_logstash::{Adapted, adapt_all, definition_lines};
 pub use key_titles::titles_of;
 pub use library::{DefinitionFile, Library};

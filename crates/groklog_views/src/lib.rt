@@ -15,14 +15,14 @@
 
 mod key_counts;
 mod located_fields;
+mod page;
 mod page_content;
-mod page_html;
-mod shown_line;
+mod shown_lines;
 mod unit;
 
 pub use key_counts::KeyCounts;
 pub use located_fields::LocatedFields;
+pub use page::page_html;
 pub use page_content::{EXPLAINED, PageContent, Scope};
-pub use page_html::page_html;
-pub use shown_line::{legend_of, shown_line, shown_unmatched};
+pub use shown_lines::{legend_of, shown_line, shown_unmatched};
 pub use unit::Unit;
