@@ -1,4 +1,7 @@
 //! Compiles the patterns of a run.
+ghost use Rattle.std.specs.Prelude.{IfOk, IfErr};
+ghost use Rattle.std.specs.List.{AllZip};
+ghost use Rattle.groklog_patterns.specs.Compiled.{IsCompiledFrom, IsCompileFault};
 
 use crate::diagnosis::report_of;
 use crate::library::Library;
@@ -17,7 +20,10 @@ pub fn compile(
     library: &Library<'_>,
     pattern: &PatternText,
     with_alias_only: bool,
-) -> Result<Pattern, Fault> {
+) -> Result<Pattern, Fault>
+    ensures pattern { IfOk result (IsCompiledFrom library.now.grok with_alias_only pattern.now) }
+    ensures fault { IfErr result IsCompileFault }
+{
     match library.grok.compile(pattern.text.as_str(), with_alias_only) {
         Ok(compiled) => Ok(compiled),
         // own error: the library reported that an allocation failed, or that the text of the pattern
@@ -36,14 +42,19 @@ pub fn compile(
 ///
 /// Returns the fault of the first pattern that can't be compiled, or an error if an allocation
 /// fails.
+#[tactic(auto, using(crate::proofs::PlaceByPlace::all_zip_more))]
 pub fn compile_all(
     alloc: Global,
     library: &Library<'_>,
     patterns: &[PatternText],
     with_alias_only: bool,
-) -> Result<Vec<Pattern>, Fault> {
+) -> Result<Vec<Pattern>, Fault>
+    ensures patterns { IfOk result (λ all. AllZip (IsCompiledFrom library.now.grok with_alias_only)
+        patterns.now all.items) }
+    ensures fault { IfErr result IsCompileFault }
+{
     let mut all = Vec::new(alloc);
-    for pattern in patterns {
+    'patterns: for pattern in patterns {
         all.push(compile(alloc, library, pattern, with_alias_only)?)?;
     }
     Ok(all)

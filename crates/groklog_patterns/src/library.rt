@@ -1,5 +1,7 @@
 //! Builds the library of definitions that patterns are compiled with: the default definitions, the
 //! common definitions, those from files, and those from the words after `-D`.
+ghost use Rattle.std.specs.Prelude.{◌≡◌, OnOk};
+ghost use Rattle.std.specs.FinMap as finite;
 
 use crate::common::add_common_definitions;
 use crate::definitions::{Definition, Origin, read_file, read_word};
@@ -148,7 +150,9 @@ impl<'a> Library<'a> {
     /// # Errors
     ///
     /// If an allocation fails.
-    pub fn store(&mut self, source: Source<'a>, text: &str) -> Result<(), AllocError> {
+    pub fn store(&mut self, source: Source<'a>, text: &str) -> Result<(), AllocError>
+        ensures { OnOk result (self.new.grok ≡ finite.insert self.old.grok source.entry.name.now text.now) }
+    {
         self.grok.add_pattern(source.name, text)?;
         self.sources.insert(source.name, source)?;
         Ok(())

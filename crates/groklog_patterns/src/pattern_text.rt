@@ -1,4 +1,6 @@
 //! The patterns of a run, as they are compiled, and the words by which reports refer to them.
+ghost use Rattle.std.specs.Prelude.{◌≡◌, IfOk, map, string_bytes};
+ghost use Rattle.groklog_patterns.specs.Texts.{ordinal_text, pattern_texts};
 
 use std::alloc::{AllocError, Global};
 
@@ -17,7 +19,9 @@ pub struct PatternText {
 /// # Errors
 ///
 /// If an allocation fails.
-pub fn ordinal(alloc: Global, number: usize) -> Result<String, AllocError> {
+pub fn ordinal(alloc: Global, number: usize) -> Result<String, AllocError>
+    ensures { IfOk result (λ text. string_bytes text ≡ ordinal_text number) }
+{
     let ending = match (number % 100, number % 10) {
         (11..=13, _) => "th",
         (_, 1) => "st",
@@ -50,7 +54,9 @@ const START_WORDS: &str = "the pattern of --start";
 /// # Errors
 ///
 /// If an allocation fails.
-pub fn start_pattern(alloc: Global, text: &str) -> Result<PatternText, AllocError> {
+pub fn start_pattern(alloc: Global, text: &str) -> Result<PatternText, AllocError>
+    ensures { IfOk result (λ pattern. string_bytes pattern.text ≡ text.now) }
+{
     Ok(PatternText {
         text: String::from_str(alloc, text)?,
         words: String::from_str(alloc, START_WORDS)?,
@@ -62,9 +68,11 @@ pub fn start_pattern(alloc: Global, text: &str) -> Result<PatternText, AllocErro
 /// # Errors
 ///
 /// If an allocation fails.
-pub fn patterns_of(alloc: Global, texts: &[&str]) -> Result<Vec<PatternText>, AllocError> {
+pub fn patterns_of(alloc: Global, texts: &[&str]) -> Result<Vec<PatternText>, AllocError>
+    ensures { IfOk result (λ patterns. pattern_texts patterns.items ≡ map (λ text. text.now) texts.now) }
+{
     let mut patterns = Vec::new(alloc);
-    for (index, text) in texts.iter().enumerate() {
+    'texts: for (index, text) in texts.iter().enumerate() {
         let words = words_for(alloc, index.saturating_add(1), texts.len())?;
         let text = String::from_str(alloc, text)?;
         patterns.push(PatternText { text, words })?;

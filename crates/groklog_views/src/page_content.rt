@@ -1,4 +1,6 @@
 //! What the page of `--html` shows of the first lines or events.
+ghost use Rattle.std.specs.Prelude.{◌≡◌, ◌<◌, ◌+◌, ◌^◌, OnOk, OnErr, true};
+ghost use Rattle.groklog_views.specs.Pages.{lists_unmatched};
 
 use crate::unit::Unit;
 use groklog_answers::{Lines, ValueCounts};
@@ -66,13 +68,19 @@ impl PageContent {
     }
 
     /// Counts a line or an event.
-    pub fn count_item(&mut self) {
+    pub fn count_item(&mut self)
+        ensures count { self.old.count + 1 < 2 ^ 64 → self.new.count ≡ self.old.count + 1 }
+        ensures number { self.old.number + 1 < 2 ^ 64 → self.new.number ≡ self.old.number + 1 }
+    {
         self.count = self.count.saturating_add(1);
         self.number = self.number.saturating_add(1);
     }
 
     /// Counts lines that weren't answered.
-    pub fn skip_lines(&mut self, count: u64) {
+    pub fn skip_lines(&mut self, count: u64)
+        ensures count { self.new.count ≡ self.old.count }
+        ensures number { self.old.number + count < 2 ^ 64 → self.new.number ≡ self.old.number + count }
+    {
         self.number = self.number.saturating_add(count);
     }
 
@@ -81,7 +89,10 @@ impl PageContent {
     /// # Errors
     ///
     /// If there are. Then `is_full` is set.
-    pub fn end_if_full(&mut self) -> Result<(), AllocError> {
+    pub fn end_if_full(&mut self) -> Result<(), AllocError>
+        ensures more { OnOk result (self.new.count < self.new.scope.most) }
+        ensures full { OnErr result (self.new.is_full ≡ true) }
+    {
         if self.count < self.scope.most as u64 {
             return Ok(());
         }
@@ -99,7 +110,9 @@ impl PageContent {
     }
 
     /// Returns whether those that no pattern matches are listed.
-    pub fn lists_unmatched(&self) -> bool {
+    pub fn lists_unmatched(&self) -> bool
+        ensures { result ≡ lists_unmatched self.now.scope.lines }
+    {
         !matches!(self.scope.lines, Lines::Matched)
     }
 

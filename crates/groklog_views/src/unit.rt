@@ -1,4 +1,6 @@
 //! What a run answers: lines, or events of several lines.
+ghost use Rattle.std.specs.Prelude.{◌≡◌, IfOk, string_bytes};
+ghost use Rattle.groklog_views.specs.Units.{unit_word, units_text, place_text};
 
 use std::alloc::{AllocError, Global};
 
@@ -13,7 +15,9 @@ pub enum Unit {
 
 impl Unit {
     /// Returns the word for `count` of them.
-    pub fn word(self, count: u64) -> &'static str {
+    pub fn word(self, count: u64) -> &'static str
+        ensures { result.now ≡ unit_word self count }
+    {
         match (self, count) {
             (Unit::Line, 1) => "line",
             (Unit::Line, _) => "lines",
@@ -27,7 +31,9 @@ impl Unit {
     /// # Errors
     ///
     /// If an allocation fails.
-    pub fn counted(self, alloc: Global, count: u64) -> Result<String, AllocError> {
+    pub fn counted(self, alloc: Global, count: u64) -> Result<String, AllocError>
+        ensures { IfOk result (λ text. string_bytes text ≡ units_text self count) }
+    {
         format!(in alloc; "{count} {}", self.word(count))
     }
 
@@ -36,7 +42,9 @@ impl Unit {
     /// # Errors
     ///
     /// If an allocation fails.
-    pub fn at(self, alloc: Global, number: u64) -> Result<String, AllocError> {
+    pub fn at(self, alloc: Global, number: u64) -> Result<String, AllocError>
+        ensures { IfOk result (λ text. string_bytes text ≡ place_text self number) }
+    {
         match self {
             Unit::Line => format!(in alloc; "line {number}"),
             Unit::Event => format!(in alloc; "the event at line {number}"),
