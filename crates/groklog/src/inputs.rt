@@ -2,7 +2,6 @@
 
 use crate::hints::Hints;
 use crate::log_lines::LogLines;
-use crate::options::Options;
 use crate::output::show_note;
 use crate::terminal::shows_progress;
 use grok::Pattern;
@@ -11,6 +10,7 @@ use groklog_answers::StartPattern;
 use groklog_input::{
     Answered, Failure, Fault, FormedAnswers, Watched, answer_input, file_fault, visible,
 };
+use groklog_options::Options;
 use groklog_views::Unit;
 use std::alloc::AllocError;
 use std::fs::File;

@@ -2,14 +2,10 @@
 #![tactic(auto)]
 
 mod definition_files;
-mod fields;
 mod hints;
 mod inputs;
-mod keys;
-mod layouts;
 mod log_lines;
 mod notes;
-mod options;
 mod output;
 mod page;
 mod plans;
@@ -22,6 +18,7 @@ mod why;
 
 use crate::inputs::Outcome;
 use groklog_input::{Fault, Report};
+use groklog_options::{is_answer, read_options, usage_fault};
 use std::env;
 use std::io::ErrorKind;
 use std::process::ExitCode;
@@ -46,14 +43,14 @@ fn read_words(rt: &HostRuntime) -> Result<Vec<String>, Fault> {
 /// Runs the program with the words of its command line.
 fn work(rt: &HostRuntime) -> Result<Outcome, Fault> {
     let words = read_words(rt)?;
-    match options::read_options(rt.alloc(), words.as_slice()) {
+    match read_options(rt.alloc(), words.as_slice()) {
         Ok(options) => run::run(rt, &options),
-        Err(error) if options::is_answer(&error) => {
+        Err(error) if is_answer(&error) => {
             let text = error.to_string(rt.alloc())?;
             output::write_output(rt, text.as_str())?;
             Ok(Outcome::AllRead)
         }
-        Err(error) => Err(options::usage_fault(rt.alloc(), &error)?),
+        Err(error) => Err(usage_fault(rt.alloc(), &error)?),
     }
 }
 

@@ -1,8 +1,8 @@
 //! Notes on what is allowed, but hardly what the user meant. They are shown before any line is read.
 
-use crate::options::Options;
 use grok::{Pattern, PlaceholderKey};
 use groklog_answers::asks_for_numbers;
+use groklog_options::Options;
 use groklog_patterns::{Library, PatternText};
 use std::alloc::{AllocError, Global};
 use std::collections::BTreeMap;

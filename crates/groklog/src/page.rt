@@ -1,9 +1,9 @@
 //! Collects a page about the first lines or events, for `--html`, and writes it.
 ghost use Rattle.std.specs.Prelude.{[]};
 
-use crate::options::Options;
 use grok_lines::{LineAnswers, SkipLines};
 use groklog_input::{Failure, Fault, Report};
+use groklog_options::Options;
 use groklog_patterns::Explainer;
 use groklog_views::{EXPLAINED, LocatedFields, PageContent, page_html};
 use std::alloc::{AllocError, Global};

@@ -1,9 +1,9 @@
 //! Plans where the values of each pattern are written, for `--nested` and `--merge`.
 
-use crate::options::Options;
 use grok::Pattern;
 use groklog_answers::{Clash, Plan, PlanError, SharedKey};
 use groklog_input::{Fault, Report};
+use groklog_options::Options;
 use groklog_patterns::{Library, PatternText};
 use std::alloc::{AllocError, Global};
 use std::collections::BTreeMap;

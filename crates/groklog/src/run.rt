@@ -1,12 +1,8 @@
 //! Runs the program over files, or over standard input.
 
 use crate::definition_files::{read_definition_files, write_definitions};
-use crate::fields::chosen_fields;
 use crate::inputs::{Outcome, STANDARD_INPUT, answer_each, answer_file};
-use crate::keys::check_keys;
-use crate::layouts::{layout_of, layout_of_count, with_tags};
 use crate::notes::{notes_of_extracts, notes_of_pattern, notes_of_words};
-use crate::options::Options;
 use crate::output::{DirectOutput, show_note, show_notes, write_bytes, write_output};
 use crate::page::{Page, check_page, write_page};
 use crate::plans::{WrittenKey, plan_all, written_keys};
@@ -18,6 +14,7 @@ use crate::why::Why;
 use grok::Pattern;
 use groklog_answers::{LogAnswers, OutputFormat, Plan, header_of};
 use groklog_input::{Fault, FormedAnswers, write_fault};
+use groklog_options::{Options, check_keys, chosen_fields, layout_of, layout_of_count, with_tags};
 use groklog_patterns::{
     Adapted, Explainer, Library, PatternText, adapt_all, compile, compile_all, explain,
     list_common_definitions, patterns_of, start_pattern, titles_of,

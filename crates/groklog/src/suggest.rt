@@ -1,10 +1,10 @@
 //! Suggests patterns for the first lines of the input, for `--suggest`.
 ghost use Rattle.std.specs.Prelude.{[]};
 
-use crate::options::Options;
 use grok::Measure;
 use grok_lines::LineAnswers;
 use groklog_input::visible;
+use groklog_options::Options;
 use groklog_patterns::Library;
 use std::alloc::{AllocError, Global};
 use suggestions::{Fit, compile_valid, fit_of, propose};

@@ -1,17 +1,9 @@
 //! Finds out whether the program writes to a terminal, and whether in colours.
 
+use groklog_options::Colours;
 use std::alloc::AllocError;
 use std::env::{self, VarError};
 use std::fs;
-
-/// When `--show` writes in colours.
-#[derive(Clone, Copy, PartialEq, Eq)]
-pub enum Colours {
-    /// If standard output is a terminal, and `NO_COLOR` isn't set or is empty.
-    Auto,
-    Always,
-    Never,
-}
 
 /// The link to the open file of standard output on Linux. `ERRORS` is that of standard error.
 const OUTPUT: &str = "/proc/self/fd/1";

@@ -1,11 +1,10 @@
 //! Writes the answer to a line, as the layout says.
 ghost use Rattle.std.specs.Prelude.{◌≡◌, ℕ, List, [], ◌++◌, if◌then◌else◌, IfOk, OnOk, OnErr, codes, true, string_bytes};
 ghost use Rattle.std.specs.Str.Lossy.{utf8_lossy};
-ghost use Rattle.groklog_answers.specs.Layouts.{layout_value, keeps_unmatched};
+ghost use Rattle.groklog_answers.specs.Layouts.{layout_value, in_file, keeps_unmatched};
 ghost use Rattle.groklog_answers.specs.Objects.{unmatched_members, object_text};
 ghost use Rattle.groklog_answers.specs.declared.layout.Failure.{Failure};
 ghost use Rattle.groklog_answers.specs.LogAnswers.{match_answer, unmatched_answer};
-ghost use Rattle.groklog_answers.specs.Views.{match_text_of, found_layout, found_text};
 
 use crate::found::Found;
 use crate::layout::{Failure, Layout, Lines, OutputFormat};
@@ -105,6 +104,8 @@ impl Layout<'_> {
 }
 
 impl Found<'_> {
+    ghost use Rattle.groklog_answers.specs.Views.{found_layout, found_text};
+
     /// Appends the answer to a line that has this match. If only unmatched lines are answered, appends
     /// nothing.
     fn append_answer(
@@ -134,12 +135,19 @@ impl Found<'_> {
 pub struct AnswerWriter<'p> {
     pub alloc: Global,
     pub layout: Layout<'p>,
+    /// Whether the answer to each line that has no fields is an object without members. Many lines are of
+    /// another kind than the pattern's, and then the writer would take as long as the search.
+    are_unmatched_empty: bool,
+    ghost empty: { are_unmatched_empty ≡ true → (number : ℕ) (why : Failure) (line : List ℕ)
+        → unmatched_answer layout.lines (layout_value layout) number why line ≡ codes "{}\n" },
     /// The buffer for one answer. Most answers take several steps, and are written here first: if a
     /// step fails, nothing was appended to the text.
     buffer: Vec<u8>,
 }
 
 impl<'p> AnswerWriter<'p> {
+    ghost use Rattle.groklog_answers.specs.Views.{match_text_of};
+
     /// Makes a writer of answers in this layout.
     pub fn new(alloc: Global, layout: Layout<'p>) -> AnswerWriter<'p>
         ensures { result.layout ≡ layout.entry }
@@ -147,8 +155,17 @@ impl<'p> AnswerWriter<'p> {
         AnswerWriter {
             alloc,
             layout,
+            are_unmatched_empty: layout.answers_with_empty_objects(),
             buffer: Vec::new(alloc),
         }
+    }
+
+    /// Says that the next lines are those of the file with this name.
+    pub fn begin_file(&mut self, name: &'p str)
+        ensures { layout_value self.new.layout ≡ in_file name.now (layout_value self.old.layout) }
+    {
+        self.layout.file_name = name;
+        self.are_unmatched_empty = self.layout.answers_with_empty_objects();
     }
 
     /// Appends the answer to a line that has this match of the pattern `named`. If only unmatched lines
@@ -191,9 +208,7 @@ impl<'p> AnswerWriter<'p> {
         ensures memory { OnErr result (text.new.items ≡ text.old.items) }
         ensures layout { self.new.layout ≡ self.old.layout }
     {
-        // Many lines are of another kind than the pattern's, and then a writer takes as long as the
-        // search.
-        if self.layout.answers_with_empty_objects() {
+        if self.are_unmatched_empty {
             return text.extend_from_slice(b"{}\n");
         }
         self.buffer.clear();

@@ -183,7 +183,7 @@ impl<'p> LogAnswers<'p> {
         ensures layout { layout_of self.new ≡ in_file name.now (layout_of self.old) }
         ensures number { next_number_of self.new ≡ next_number_of self.old }
     {
-        self.writer.layout.file_name = name;
+        self.writer.begin_file(name);
     }
 
     /// Returns how many lines each pattern was the first to match, in the order of the patterns.

@@ -15,8 +15,6 @@ mod failure;
 mod fault;
 mod formed_answers;
 mod line_form;
-#[cfg(test)]
-mod tests;
 mod visible_text;
 mod watched;
 

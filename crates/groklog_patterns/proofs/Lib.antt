@@ -1,1 +1,2 @@
 pub mod PlaceByPlace
+pub mod FaultsOfPatterns

@@ -1,8 +1,11 @@
 -- What the pattern of a user is compiled to, or reported as.
-use Rattle.std.specs.Prelude.{Bool, string_bytes}
+use Rattle.std.specs.Prelude.{◌≢◌, Bool, string_bytes}
 use Rattle.grok.specs.Maps.{Texts}
 use Rattle.grok.specs.Answers.{PatternValue}
-use Rattle.grok.specs.Compiled.{IsPatternOf, expansion_of}
+use Rattle.grok.specs.Compiled.{IsPatternOf, IsCompileError, expansion_of}
+use Rattle.grok.specs.Errors as errors
+use Rattle.grok.specs.Errors.{ErrorValue}
+use Rattle.grok.specs.RegexFinds.{MayRefuse}
 use Rattle.grok.specs.Engines.{engine_regex}
 use Rattle.grok.specs.declared.engine.regex_engine.RegexEngine.{RegexEngine}
 use Rattle.regex.specs.Strings.{regex_source, regex_names}
@@ -16,10 +19,17 @@ IsCompiledFrom definitions alias_only text pattern =
     IsPatternOf (λ engine. regex_source (engine_regex engine)) (λ engine. regex_names (engine_regex engine))
     (expansion_of definitions alias_only (string_bytes text.text)) pattern
 
--- It is a fault of the pattern, unless an allocation failed.
-abbrev pub IsCompileFault : Fault → Type 0
-IsCompileFault (Pattern report) = Unit {0}
-IsCompileFault (Usage report) = ⊥
-IsCompileFault Memory = Unit {0}
-IsCompileFault (Read report) = ⊥
-IsCompileFault (Write report) = ⊥
+-- The library compiles no pattern from the text, with these definitions and in this mode: it returns an error
+-- that isn't `Memory`.
+pub record IsRefusedText (definitions : Texts) (alias_only : Bool) (text : PatternText) : Type 0 where
+  pub error : ErrorValue
+  pub is : IsCompileError MayRefuse (expansion_of definitions alias_only (string_bytes text.text)) error
+  pub not_memory : error ≢ errors.Memory
+
+-- It is a fault of a pattern, and `is_refused` holds, or an allocation failed.
+abbrev pub IsCompileFault : Type 0 → Fault → Type 0
+IsCompileFault is_refused (Pattern report) = is_refused
+IsCompileFault is_refused (Usage report) = ⊥
+IsCompileFault is_refused Memory = Unit {0}
+IsCompileFault is_refused (Read report) = ⊥
+IsCompileFault is_refused (Write report) = ⊥

@@ -2,4 +2,4 @@ pub mod Texts
 pub mod Compiled
 -- THE WORDS FOR CALLERS: each definition that a contract of a public call uses.
 pub use Rattle.groklog_patterns.specs.Texts.{ordinal_text, pattern_texts}
-pub use Rattle.groklog_patterns.specs.Compiled.{IsCompiledFrom, IsCompileFault}
+pub use Rattle.groklog_patterns.specs.Compiled.{IsCompiledFrom, IsRefusedText, IsCompileFault}

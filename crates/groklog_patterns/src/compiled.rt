@@ -1,7 +1,7 @@
 //! Compiles the patterns of a run.
-ghost use Rattle.std.specs.Prelude.{IfOk, IfErr};
+ghost use Rattle.std.specs.Prelude.{Any, IfOk, IfErr};
 ghost use Rattle.std.specs.List.{AllZip};
-ghost use Rattle.groklog_patterns.specs.Compiled.{IsCompiledFrom, IsCompileFault};
+ghost use Rattle.groklog_patterns.specs.Compiled.{IsCompiledFrom, IsRefusedText, IsCompileFault};
 
 use crate::diagnosis::report_of;
 use crate::library::Library;
@@ -22,7 +22,7 @@ pub fn compile(
     with_alias_only: bool,
 ) -> Result<Pattern, Fault>
     ensures pattern { IfOk result (IsCompiledFrom library.now.grok with_alias_only pattern.now) }
-    ensures fault { IfErr result IsCompileFault }
+    ensures fault { IfErr result (IsCompileFault (IsRefusedText library.now.grok with_alias_only pattern.now)) }
 {
     match library.grok.compile(pattern.text.as_str(), with_alias_only) {
         Ok(compiled) => Ok(compiled),
@@ -51,7 +51,7 @@ pub fn compile_all(
 ) -> Result<Vec<Pattern>, Fault>
     ensures patterns { IfOk result (λ all. AllZip (IsCompiledFrom library.now.grok with_alias_only)
         patterns.now all.items) }
-    ensures fault { IfErr result IsCompileFault }
+    ensures fault { IfErr result (IsCompileFault (Any (IsRefusedText library.now.grok with_alias_only) patterns.now)) }
 {
     let mut all = Vec::new(alloc);
     'patterns: for pattern in patterns {

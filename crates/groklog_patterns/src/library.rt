@@ -1,6 +1,6 @@
 //! Builds the library of definitions that patterns are compiled with: the default definitions, the
 //! common definitions, those from files, and those from the words after `-D`.
-ghost use Rattle.std.specs.Prelude.{◌≡◌, OnOk};
+ghost use Rattle.std.specs.Prelude.{◌≡◌, OnOk, OnErr};
 ghost use Rattle.std.specs.FinMap as finite;
 
 use crate::common::add_common_definitions;
@@ -149,13 +149,13 @@ impl<'a> Library<'a> {
     ///
     /// # Errors
     ///
-    /// If an allocation fails.
+    /// If an allocation fails. Then the definitions are as before.
     pub fn store(&mut self, source: Source<'a>, text: &str) -> Result<(), AllocError>
-        ensures { OnOk result (self.new.grok ≡ finite.insert self.old.grok source.entry.name.now text.now) }
+        ensures ok { OnOk result (self.new.grok ≡ finite.insert self.old.grok source.entry.name.now text.now) }
+        ensures memory { OnErr result (self.new.grok ≡ self.old.grok) }
     {
-        self.grok.add_pattern(source.name, text)?;
         self.sources.insert(source.name, source)?;
-        Ok(())
+        self.grok.add_pattern(source.name, text)
     }
 
     /// Returns an iterator over where the definitions were given, in the byte order of their names.

@@ -1,5 +1,5 @@
 //! What the page of `--html` shows of the first lines or events.
-ghost use Rattle.std.specs.Prelude.{◌≡◌, ◌<◌, ◌+◌, ◌^◌, OnOk, OnErr, true};
+ghost use Rattle.std.specs.Prelude.{◌≡◌, ◌<◌, ◌≤◌, ◌+◌, ◌^◌, OnOk, OnErr, true};
 ghost use Rattle.groklog_views.specs.Pages.{lists_unmatched};
 
 use crate::unit::Unit;
@@ -92,6 +92,9 @@ impl PageContent {
     pub fn end_if_full(&mut self) -> Result<(), AllocError>
         ensures more { OnOk result (self.new.count < self.new.scope.most) }
         ensures full { OnErr result (self.new.is_full ≡ true) }
+        ensures enough { OnErr result (self.new.scope.most ≤ self.new.count) }
+        ensures count { self.new.count ≡ self.old.count }
+        ensures scope { self.new.scope ≡ self.old.scope }
     {
         if self.count < self.scope.most as u64 {
             return Ok(());

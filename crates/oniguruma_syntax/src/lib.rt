@@ -27,8 +27,6 @@ mod rewriting;
 mod scan;
 mod sets;
 mod structure;
-#[cfg(test)]
-mod tests;
 mod token;
 mod writer;
 

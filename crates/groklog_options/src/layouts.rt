@@ -1,4 +1,5 @@
 //! How the answers of a run are written, by its options.
+ghost use Rattle.std.specs.Prelude.{◌≡◌, Some, None, true};
 
 use crate::options::Options;
 use grok::Pattern;
@@ -30,7 +31,17 @@ pub fn with_tags<'p>(
 }
 
 /// Returns the layout that the options ask for, with these keys of patterns.
-pub fn layout_of<'a>(options: &Options<'a>, fields: Option<&'a [&'a str]>) -> Layout<'a> {
+pub fn layout_of<'a>(options: &Options<'a>, fields: Option<&'a [&'a str]>) -> Layout<'a>
+    ensures keep { result.keep ≡ options.now.keep }
+    ensures tag { result.tag ≡ options.now.tag }
+    ensures number { result.number ≡ options.now.number }
+    ensures file { result.file ≡ options.now.file }
+    ensures failed { result.failed ≡ options.now.failed }
+    ensures typed { result.typed ≡ options.now.is_typed }
+    ensures drops_empty { result.drops_empty ≡ options.now.drops_empty }
+    ensures fields { result.fields ≡ fields.entry }
+    ensures tags_failures { result.tags_failures ≡ options.now.tags_failures }
+{
     Layout {
         lines: if options.has_answers() {
             options.lines
@@ -60,7 +71,11 @@ pub fn layout_of<'a>(options: &Options<'a>, fields: Option<&'a [&'a str]>) -> La
 
 /// Returns the layout for counting the values of the one key in `fields`: its pair in each line that
 /// matches.
-pub fn layout_of_count<'a>(fields: &'a [&'a str]) -> Layout<'a> {
+pub fn layout_of_count<'a>(fields: &'a [&'a str]) -> Layout<'a>
+    ensures lines { result.lines ≡ Lines.Matched }
+    ensures format { result.format ≡ OutputFormat.Pairs }
+    ensures fields { result.fields ≡ Some fields.entry }
+{
     Layout {
         lines: Lines::Matched,
         format: OutputFormat::Pairs,

@@ -1,8 +1,7 @@
 //! Tests of what is written for a text, and of what is refused. The expected texts are what the two
 //! syntaxes say.
 
-use crate::rewriting::{Outcome, rewrite};
-use crate::writer::Wish;
+use oniguruma_syntax::{Outcome, Wish, rewrite};
 use std::alloc::AllocError;
 use std::process::Abort;
 use std::test::Fail;

@@ -1,4 +1,6 @@
 //! Checks the keys that options such as `--tag` and `--count` name.
+ghost use Rattle.std.specs.Prelude.{IfOk, IfErr};
+ghost use Rattle.groklog_options.specs.OptionFaults.{IsOptionFault};
 
 use crate::options::{KeyOption, Options};
 use grok::Pattern;
@@ -19,14 +21,18 @@ fn option_of_key(options: &[KeyOption<'_>], key: &str) -> Option<&'static str> {
 }
 
 /// Returns the fault that reports that two options name the same key.
-fn repeated_key(alloc: Global, first: &str, second: &str, key: &str) -> Result<Fault, AllocError> {
+fn repeated_key(alloc: Global, first: &str, second: &str, key: &str) -> Result<Fault, AllocError>
+    ensures { IfOk result IsOptionFault }
+{
     let what = format!(in alloc; "{first} and {second} have the same key {key}")?;
     let advice = "name another key after one of them";
     Ok(Fault::Usage(Report::new(alloc, what.as_str(), advice)?))
 }
 
 /// Returns the fault that reports that an option names the key of Logstash's tags.
-fn key_of_tags(alloc: Global, option: &str) -> Result<Fault, AllocError> {
+fn key_of_tags(alloc: Global, option: &str) -> Result<Fault, AllocError>
+    ensures { IfOk result IsOptionFault }
+{
     let what = format!(in alloc; "--logstash and {option} have the same key tags")?;
     let advice = format!(in alloc; "name another key after {option}")?;
     let report = Report::new(alloc, what.as_str(), advice.as_str())?;
@@ -34,7 +40,9 @@ fn key_of_tags(alloc: Global, option: &str) -> Result<Fault, AllocError> {
 }
 
 /// Checks that no two options name the same key.
-fn check_repeated(alloc: Global, options: &Options<'_>) -> Result<(), Fault> {
+fn check_repeated(alloc: Global, options: &Options<'_>) -> Result<(), Fault>
+    ensures { IfErr result IsOptionFault }
+{
     let all = options.key_options();
     if options.tags_failures
         && let Some(option) = option_of_key(&all, "tags")
@@ -58,7 +66,9 @@ fn has_key(pattern: &Pattern, key: &str) -> bool {
 }
 
 /// Returns the fault that reports that a pattern has the key that an option names.
-fn taken_key(alloc: Global, option: &str, key: &str) -> Result<Fault, AllocError> {
+fn taken_key(alloc: Global, option: &str, key: &str) -> Result<Fault, AllocError>
+    ensures { IfOk result IsOptionFault }
+{
     let what = format!(in alloc; "{option} has the key {key}, which a pattern has too")?;
     let advice = format!(in alloc; "name another key after {option}")?;
     let report = Report::new(alloc, what.as_str(), advice.as_str())?;
@@ -72,7 +82,9 @@ fn check_free(
     patterns: &[Pattern],
     plans: &[Plan<'_>],
     named: KeyOption<'_>,
-) -> Result<(), Fault> {
+) -> Result<(), Fault>
+    ensures { IfErr result IsOptionFault }
+{
     let KeyOption { option, key } = named;
     let Some(key) = key else {
         return Ok(());
@@ -86,7 +98,9 @@ fn check_free(
 }
 
 /// Returns the fault that reports a key that no pattern has.
-fn unknown_key(alloc: Global, option: &str, key: &str) -> Result<Fault, AllocError> {
+fn unknown_key(alloc: Global, option: &str, key: &str) -> Result<Fault, AllocError>
+    ensures { IfOk result IsOptionFault }
+{
     let what = format!(in alloc; "{option} has the key {key}, which no pattern has")?;
     let advice = "write a key of a pattern; --explain shows them";
     Ok(Fault::Usage(Report::new(alloc, what.as_str(), advice)?))
@@ -102,7 +116,9 @@ pub fn check_known(
     patterns: &[Pattern],
     option: &str,
     key: &str,
-) -> Result<(), Fault> {
+) -> Result<(), Fault>
+    ensures { IfErr result IsOptionFault }
+{
     if patterns.iter().any(|pattern| has_key(pattern, key)) {
         Ok(())
     } else {
@@ -121,7 +137,9 @@ pub fn check_keys(
     options: &Options<'_>,
     patterns: &[Pattern],
     plans: &[Plan<'_>],
-) -> Result<(), Fault> {
+) -> Result<(), Fault>
+    ensures { IfErr result IsOptionFault }
+{
     check_repeated(alloc, options)?;
     if let Some(key) = options.count {
         check_known(alloc, patterns, "--count", key)?;

@@ -2,13 +2,10 @@
 //! gives.
 ghost use Rattle.std.specs.Prelude.{◌≡◌};
 
-use crate::answered::{Answered, answer_input};
-use crate::failure::Failure;
-use crate::fault::Fault;
-use crate::formed_answers::FormedAnswers;
-use crate::line_form::{Encoding, LineForm, Signs};
-use crate::watched::Watched;
 use grok_lines::{LineAnswers, LinesError, handle_lines};
+use groklog_input::{
+    Answered, Encoding, Failure, Fault, FormedAnswers, LineForm, Watched, answer_input,
+};
 use std::alloc::AllocError;
 use std::io::{self, ErrorKind, Read, Write};
 use std::process::Abort;

@@ -1,4 +1,6 @@
 //! The keys of patterns that are written: those of `--fields`, or in records all of them.
+ghost use Rattle.std.specs.Prelude.{IfErr};
+ghost use Rattle.groklog_options.specs.OptionFaults.{IsOptionFault};
 
 use crate::keys::check_known;
 use crate::options::Options;
@@ -8,7 +10,9 @@ use std::alloc::{AllocError, Global};
 use std::collections::BTreeMap;
 
 /// Checks that each of the keys that `--fields` names is a key of a pattern, and is named once.
-fn check_fields(alloc: Global, patterns: &[Pattern], fields: &[&str]) -> Result<(), Fault> {
+fn check_fields(alloc: Global, patterns: &[Pattern], fields: &[&str]) -> Result<(), Fault>
+    ensures { IfErr result IsOptionFault }
+{
     let mut named = BTreeMap::new(alloc);
     for field in fields {
         check_known(alloc, patterns, "--fields", field)?;
@@ -46,7 +50,9 @@ pub fn chosen_fields<'p>(
     alloc: Global,
     options: &Options<'p>,
     patterns: &'p [Pattern],
-) -> Result<Option<Vec<&'p str>>, Fault> {
+) -> Result<Option<Vec<&'p str>>, Fault>
+    ensures { IfErr result IsOptionFault }
+{
     if let Some(fields) = &options.fields {
         check_fields(alloc, patterns, fields)?;
         return Ok(Some(Vec::from_slice(alloc, fields)?));

@@ -1,0 +1,11 @@
+-- The faults of options.
+use Rattle.groklog_input.specs.declared.fault.Fault.{Fault}
+use Rattle.groklog_input.specs.declared.fault.Fault.TheVariants.{Pattern, Usage, Memory, Read, Write}
+
+-- It is a fault of the options, unless an allocation failed.
+abbrev pub IsOptionFault : Fault → Type 0
+IsOptionFault (Pattern report) = ⊥
+IsOptionFault (Usage report) = Unit {0}
+IsOptionFault Memory = Unit {0}
+IsOptionFault (Read report) = ⊥
+IsOptionFault (Write report) = ⊥
