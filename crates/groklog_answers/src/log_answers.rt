@@ -103,12 +103,11 @@ impl<'p> Search<'p> {
         ensures count { IfOk result (λ is_match. self.new.matched
             ≡ (if is_match then self.old.matched + 1 else self.old.matched)) }
     {
-        let named = self.named;
         match self.matcher.find(line.text)? {
             None => Ok(false),
             Some(matches) => {
                 let matched = number_after(self.matched)?;
-                writer.append_match(text, named, matches, line)?;
+                writer.append_match(text, self.named, matches, line)?;
                 self.matched = matched;
                 Ok(true)
             }
