@@ -90,7 +90,7 @@ enum Step<'a> {
     Passed,
     /// The sought event is one of the item itself.
     Stopped,
-    /// It passes over the open of a placeholder of this name, and enters what it stands for.
+    /// It passes over the beginning of a placeholder of this name, and goes into its definition.
     Entered(&'a str, Meaning<'a>),
 }
 

@@ -73,8 +73,7 @@ impl<A> FormedAnswers<A> {
     }
 }
 
-/// Returns how many lines of an input come before the line after the one that has `count` lines
-/// before it.
+/// Returns how many lines of an input were handled, once one more than `count` was.
 ///
 /// # Errors
 ///

@@ -46,7 +46,7 @@ enum Takes {
 
 /// An option of the command line.
 #[derive(Clone, Copy)]
-struct Described {
+struct CommandOption {
     /// Its name after `--`.
     name: &'static str,
     takes: Takes,
@@ -56,56 +56,56 @@ struct Described {
 }
 
 /// The options below the heading "Patterns and definitions".
-const SOURCES: &[Described] = &[
-    Described {
+const SOURCES: &[CommandOption] = &[
+    CommandOption {
         name: "pattern",
         takes: Takes::Patterns(Some('e'), "PATTERN"),
         help: "A pattern; the first of several that matches a line gives the answer",
         excludes: &[],
     },
-    Described {
+    CommandOption {
         name: "named",
         takes: Takes::Patterns(None, "NAME=PATTERN"),
         help: "A pattern with a name, which --tag and --summary write in place of its text",
         excludes: &[],
     },
-    Described {
+    CommandOption {
         name: "definitions",
         takes: Takes::Patterns(Some('d'), "FILE"),
         help: "Definitions: lines NAME=DEF, or NAME DEF as Logstash has them; also a folder of such files",
         excludes: &[],
     },
-    Described {
+    CommandOption {
         name: "define",
         takes: Takes::Patterns(Some('D'), "NAME=DEF"),
         help: "A definition; it replaces one of a file",
         excludes: &[],
     },
-    Described {
+    CommandOption {
         name: "no-common",
         takes: Takes::Nothing,
         help: "Leave out the common definitions, which --list shows",
         excludes: &[],
     },
-    Described {
+    CommandOption {
         name: "list",
         takes: Takes::ValueOrNothing("TEXT"),
         help: "Write the common definitions, or those whose name has this text, and read no lines",
         excludes: &[],
     },
-    Described {
+    CommandOption {
         name: "from-logstash",
         takes: Takes::Nothing,
         help: "Rewrite what the engine doesn't know in definitions made for Logstash, and report each change",
         excludes: &[],
     },
-    Described {
+    CommandOption {
         name: "loose",
         takes: Takes::Nothing,
         help: "With --from-logstash, drop each lookaround that can't be rewritten, and report it",
         excludes: &[],
     },
-    Described {
+    CommandOption {
         name: "write-definitions",
         takes: Takes::Value("FILE"),
         help: "Also write the definitions of -d and -D to this file, rewritten by --from-logstash",
@@ -114,26 +114,26 @@ const SOURCES: &[Described] = &[
 ];
 
 /// The options below the heading "How lines are read".
-const READING: &[Described] = &[
-    Described {
+const READING: &[CommandOption] = &[
+    CommandOption {
         name: "crlf",
         takes: Takes::Nothing,
         help: "Take one carriage return off the end of each line",
         excludes: &[],
     },
-    Described {
+    CommandOption {
         name: "lossy",
         takes: Takes::Nothing,
         help: "Read bytes that aren't UTF-8 as U+FFFD, so that their line can match",
         excludes: &[],
     },
-    Described {
+    CommandOption {
         name: "start",
         takes: Takes::Pattern("PATTERN"),
         help: "Answer events of several lines, which begin at each line in which this pattern is found",
         excludes: &["pairs", "suggest"],
     },
-    Described {
+    CommandOption {
         name: "max-lines",
         takes: Takes::Number,
         help: "At most N lines in an event of --start; 1000 without this option",
@@ -142,134 +142,134 @@ const READING: &[Described] = &[
 ];
 
 /// The options below the heading "What is written".
-const WRITING: &[Described] = &[
-    Described {
+const WRITING: &[CommandOption] = &[
+    CommandOption {
         name: "all",
         takes: Takes::Nothing,
         help: "Also write placeholders without an alias, under their name",
         excludes: &[],
     },
-    Described {
+    CommandOption {
         name: "matched",
         takes: Takes::Nothing,
         help: "Only lines that match",
         excludes: &["unmatched"],
     },
-    Described {
+    CommandOption {
         name: "unmatched",
         takes: Takes::Nothing,
         help: "Only lines that don't match",
         excludes: &[],
     },
-    Described {
+    CommandOption {
         name: "typed",
         takes: Takes::Nothing,
         help: "Write values with the extract int or float as numbers",
         excludes: &[],
     },
-    Described {
+    CommandOption {
         name: "no-empty",
         takes: Takes::Nothing,
         help: "Leave out fields whose value is empty",
         excludes: &[],
     },
-    Described {
+    CommandOption {
         name: "nested",
         takes: Takes::Nothing,
         help: "Write keys such as [a][b] as nested objects",
         excludes: &[],
     },
-    Described {
+    CommandOption {
         name: "merge",
         takes: Takes::Nothing,
         help: "Let placeholders with one key share it; several values are a list",
         excludes: &[],
     },
-    Described {
+    CommandOption {
         name: "logstash",
         takes: Takes::Nothing,
         help: "Write what Logstash would: --nested --merge --typed --no-empty, and a tag in lines that don't match",
         excludes: &[],
     },
-    Described {
+    CommandOption {
         name: "pairs",
         takes: Takes::Nothing,
         help: "Write lines KEY=VALUE in place of JSON",
         excludes: &["csv", "count", "nested", "merge", "logstash"],
     },
-    Described {
+    CommandOption {
         name: "csv",
         takes: Takes::Nothing,
         help: "Write comma-separated values with a header in place of JSON",
         excludes: &["nested", "merge", "logstash"],
     },
-    Described {
+    CommandOption {
         name: "fields",
         takes: Takes::Value("KEYS"),
         help: "Only write these keys, as a,b,c; --csv and --pairs write them in this order",
         excludes: &["nested", "merge", "logstash"],
     },
-    Described {
+    CommandOption {
         name: "count",
         takes: Takes::Value("KEY"),
         help: "Count the values of this key, and write them with their counts, in place of answers",
         excludes: &["fields", "why", "nested", "merge", "logstash"],
     },
-    Described {
+    CommandOption {
         name: "max",
         takes: Takes::Number,
         help: "At most N: different values for --count [default: 100000], lines for --html [default: 1000]",
         excludes: &[],
     },
-    Described {
+    CommandOption {
         name: "summary",
         takes: Takes::Nothing,
         help: "At the end, also report how many lines matched, on standard error",
         excludes: &[],
     },
-    Described {
+    CommandOption {
         name: "keep",
         takes: Takes::Value("KEY"),
         help: "Also write the line itself, under this key",
         excludes: &[],
     },
-    Described {
+    CommandOption {
         name: "tag",
         takes: Takes::Value("KEY"),
         help: "Also write the pattern that matched, under this key",
         excludes: &[],
     },
-    Described {
+    CommandOption {
         name: "number",
         takes: Takes::Value("KEY"),
         help: "Also write the number of the line, under this key",
         excludes: &[],
     },
-    Described {
+    CommandOption {
         name: "file",
         takes: Takes::Value("KEY"),
         help: "Also write the name of the line's file, under this key",
         excludes: &[],
     },
-    Described {
+    CommandOption {
         name: "failed",
         takes: Takes::Value("KEY"),
         help: "Also write why a line has no fields, under this key",
         excludes: &[],
     },
-    Described {
+    CommandOption {
         name: "show",
         takes: Takes::Nothing,
         help: "Show each line with its fields in colours, or with letters under them, in place of answers",
         excludes: NOT_SHOWN,
     },
-    Described {
+    CommandOption {
         name: "color",
         takes: Takes::WordOrAuto("WHEN", &["auto", "always", "never"]),
         help: "When --show uses colours; auto is on a terminal, unless NO_COLOR is set",
         excludes: &[],
     },
-    Described {
+    CommandOption {
         name: "html",
         takes: Takes::Value("FILE"),
         help: "Write a page about the first lines to this file, in place of answers",
@@ -278,20 +278,20 @@ const WRITING: &[Described] = &[
 ];
 
 /// The options below the heading "Working on a pattern".
-const WORKING: &[Described] = &[
-    Described {
+const WORKING: &[CommandOption] = &[
+    CommandOption {
         name: "explain",
         takes: Takes::Nothing,
         help: "Explain the pattern, or its first fault, and read no lines",
         excludes: &[],
     },
-    Described {
+    CommandOption {
         name: "why",
         takes: Takes::NumberOr("3"),
         help: "Show where the pattern stops in the first N lines that don't match, in place of answers",
         excludes: &[],
     },
-    Described {
+    CommandOption {
         name: "suggest",
         takes: Takes::NumberOr("1000"),
         help: "Suggest patterns for the first N lines, in place of answers; all words are files",
@@ -307,7 +307,7 @@ const NOT_SHOWN: &[&str] = &[
 ];
 
 /// The headings of the help, with the options below each.
-const HEADINGS: [(&str, &[Described]); 4] = [
+const HEADINGS: [(&str, &[CommandOption]); 4] = [
     ("Patterns and definitions", SOURCES),
     ("How lines are read", READING),
     ("What is written", WRITING),
@@ -358,7 +358,7 @@ impl Takes {
 }
 
 /// Describes an option to clap.
-fn arg_of<'a>(alloc: Global, option: &'a Described) -> Result<Arg<'a>, AllocError> {
+fn arg_of<'a>(alloc: Global, option: &'a CommandOption) -> Result<Arg<'a>, AllocError> {
     let arg = Arg::new(alloc, option.name)
         .long(option.name)
         .help(option.help);
@@ -371,7 +371,7 @@ fn arg_of<'a>(alloc: Global, option: &'a Described) -> Result<Arg<'a>, AllocErro
 }
 
 /// Describes options to clap.
-fn args_of<'a>(alloc: Global, options: &'a [Described]) -> Result<Vec<Arg<'a>>, AllocError> {
+fn args_of<'a>(alloc: Global, options: &'a [CommandOption]) -> Result<Vec<Arg<'a>>, AllocError> {
     let mut args = Vec::new(alloc);
     for option in options {
         args.push(arg_of(alloc, option)?)?;

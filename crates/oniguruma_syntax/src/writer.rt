@@ -61,7 +61,8 @@ struct Writer<'w, 'a> {
     wish: Wish,
     /// The indexes of the tokens without the blanks before and after all others.
     body: Range<usize>,
-    /// Whether no placeholder of the text has the name of those that groups become.
+    /// Whether a named group can become a placeholder: no placeholder of the text has the name that
+    /// such placeholders get.
     can_name: bool,
     text: String,
     changes: Changes,

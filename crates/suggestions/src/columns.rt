@@ -90,8 +90,8 @@ impl<'l> Column<'l> {
         self.has_blanks = self.has_blanks || before.has_blanks;
     }
 
-    /// Returns whether the column says where in the line it is: lines have such a column at this
-    /// place hardly by chance.
+    /// Returns whether lines hardly have such a column at this place by chance, so that it tells where
+    /// in the line it is.
     pub(crate) fn is_firm(&self) -> bool {
         matches!(self.content, Content::Token(Kind::Known(_))) || self.literal().is_some()
     }
