@@ -1,4 +1,2 @@
-pub mod BlanksEndAtBoundaries
-pub mod FirstCharacterDecides
 pub mod ShownTextHasNoRawCharacter
 mod LinesAreFormed

@@ -1,9 +1,7 @@
-pub mod Definitions
 pub mod Faults
 pub mod LineForms
 pub mod Visible
 -- THE WORDS FOR CALLERS: each definition that a contract of a public call uses.
-pub use Rattle.groklog_input.specs.Definitions.{without_blanks, definition_of, name_of_spaced}
 pub use Rattle.groklog_input.specs.Faults.{excerpt_text, part_texts, fault_status}
 pub use Rattle.groklog_input.specs.LineForms.{trimmed, formed, formed_lines, encoding_of}
 pub use Rattle.groklog_input.specs.Visible.{has_raw, visible}

@@ -1,7 +1,7 @@
-//! Reads what the users of `groklog` give it, and reports faults to them.
+//! Reads the inputs of `groklog`, and reports faults to its users.
 //!
-//! [`read_definition`] reads `NAME=DEF`, and [`answer_input`] answers the lines of an input. A
-//! [`Fault`] says what is wrong, where, and what to do:
+//! [`answer_input`] answers the lines of an input. A [`Fault`] says what is wrong, where, and what to
+//! do:
 //!
 //! ```text
 //! let mut input = Watched::new(rt.stdin());
@@ -10,7 +10,6 @@
 #![tactic(auto)]
 
 mod answered;
-mod definition;
 mod failure;
 mod fault;
 mod formed_answers;
@@ -19,7 +18,6 @@ mod visible_text;
 mod watched;
 
 pub use answered::{Answered, answer_input, file_fault, write_fault};
-pub use definition::{name_of_spaced, read_definition, skip_blanks};
 pub use failure::Failure;
 pub use fault::{Fault, FaultyPart, Report};
 pub use formed_answers::FormedAnswers;

@@ -1,2 +1,4 @@
+pub mod BlanksEndAtBoundaries
+pub mod FirstCharacterDecides
 pub mod PlaceByPlace
 pub mod FaultsOfPatterns

@@ -1,8 +1,8 @@
 //! Reads and lists the common definitions, which are built in.
 
+use crate::definition::read_definition;
 use crate::definitions::{Definition, Origin};
 use common_definitions::COMMON_DEFINITIONS;
-use groklog_input::read_definition;
 use std::alloc::{AllocError, Global};
 
 /// Returns the groups of the common definitions. Each is a text in the form of a file of definitions.

@@ -1,8 +1,8 @@
 //! Reads definitions from the lines of a file, and from the words after `-D`.
 ghost use Rattle.std.specs.Prelude.{◌≡◌, option_map};
-ghost use Rattle.groklog_input.specs.Definitions.{definition_of};
+ghost use Rattle.groklog_patterns.specs.DefinitionTexts.{definition_of};
 
-use groklog_input::{read_definition, skip_blanks};
+use crate::definition::{read_definition, skip_blanks};
 use std::alloc::AllocError;
 use std::fmt;
 

@@ -16,6 +16,7 @@
 
 mod common;
 mod compiled;
+mod definition;
 mod definitions;
 mod diagnosis;
 mod excerpt;

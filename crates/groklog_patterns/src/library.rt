@@ -4,10 +4,11 @@ ghost use Rattle.std.specs.Prelude.{◌≡◌, OnOk, OnErr};
 ghost use Rattle.std.specs.FinMap as finite;
 
 use crate::common::add_common_definitions;
+use crate::definition::name_of_spaced;
 use crate::definitions::{Definition, Origin, read_file, read_word};
 use crate::excerpt::add_excerpt;
 use grok::{Grok, patterns};
-use groklog_input::{Fault, Report, name_of_spaced};
+use groklog_input::{Fault, Report};
 use std::alloc::{AllocError, Global};
 use std::collections::BTreeMap;
 use std::collections::btree_map::Values;
