@@ -300,10 +300,10 @@ const WORKING: &[CommandOption] = &[
 ];
 
 /// The options that say how answers are written, and those that ask for something else in place of
-/// answers. `--show` and `--html` can't be used with them.
+/// answers. `--show` and `--html` can't be used with any other of them.
 const NOT_SHOWN: &[&str] = &[
     "csv", "pairs", "typed", "no-empty", "nested", "merge", "logstash", "keep", "tag", "number",
-    "file", "failed", "count", "why", "suggest", "list", "explain",
+    "file", "failed", "count", "why", "suggest", "list", "explain", "show", "html",
 ];
 
 /// The headings of the help, with the options below each.
