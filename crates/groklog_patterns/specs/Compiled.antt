@@ -19,8 +19,8 @@ IsCompiledFrom definitions alias_only text pattern =
     IsPatternOf (λ engine. regex_source (engine_regex engine)) (λ engine. regex_names (engine_regex engine))
     (expansion_of definitions alias_only (string_bytes text.text)) pattern
 
--- The library compiles no pattern from the text, with these definitions and in this mode: it returns an error
--- that isn't `Memory`.
+-- The contract of `compile` allows an error that isn't `Memory` for this text, with these definitions and in this
+-- mode: the text is empty or has a fault, or `regex` may refuse what it expands to.
 pub record IsRefusedText (definitions : Texts) (alias_only : Bool) (text : PatternText) : Type 0 where
   pub error : ErrorValue
   pub is : IsCompileError MayRefuse (expansion_of definitions alias_only (string_bytes text.text)) error
