@@ -6,3 +6,4 @@ pub mod MapShowsTree
 pub mod SettingOneName
 pub mod EntriesAreTable
 pub mod OneMoreInlineDefinition
+pub mod RoomIsLeft

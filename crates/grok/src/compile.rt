@@ -1,12 +1,13 @@
 //! Compiles patterns.
 
-ghost use Rattle.std.specs.Prelude.{◌≡◌, ◌≢◌, ◌⊎◌, [], map, MatchResult, MatchOption, IfOk, None};
+ghost use Rattle.std.specs.Prelude.{◌≡◌, ◌≢◌, ◌⊎◌, [], map, MatchResult, MatchOption, IfOk, None, length as len};
 ghost use Rattle.std.specs.Option.{option_map};
 ghost use Rattle.std.specs.FinMap as finite;
 ghost use Rattle.std.specs.String.{string_bytes};
 ghost use Rattle.std.specs.BTreeMap.{get_by_text};
 ghost use Rattle.grok.specs.Tree.{tree as tree_of, first_structural};
 ghost use Rattle.grok.specs.Keys.{Structural, first_fault};
+ghost use Rattle.grok.specs.Expanded.{expanded};
 ghost use Rattle.grok.specs.KeyNumbers.{key_text};
 ghost use Rattle.grok.specs.PlaceholderKeys.{AreKeysOf};
 ghost use Rattle.grok.specs.Errors.{error_value, Memory as memory};
@@ -86,7 +87,7 @@ fn error_of_clash<'a>(
     Ok(Some(clash_error(alloc, key.as_str())?))
 }
 
-/// Expands a pattern that has no fault, into a text that has room for `length` bytes at first.
+/// Expands a pattern that has no fault. Its expanded text has `length` bytes, and is reserved once.
 ///
 /// # Errors
 ///
@@ -99,6 +100,8 @@ pub(crate) fn expand_clean(
     requires some { pattern.now ≢ [] }
     requires clean { first_fault settings.with_alias_only
         (tree_of (finite.get settings.grok.now) pattern.now) ≡ None }
+    requires long { length ≡ len (expanded settings.with_alias_only
+        (tree_of (finite.get settings.grok.now) pattern.now)) }
     ensures { IfOk result (IsExpansionOf (expansion_of settings.entry.grok.now
         settings.entry.with_alias_only pattern.now)) }
 {

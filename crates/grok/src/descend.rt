@@ -2,12 +2,12 @@
 //! definition of which enough is known, and enters the others.
 ghost use Rattle.std.specs.Prelude.{◌≡◌, ◌<◌, ◌^◌, List, [], ◌∷◌, Some, IfOk, IsTrue, IsFalse, if◌then◌else◌};
 ghost use Rattle.std.specs.FinMap as finite;
-ghost use Rattle.grok.specs.Tree.{PlaceholderItem, events, inside, items_of, meaning_text};
+ghost use Rattle.grok.specs.Tree.{PlaceholderItem, events, inside, items_of, meaning_text, tree};
 ghost use Rattle.grok.specs.Items.{item_view, label_view, meaning_view};
 ghost use Rattle.grok.specs.steps.Events.{event_view};
 ghost use Rattle.grok.specs.steps.PlacedItems.{IsOfLibrary};
 ghost use Rattle.grok.specs.FaultLocations.{path_view};
-ghost use Rattle.grok.specs.steps.Searches.{PassesMore, StopsAt};
+ghost use Rattle.grok.specs.steps.Searches.{IsReadyFor, Passes, StopsAt};
 ghost use Rattle.grok.specs.steps.Descents.{IsEventStep, IsStep, path_of, FindsPlace};
 
 use crate::defs::Grok;
@@ -24,13 +24,13 @@ pub(crate) trait Search<'a> {
     ghost use Rattle.std.specs.Prelude.{◌≡◌, ◌<◌, ◌^◌, List, [], ◌∷◌, Some, IfOk, IsTrue, IsFalse, if◌then◌else◌};
     ghost use Rattle.grok.specs.Tree.{Definitions, Event as EventView, items_of, events, inside};
     ghost use Rattle.grok.specs.steps.Events.{event_view};
-    ghost use Rattle.grok.specs.steps.Searches.{PassesMore, StopsAt};
+    ghost use Rattle.grok.specs.steps.Searches.{IsReadyFor, StaysReady, PassesMore, StopsAt};
 
     // the definitions that resolve the tree
     ghost definitions: { Self → Definitions };
 
-    // whether the search can go on
-    ghost IsReady: { Self → Type 0 };
+    // `IsReady now es`: the search can go on, if these events remain.
+    ghost IsReady: { Self → List EventView → Type 0 };
 
     // `HasPassed start es now`: on its way from `start` to `now` the search passed over the events
     // `es`, and the sought event isn't among them.
@@ -41,11 +41,11 @@ pub(crate) trait Search<'a> {
 
     /// Passes over an event, unless it is the sought one. Returns whether it passed over it.
     fn pass_event(&mut self, event: Event<'a>) -> Result<bool, AllocError>
-        requires { IsReady self.old }
+        requires { IsReadyFor IsReady self.old (event_view event ∷ []) }
         ensures passed { IfOk result (λ is_passed. IsTrue is_passed → PassesMore HasPassed self.old (event_view event.entry ∷ []) self.new) }
         ensures stopped { IfOk result (λ is_passed. IsFalse is_passed → StopsAt HasPassed IsSought self.old (event_view event.entry)) }
         ensures same { IfOk result (λ is_passed. IsFalse is_passed → self.new ≡ self.old) }
-        ensures ready { IfOk result (λ is_passed. IsReady self.new) }
+        ensures ready { IfOk result (λ is_passed. IsTrue is_passed → StaysReady IsReady self.old (event_view event.entry ∷ []) self.new) }
         ensures definitions { IfOk result (λ is_passed. definitions self.new ≡ definitions self.old) };
 
     /// Passes over a stored definition, whose placeholders may be nested `levels` levels deep, if
@@ -57,12 +57,14 @@ pub(crate) trait Search<'a> {
         levels: usize,
     ) -> Result<bool, AllocError>
         requires few { levels < 2 ^ 30 }
-        requires ready { IsReady self.old }
+        requires ready { IsReadyFor IsReady self.old (events (inside (items_of (definitions self.old)) levels) (items_of (definitions self.old) definition.now)) }
         requires is { definitions self.old name.now ≡ Some definition.now }
         ensures passed { IfOk result (λ is_passed. PassesMore HasPassed self.old (if is_passed
             then events (inside (items_of (definitions self.old)) levels) (items_of (definitions self.old) definition.now)
             else []) self.new) }
-        ensures ready { IfOk result (λ is_passed. IsReady self.new) }
+        ensures ready { IfOk result (λ is_passed. StaysReady IsReady self.old (if is_passed
+            then events (inside (items_of (definitions self.old)) levels) (items_of (definitions self.old) definition.now)
+            else []) self.new) }
         ensures definitions { IfOk result (λ is_passed. definitions self.new ≡ definitions self.old) };
 }
 
@@ -99,9 +101,8 @@ fn step_at_event<'a, S: Search<'a>>(
     search: &mut S,
     event: Event<'a>,
 ) -> Result<Step<'a>, AllocError>
-    requires { S.IsReady search.old }
-    ensures step { IfOk result (λ step. IsEventStep (PassesMore S.HasPassed) (StopsAt S.HasPassed S.IsSought) (event_view event.entry) step search.old search.new) }
-    ensures ready { IfOk result (λ step. S.IsReady search.new) }
+    requires { IsReadyFor S.IsReady search.old (event_view event ∷ []) }
+    ensures step { IfOk result (λ step. IsEventStep (Passes S.IsReady S.HasPassed) (StopsAt S.HasPassed S.IsSought) (event_view event.entry) step search.old search.new) }
     ensures definitions { IfOk result (λ step. S.definitions search.new ≡ S.definitions search.old) }
 {
     if search.pass_event(event)? {
@@ -120,12 +121,11 @@ fn pass_meaning<'a, S: Search<'a>>(
     levels: usize,
 ) -> Result<bool, AllocError>
     requires few { levels < 2 ^ 30 }
-    requires ready { S.IsReady search.old }
+    requires ready { IsReadyFor S.IsReady search.old (events (inside (items_of (S.definitions search.old)) levels) (items_of (S.definitions search.old) (meaning_text (meaning_view meaning)))) }
     requires is { IsOfLibrary (S.definitions search.old) (PlaceholderItem (label_view label) (meaning_view meaning)) }
-    ensures passed { IfOk result (λ is_passed. PassesMore S.HasPassed search.old (if is_passed
+    ensures passed { IfOk result (λ is_passed. Passes S.IsReady S.HasPassed search.old (if is_passed
         then events (inside (items_of (S.definitions search.old)) levels) (items_of (S.definitions search.old) (meaning_text (meaning_view meaning.entry)))
         else []) search.new) }
-    ensures ready { IfOk result (λ is_passed. S.IsReady search.new) }
     ensures definitions { IfOk result (λ is_passed. S.definitions search.new ≡ S.definitions search.old) }
 {
     match meaning {
@@ -142,11 +142,10 @@ fn step_at_item<'a, S: Search<'a>>(
     levels: usize,
 ) -> Result<Step<'a>, AllocError>
     requires few { levels < 2 ^ 30 }
-    requires ready { S.IsReady search.old }
+    requires ready { IsReadyFor S.IsReady search.old (events (inside (items_of (S.definitions search.old)) levels) (item_view item ∷ [])) }
     requires is { IsOfLibrary (S.definitions search.old) (item_view item) }
-    ensures step { IfOk result (λ step. IsStep (PassesMore S.HasPassed) (StopsAt S.HasPassed S.IsSought) (S.definitions search.old) levels
+    ensures step { IfOk result (λ step. IsStep (Passes S.IsReady S.HasPassed) (StopsAt S.HasPassed S.IsSought) (S.definitions search.old) levels
         (item_view item.entry) step search.old search.new) }
-    ensures ready { IfOk result (λ step. S.IsReady search.new) }
     ensures definitions { IfOk result (λ step. S.definitions search.new ≡ S.definitions search.old) }
 {
     match item {
@@ -210,12 +209,11 @@ pub(crate) fn descend<'a, S: Search<'a>>(
     search: &mut S,
     pattern: &'a str,
 ) -> Result<Option<Place<'a>>, AllocError>
-    requires ready { S.IsReady search.old }
+    requires ready { S.IsReady search.old (tree (finite.get grok.now) pattern.now) }
     requires library { S.definitions search.old ≡ finite.get grok.now }
     requires begins { S.HasPassed search.old [] search.old }
     ensures found { IfOk result (λ found. FindsPlace S.HasPassed S.IsSought (finite.get grok.now) pattern.now
         found search.old search.new) }
-    ensures ready { IfOk result (λ found. S.IsReady search.new) }
     ensures definitions { IfOk result (λ found. S.definitions search.new ≡ S.definitions search.old) }
 {
     let mut around = Vec::new(grok.alloc());

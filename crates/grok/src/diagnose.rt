@@ -1,8 +1,9 @@
 //! Finds out what is wrong with a pattern, and where.
-ghost use Rattle.std.specs.Prelude.{◌≡◌, ◌≢◌, ◌-◌, ℕ, List, [], Some, None, IfOk, IfSome, MatchOption};
+ghost use Rattle.std.specs.Prelude.{◌≡◌, ◌≢◌, ◌-◌, ℕ, List, [], Some, None, IfOk, IfSome, MatchOption, length as len};
 ghost use Rattle.std.specs.FinMap as finite;
 ghost use Rattle.grok.specs.Tree.{tree as tree_of, first_structural};
 ghost use Rattle.grok.specs.Keys.{Clash as KeyClash, first_fault};
+ghost use Rattle.grok.specs.Expanded.{expanded};
 ghost use Rattle.grok.specs.ByteLocations.{HasByte};
 ghost use Rattle.grok.specs.steps.MeasureCache.{HasCorrectCache};
 ghost use Rattle.grok.specs.FaultLocations.{path_view};
@@ -143,7 +144,7 @@ fn locate_reason<'a>(
     }
 }
 
-/// Returns the diagnosis of a pattern without a fault, whose expanded text should have `length` bytes.
+/// Returns the diagnosis of a pattern without a fault, whose expanded text has `length` bytes.
 fn diagnose_refusal<'a>(
     measurer: Measurer<'a>,
     pattern: &'a str,
@@ -153,6 +154,8 @@ fn diagnose_refusal<'a>(
     requires some { pattern.now ≢ [] }
     requires clean { first_fault measurer.settings.with_alias_only
         (tree_of (finite.get measurer.settings.grok.now) pattern.now) ≡ None }
+    requires long { length ≡ len (expanded measurer.settings.with_alias_only
+        (tree_of (finite.get measurer.settings.grok.now) pattern.now)) }
     ensures found { IfOk result (FindsDiagnosis measurer.entry.settings.grok.now
         measurer.entry.settings.with_alias_only pattern.now) }
     ensures whole { IfOk result (λ found. IfSome found (IsWhole pattern.now)) }

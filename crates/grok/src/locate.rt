@@ -47,7 +47,7 @@ struct FaultSearch<'a> {
 impl<'a> Search<'a> for FaultSearch<'a> {
     ghost definitions = { λ search. finite.get search.measurer.settings.grok.now };
 
-    ghost IsReady = { λ search. HasCorrectCache search.measurer };
+    ghost IsReady = { λ search es. HasCorrectCache search.measurer };
 
     ghost HasPassed = { λ start es now. first_structural es ≡ None };
 

@@ -94,7 +94,7 @@ impl<'a> ByteSearch<'a> {
 impl<'a> Search<'a> for ByteSearch<'a> {
     ghost definitions = { λ search. finite.get search.measurer.settings.grok.now };
 
-    ghost IsReady = { λ search. HasCorrectCache search.measurer };
+    ghost IsReady = { λ search es. HasCorrectCache search.measurer };
 
     ghost HasPassed = { HasPassedBytes };
 

@@ -86,7 +86,7 @@ fn pass_uses(left: &mut u128, uses: u128) -> bool
 impl<'a> Search<'a> for UseSearch<'a, '_, '_> {
     ghost definitions = { λ search. finite.get search.settings.grok.now };
 
-    ghost IsReady = { CanSearch };
+    ghost IsReady = { λ search es. CanSearch search };
 
     ghost HasPassed = { HasPassedUses };
 

@@ -1,21 +1,22 @@
 //! Writes the text of a tree, and assigns its keys, in one reading.
-ghost use Rattle.std.specs.Prelude.{◌≡◌, List, [], ◌∷◌, ◌++◌, IfOk, OnOk, None, true};
-ghost use Rattle.std.specs.String.{string_bytes};
+ghost use Rattle.std.specs.Prelude.{◌≡◌, ◌≤◌, List, [], ◌∷◌, length, IfOk, OnOk, None, true};
+ghost use Rattle.std.specs.String.{string_bytes, string_capacity};
 ghost use Rattle.std.specs.FinMap as finite;
 ghost use Rattle.grok.specs.Tree as tree;
 ghost use Rattle.grok.specs.Tree.{first_structural, tree as tree_of};
 ghost use Rattle.grok.specs.Items.{label_view};
 ghost use Rattle.grok.specs.Expanded.{expanded};
-ghost use Rattle.grok.specs.steps.AssignedKeys.{CanAssign, HasKeys};
+ghost use Rattle.grok.specs.steps.AssignedKeys.{HasKeys};
 ghost use Rattle.grok.specs.steps.FaultSearches.{is_fault};
-ghost use Rattle.grok.specs.steps.Writes.{HasWritten};
+ghost use Rattle.grok.specs.steps.Searches.{IsReadyFor, Passes};
+ghost use Rattle.grok.specs.steps.Writes.{CanWrite, HasWritten};
 
 use crate::defs::definition::Definition;
 use crate::defs::items::Label;
 use crate::descend::{Search, descend};
 use crate::expand::events::Event;
 use crate::expand::key_assigner::KeyAssigner;
-use crate::generated_name::{CLOSE, UNNAMED, push_head};
+use crate::generated_name::{CLOSE, UNNAMED, put, put_head};
 use crate::settings::Settings;
 use std::alloc::AllocError;
 
@@ -39,17 +40,16 @@ impl Writer<'_> {
     /// Writes the start of a placeholder's group. If the placeholder captures, the group has a name,
     /// and the placeholder gets its key.
     fn open(&mut self, label: Label<'_>) -> Result<(), AllocError>
-        requires { CanAssign self.old.keys }
-        ensures written { OnOk result ((start : Writer) (before : List tree.Event) (meaning : tree.Meaning) →
-            HasWritten start before self.old →
-            HasWritten start (before ++ tree.Open (label_view label.entry) meaning ∷ []) self.new) }
-        ensures ready { OnOk result (CanAssign self.new.keys) }
+        requires { (meaning : tree.Meaning) → IsReadyFor CanWrite self.old (tree.Open (label_view label) meaning ∷ []) }
+        ensures written { OnOk result ((meaning : tree.Meaning) →
+            Passes CanWrite HasWritten self.old (tree.Open (label_view label.entry) meaning ∷ []) self.new) }
         ensures settings { OnOk result (self.new.settings ≡ self.old.settings) }
     {
         if !label.is_capturing(self.settings.with_alias_only) {
-            return self.text.push_str(UNNAMED);
+            put(&mut self.text, UNNAMED);
+            return Ok(());
         }
-        push_head(&mut self.text, self.keys.keys.len())?;
+        put_head(&mut self.text, self.keys.keys.len());
         self.keys.assign(label)
     }
 }
@@ -57,7 +57,7 @@ impl Writer<'_> {
 impl<'a> Search<'a> for Writer<'a> {
     ghost definitions = { λ writer. finite.get writer.settings.grok.now };
 
-    ghost IsReady = { λ writer. CanAssign writer.keys };
+    ghost IsReady = { CanWrite };
 
     ghost HasPassed = { HasWritten };
 
@@ -65,9 +65,9 @@ impl<'a> Search<'a> for Writer<'a> {
 
     fn pass_event(&mut self, event: Event<'a>) -> Result<bool, AllocError> {
         match event {
-            Event::Text(text) => self.text.push_str(text)?,
+            Event::Text(text) => put(&mut self.text, text),
             Event::Open(label, _) => self.open(label)?,
-            Event::Close => self.text.push_str(CLOSE)?,
+            Event::Close => put(&mut self.text, CLOSE),
             Event::Fault(_) => return Ok(false),
         }
         Ok(true)
@@ -84,7 +84,7 @@ impl<'a> Search<'a> for Writer<'a> {
 }
 
 /// Expands a pattern without a structural fault: writes its expanded text into `text`, which is
-/// empty, and assigns the keys and extracts of its capturing placeholders.
+/// empty and has room for it, and assigns the keys and extracts of its capturing placeholders.
 ///
 /// # Errors
 ///
@@ -96,6 +96,8 @@ pub(crate) fn write(
 ) -> Result<ExpandedPattern, AllocError>
     requires clean { first_structural (tree_of (finite.get settings.grok.now) pattern.now) ≡ None }
     requires empty { string_bytes text ≡ [] }
+    requires room { length (expanded settings.with_alias_only (tree_of (finite.get settings.grok.now) pattern.now))
+        ≤ string_capacity text }
     ensures text { IfOk result (λ out. string_bytes out.text ≡ expanded settings.entry.with_alias_only
         (tree_of (finite.get settings.entry.grok.now) pattern.now)) }
     ensures keys { IfOk result (λ out. HasKeys settings.entry.with_alias_only

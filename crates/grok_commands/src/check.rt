@@ -1,13 +1,13 @@
 //! The answers of `check`.
-ghost use Rattle.std.specs.Prelude.{◌≡◌, ◌⊎◌, map, OnOk, IfOk, IfErr, IsErrOf, string_bytes};
+ghost use Rattle.std.specs.Prelude.{◌≡◌, ◌⊎◌, ℕ, List, length, map, OnOk, IfOk, IfErr, IsErrOf, string_bytes};
 ghost use Rattle.std.specs.FinMap as finite;
 ghost use Rattle.std.specs.Io.KnownBytes.{append_known};
 ghost use Rattle.grok_lines.specs.Errors.{IsWriteError};
 ghost use Rattle.grok_commands.specs.Answers.{HasAnswered, HasAnsweredFirst};
-ghost use Rattle.grok.specs.Measured.{measure_view};
+ghost use Rattle.grok.specs.Measured.{Measured, measure_view};
 ghost use Rattle.grok_commands.specs.Library.{library_of};
 ghost use Rattle.grok_commands.specs.Commands.{texts};
-ghost use Rattle.grok_commands.specs.SizeTexts.{placeholder_of, IsMeasuredText, IsMeasuredLine, IsCheckLine};
+ghost use Rattle.grok_commands.specs.SizeTexts.{placeholder_of, measured_in, IsMeasuredText, IsMeasuredLine, IsCheckLine};
 
 use crate::definitions::Definitions;
 use crate::fault::ToolFault;
@@ -76,6 +76,50 @@ fn write_line(
     write!(line, "{name}: {text}\n")
 }
 
+/// Measures patterns in their order.
+fn measures_of<'a>(
+    alloc: Global,
+    alias_only: bool,
+    grok: &'a Grok,
+    patterns: &'a [String],
+) -> Result<Vec<Measure<'a>>, AllocError>
+    ensures { IfOk result (λ measures. map measure_view measures.items
+        ≡ map (measured_in grok.now alias_only) (map string_bytes patterns.now)) }
+{
+    let texts = texts_in(alloc, patterns)?;
+    grok.measure_all(&texts, alias_only)
+}
+
+/// Adds a line for each name and its measure to `held`, and sends what is held to `output` whenever
+/// it is long. What isn't sent yet stays in `held`.
+fn hold_lines<W: Write>(
+    alloc: Global,
+    names: &[&str],
+    measures: &[Measure<'_>],
+    held: &mut Vec<u8>,
+    output: &mut W,
+) -> Result<(), LinesError>
+    requires { length measures.now ≡ length names.now }
+    ensures ok { OnOk result ((sizes : List ℕ → Measured)
+        → map measure_view measures.now ≡ map sizes (texts names.now)
+        → HasAnswered (λ name. IsMeasuredLine (sizes name) name) (texts names.now)
+        (append_known (W.contents output.old) held.old.items)
+        (append_known (W.contents output.new) held.new.items)) }
+    ensures memory { IsErrOf result LinesError.Memory → (sizes : List ℕ → Measured)
+        → map measure_view measures.now ≡ map sizes (texts names.now)
+        → HasAnsweredFirst (λ name. IsMeasuredLine (sizes name) name) (texts names.now)
+        (append_known (W.contents output.old) held.old.items)
+        (append_known (W.contents output.new) held.new.items) }
+    ensures kind { IfErr result (λ error. (error ≡ LinesError.Memory) ⊎ IsWriteError error) }
+{
+    let mut line = String::new(alloc);
+    'lines: for (index, name) in names.iter().enumerate() {
+        write_line(alloc, &mut line, name, measures[index])?;
+        hold(held, output, line.as_bytes())?;
+    }
+    Ok(())
+}
+
 /// Adds the line of each definition of the library to `held`, and sends what is held to `output`
 /// whenever it is long. What isn't sent yet stays in `held`.
 fn hold_definitions<W: Write>(
@@ -99,14 +143,8 @@ fn hold_definitions<W: Write>(
     let grok = definitions.library(alloc)?;
     let names = names_in(alloc, &grok)?;
     let patterns = placeholders(alloc, &names)?;
-    let texts = texts_in(alloc, &patterns)?;
-    let measures = grok.measure_all(&texts, alias_only)?;
-    let mut line = String::new(alloc);
-    'names: for (index, name) in names.iter().enumerate() {
-        write_line(alloc, &mut line, name, measures[index])?;
-        hold(held, output, line.as_bytes())?;
-    }
-    Ok(())
+    let measures = measures_of(alloc, alias_only, &grok, &patterns)?;
+    hold_lines(alloc, &names, &measures, held, output)
 }
 
 /// Sends a line for each definition, the default ones among them, in the byte order of the names:

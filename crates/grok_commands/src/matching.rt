@@ -6,12 +6,13 @@ ghost use Rattle.grok.specs.declared.errors.error.Error.{Error};
 ghost use Rattle.grok_commands.specs.Views.{request_view};
 ghost use Rattle.grok_lines.specs.Traffic.{traffic};
 ghost use Rattle.grok_lines.specs.Streams.{answers_of, HasAnsweredInput, HasAnsweredInputThen, HasAnsweredEnded, HasAnsweredSome};
+ghost use Rattle.grok_commands.specs.LineTexts.{line_answer};
 ghost use Rattle.grok_commands.specs.Runs.{answer_by, IsCompiled, IsRefused, HasPattern};
 
 use crate::command::Request;
 use crate::fault::ToolFault;
 use crate::line_answers::{LineFormat, MatchAnswers};
-use grok::Pattern;
+use grok::{HasMatcher, Pattern, PatternOf};
 use grok_lines::{LineAnswers, answer_lines};
 use std::alloc::Global;
 use std::io::{Read, Write};
@@ -69,6 +70,40 @@ fn answer_each<A: LineAnswers, R: Read, W: Write>(
     Ok(answer_lines(alloc, answers, input, output)?)
 }
 
+/// Matches each line of the input against a pattern, and sends the answers.
+fn answer_by_pattern<'p, E: HasMatcher<'p>, R: Read, W: Write>(
+    alloc: Global,
+    format: LineFormat,
+    pattern: &'p PatternOf<E>,
+    input: &mut R,
+    output: &mut W,
+) -> Result<(), ToolFault>
+    ensures ok { OnOk result (HasAnsweredInput (flat_map (line_answer format (E.finds pattern.now.engine) pattern.now.keys))
+        (traffic (R.remaining input.old) (R.remaining input.new)
+        (W.contents output.old) (W.contents output.new))) }
+    ensures memory { IsErrOf result ToolFault.Memory
+        → (Keeps (R.remaining input.old) (R.remaining input.new)
+        × Keeps (W.contents output.old) (W.contents output.new))
+        ⊎ HasAnsweredSome (flat_map (line_answer format (E.finds pattern.now.engine) pattern.now.keys))
+        (traffic (R.remaining input.old) (R.remaining input.new)
+        (W.contents output.old) (W.contents output.new)) }
+    ensures read { IsErrOf result ToolFault.Read
+        → HasAnsweredEnded (flat_map (line_answer format (E.finds pattern.now.engine) pattern.now.keys))
+        (traffic (R.remaining input.old) (R.remaining input.new)
+        (W.contents output.old) (W.contents output.new)) }
+    ensures kind { IfErr result
+        (λ fault. (fault ≡ ToolFault.Memory) ⊎ ((fault ≡ ToolFault.Read)
+        ⊎ (fault ≡ ToolFault.Write))) }
+{
+    let mut answers = MatchAnswers {
+        alloc,
+        format,
+        matcher: pattern.matcher()?,
+        pairs: Vec::new(alloc),
+    };
+    answer_each(alloc, &mut answers, input, output)
+}
+
 /// Matches each line of the input against the pattern of a request, and sends the answers.
 pub fn answer_input<R: Read, W: Write>(
     alloc: Global,
@@ -99,11 +134,5 @@ pub fn answer_input<R: Read, W: Write>(
     ensures usage { result ≢ Err ToolFault.Usage }
 {
     let pattern = compile(alloc, request)?;
-    let mut answers = MatchAnswers {
-        alloc,
-        format,
-        matcher: pattern.matcher()?,
-        pairs: Vec::new(alloc),
-    };
-    answer_each(alloc, &mut answers, input, output)
+    answer_by_pattern(alloc, format, &pattern, input, output)
 }

@@ -8,7 +8,7 @@ use Rattle.grok.specs.FaultLocations.{IsPieceAt, path_view}
 use Rattle.grok.specs.FaultLocations as location
 use Rattle.grok.specs.ByteLocations.{IsOwnEvent, Closing, IsEventAt, Here, Inside}
 use Rattle.grok.specs.steps.PlacedItems.{HasRead, left_in}
-use Rattle.grok.specs.steps.Searches.{Passing, Seeking, PassesMore, StopsAt}
+use Rattle.grok.specs.steps.Searches.{Needing, Passing, Seeking, IsReadyFor, StaysReady, Passes, StopsAt}
 use Rattle.grok.specs.steps.Descents.{Stopping, StopsInItem, EntersItem, IsEventStep, IsStep, step_of, path_of, IsFoundAt}
 use Rattle.grok.specs.declared.defs.placed_items.PlacedItem.{PlacedItem}
 use Rattle.grok.specs.declared.defs.placed_items.PlacedItems.{PlacedItems}
@@ -36,12 +36,37 @@ snoc_same (z ∷ xs) (w ∷ ys) x y e =
 
 -- ---- passing over more events
 
-module _ {S : Type 0} (passed : Passing S) where
-  pub passes_none : (at : S) → PassesMore passed at [] at
-  passes_none at start before p = subst (λ es. passed start es at) (sym (append-nil before)) p
+module _ {S : Type 0} (ready : Needing S) (passed : Passing S) where
+  pub passes_none : (at : S) → Passes ready passed at [] at
+  passes_none at = (λ start before p. subst (λ es. passed start es at) (sym (append-nil before)) p, λ rest is. is)
 
-  pub passes_both : (old mid new : S) (es fs : List Event) → PassesMore passed old es mid → PassesMore passed mid fs new → PassesMore passed old (es ++ fs) new
-  passes_both old mid new es fs front back start before p = subst (λ all. passed start all new) (append_assoc before es fs) (back start (before ++ es) (front start before p))
+  pub passes_both : (old mid new : S) (es fs : List Event) → Passes ready passed old es mid → Passes ready passed mid fs new → Passes ready passed old (es ++ fs) new
+  passes_both old mid new es fs front back = (
+    λ start before p. subst (λ all. passed start all new) (append_assoc before es fs) (back.0 start (before ++ es) (front.0 start before p)),
+    λ rest is. back.1 rest (front.1 (fs ++ rest) (subst (ready old) (append_assoc es fs rest) is)),
+  )
+
+-- ---- the events that remain
+
+module _ {S : Type 0} (ready : Needing S) where
+  pub ready_first : (at : S) (es fs : List Event) → IsReadyFor ready at (es ++ fs) → IsReadyFor ready at es
+  ready_first at es fs r = record { rest = fs ++ r.rest; is = subst (ready at) (append_assoc es fs r.rest) r.is }
+
+  pub ready_then : (old new : S) (es fs : List Event) → IsReadyFor ready old (es ++ fs) → StaysReady ready old es new → IsReadyFor ready new fs
+  ready_then old new es fs r stays = record { rest = r.rest; is = stays (fs ++ r.rest) (subst (ready old) (append_assoc es fs r.rest) r.is) }
+
+  pub ready_whole : (at : S) (es : List Event) → ready at es → IsReadyFor ready at es
+  ready_whole at es is = record { rest = []; is = subst (ready at) (sym (append-nil es)) is }
+
+  -- a placeholder comes next
+  module _ (stored : Definitions) (levels : ℕ) (label : Label) (meaning : Meaning) (at : S) (r : IsReadyFor ready at (events (inside (items_of stored) levels) (PlaceholderItem label meaning ∷ []))) where
+    pub ready_open : IsReadyFor ready at (Open label meaning ∷ [])
+    ready_open = ready_first at (Open label meaning ∷ []) (inside (items_of stored) levels (meaning_text meaning) ++ []) r
+
+    pub ready_opened : (mid : S) → StaysReady ready at (Open label meaning ∷ []) mid → IsReadyFor ready mid (inside (items_of stored) levels (meaning_text meaning))
+    ready_opened mid stays =
+        let own = inside (items_of stored) levels (meaning_text meaning) in
+        ready_first mid own [] (ready_then at mid (Open label meaning ∷ []) (own ++ []) r stays)
 
 -- ---- the state of the search
 
@@ -288,20 +313,68 @@ module _ {S : Type 0} (passes : Passing S) (stops : Stopping S) (stored : Defini
                 stopped = subst (λ s. stops s Close) (sym same) stopped;
               })))
 
+-- ---- the search can go on
+
+module _ {S : Type 0} (ready : Needing S) (passed : Passing S) (stored : Definitions) where
+  abbrev at_levels : ℕ → List Item → List Event
+  at_levels levels items = events (inside (items_of stored) levels) items
+
+  -- the items of a text before an item are passed over
+  ready_item : (levels : ℕ) (text : List ℕ) (before : List Item) (from to : ℕ) (item : Item) (start mid : S) → IsPieceAt stored text before from to item
+      → IsReadyFor ready start (events (inside (items_of stored) levels) (items_of stored text)) → StaysReady ready start (events (inside (items_of stored) levels) before) mid
+      → IsReadyFor ready mid (events (inside (items_of stored) levels) (item ∷ []))
+  ready_item levels text before from to item start mid stands r stays =
+      let inner = inside (items_of stored) levels in
+      let front = events inner before in
+      let whole : events inner (items_of stored text) ≡ front ++ (events inner (item ∷ []) ++ events inner stands.after) =
+      ap (events inner) stands.items ∙ events-append inner before (item ∷ stands.after) ∙ ap (λ es. front ++ es) (events-append inner (item ∷ []) stands.after) in
+      ready_first ready mid (events inner (item ∷ [])) (events inner stands.after) (ready_then ready start mid front (events inner (item ∷ []) ++ events inner stands.after) (subst (IsReadyFor ready start) whole r) stays)
+
+  -- the definition of a placeholder is entered
+  ready_within : (opened : Opened) (levels : ℕ) (start within : S) (before : List Item) (label : Label) (meaning : Meaning) → IsOpened (Passes ready passed) stored opened levels start within before label meaning
+      → IsReadyFor ready start (events (inside (items_of stored) (suc levels)) (items_of stored opened.items.text.now))
+      → IsReadyFor ready within (events (inside (items_of stored) levels) (items_of stored (meaning_text meaning)) ++ Close ∷ [])
+  ready_within opened levels start within before label meaning o r =
+      let inner = inside (items_of stored) (suc levels) in
+      let front = events inner before in
+      let own = at_levels levels (items_of stored (meaning_text meaning)) ++ Close ∷ [] in
+      let rest = events inner o.stands.after in
+      let whole : events inner (items_of stored opened.items.text.now) ≡ (front ++ Open label meaning ∷ []) ++ (own ++ rest) =
+      ap (events inner) o.stands.items ∙ events-append inner before (PlaceholderItem label meaning ∷ o.stands.after) ∙ sym (append_assoc front (Open label meaning ∷ []) (own ++ rest)) in
+      ready_first ready within own rest (ready_then ready start within (front ++ Open label meaning ∷ []) (own ++ rest) (subst (IsReadyFor ready start) whole r) o.passed.1)
+
+  module _ (pattern : List ℕ) (old : S) (begins : ready old (tree stored pattern)) where
+    ready_way : (around : List Opened) (levels : ℕ) (text : List ℕ) (start : S) → IsWayTo (Passes ready passed) stored pattern old around levels text start
+        → IsReadyFor ready start (events (inside (items_of stored) levels) (items_of stored text))
+    unfolding tree
+    ready_way around levels text start Outermost = ready_whole ready old (at_levels deepest (items_of stored pattern)) begins
+    ready_way around levels text start (Within outside _ opened _ before _ items label meaning is way o) =
+        ready_first ready start (at_levels levels (items_of stored (meaning_text meaning))) (Close ∷ []) (ready_within opened levels before start items label meaning o (ready_way outside (suc levels) opened.items.text.now before way))
+
+    module _ (around : List Opened) (inner : PlacedItems) (mid : S) (d : IsDescending (Passes ready passed) stored pattern old around inner mid) where
+      pub descending_ready : (from to : ℕ) (item : Item) → IsPieceAt stored inner.text.now d.before from to item → IsReadyFor ready mid (events (inside (items_of stored) d.levels) (item ∷ []))
+      descending_ready from to item stands = ready_item d.levels inner.text.now d.before from to item d.start mid stands (ready_way around d.levels inner.text.now d.start d.way) d.passed.1
+
+      pub closes_ready : (sought : Seeking S) → items_of stored inner.text.now ≡ d.before → (outside : List Opened) (outer : Opened) → around ≡ outside ++ outer ∷ [] → IsReadyFor ready mid (Close ∷ [])
+      closes_ready sought over outside outer is =
+          let k = closing (Passes ready passed) (StopsAt passed sought) stored (passes_both ready passed) pattern old around inner mid d over outside outer is in
+          ready_then ready k.within mid (at_levels k.levels (items_of stored (meaning_text k.meaning))) (Close ∷ [])
+          (ready_within outer k.levels k.start k.within k.before k.label k.meaning k.opened (ready_way outside (suc k.levels) outer.items.text.now k.start k.way)) k.passed.1
+
 -- ---- the place in the tree
 
-module _ {S : Type 0} (passed : Passing S) (sought : Seeking S) (stored : Definitions) (pattern : List ℕ) (old new : S) (begins : passed old [] old) where
-  pub all_passed : PassesMore passed old (tree stored pattern) new → passed old (tree stored pattern) new
-  all_passed more = more old [] begins
+module _ {S : Type 0} (ready : Needing S) (passed : Passing S) (sought : Seeking S) (stored : Definitions) (pattern : List ℕ) (old new : S) (begins : passed old [] old) where
+  pub all_passed : Passes ready passed old (tree stored pattern) new → passed old (tree stored pattern) new
+  all_passed more = more.0 old [] begins
 
   pub found_at : (around : List Opened) (text : List ℕ) (placed : PlacedItem) (place : Place)
-      → IsStoppedAt (PassesMore passed) (StopsAt passed sought) stored deepest pattern (path_of around) text placed.range.start placed.range.end (item_view placed.item) old new
+      → IsStoppedAt (Passes ready passed) (StopsAt passed sought) stored deepest pattern (path_of around) text placed.range.start placed.range.end (item_view placed.item) old new
       → path_view place.location.path.items ≡ path_of around → place.location.text.now ≡ text → (place.location.range ≡ placed.range) × (place.item ≡ placed.item)
       → IsFoundAt passed sought stored pattern place old new
   unfolding tree
   found_at around text placed place u path_is text_is (range_is, item_is) =
       let (after, cut) = event_follows stored deepest pattern (path_of around) text placed.range.start placed.range.end (item_view placed.item) u.before u.event u.stands in
-      let all : passed old u.before new = u.passed old [] begins in
+      let all : passed old u.before new = u.passed.0 old [] begins in
       record {
         before = u.before;
         event = u.event;

@@ -1,17 +1,21 @@
 -- What is written for the events of a tree is their expanded text, and each of their capturing placeholders has its key.
-use Rattle.std.proofs.Common.{◌≡◌, ℕ, suc, ◌+◌, Bool, true, false, cond, List, [], ◌∷◌, ◌++◌, length, Option, Some, None, refl, sym, ◌∙◌, ap, subst, arith, add-zero, append-nil, append_assoc}
-use Rattle.std.specs.String.{string_bytes}
+use Rattle.std.proofs.Common.{◌≡◌, ℕ, suc, ◌+◌, ◌≤◌, Bool, true, false, cond, List, [], ◌∷◌, ◌++◌, length, Option, Some, None, refl, sym, ◌∙◌, ap, subst, arith, add-zero, append-nil, append_assoc}
+use Rattle.std.specs.String.{string_bytes, string_len, string_capacity}
 use Rattle.grok.specs.Tree.{Definitions, Fault, Label, Meaning, Event, Text, Open, Close, FaultEvent, first_structural, tree}
 use Rattle.grok.specs.Keys.{is_capturing, capturing}
 use Rattle.grok.specs.GeneratedNames.{named_head, unnamed_head}
-use Rattle.grok.specs.Expanded.{text_after}
+use Rattle.grok.specs.Expanded.{text_after, expanded}
 use Rattle.grok.specs.steps.CapturedSoFar.{after}
-use Rattle.grok.specs.steps.AssignedKeys.{HasAssigned}
+use Rattle.grok.specs.steps.AssignedKeys.{HasAssigned, CanAssign}
+use Rattle.grok.specs.steps.Searches.{IsReadyFor, StaysReady}
 use Rattle.grok.specs.steps.Descents.{FindsPlace}
 use Rattle.grok.specs.steps.FaultSearches.{is_fault}
-use Rattle.grok.specs.steps.Writes.{HasWritten}
+use Rattle.grok.specs.steps.Writes.{CanWrite, HasWritten}
 use Rattle.grok.specs.declared.descend.Place.{Place}
+use Rattle.grok.specs.declared.settings.Settings.{Settings}
+use Rattle.grok.specs.declared.expand.key_assigner.KeyAssigner.{KeyAssigner}
 use Rattle.grok.specs.declared.write.Writer.{Writer}
+use Rattle.grok.proofs.Texts.RoomIsLeft.{room_first, room_after}
 use Rattle.grok.proofs.Sizes.SizeIsThatOfTree.{or_else, first_structural-append}
 use Rattle.grok.proofs.Keys.FirstFaultAndLastExtract.{after-append}
 use Rattle.grok.proofs.Keys.KeysAreAssigned.{length_after, keys_counted}
@@ -81,7 +85,50 @@ module _ (start : Writer) (before : List Event) (old : Writer) (h : HasWritten s
         written_more (Open label meaning) (named_head (length old.keys.keys.items)) is (rw captures (ap named_head many ∙ sym (append-nil (named_head (length (capturing alias_only before))))))
         (rw captures (assigns (after alias_only [] before) h.keys))
 
+-- ---- room for the events that remain
+
+-- there is room for the text of the next event
+pub room_for : (writer : Writer) (event : Event) (added more : List ℕ) (r : IsReadyFor CanWrite writer (event ∷ [])) → text_after writer.settings.with_alias_only (length writer.keys.keys.items) (event ∷ r.rest) ≡ added ++ more
+    → string_len writer.text + length added ≤ string_capacity writer.text
+room_for writer event added more r is =
+    room_first writer.text added more (subst (λ bs. string_len writer.text + length bs ≤ string_capacity writer.text) is r.is.room)
+
+module _ (old new : Writer) (same : new.settings ≡ old.settings) (added : List ℕ) (bytes : string_bytes new.text ≡ string_bytes old.text ++ added) (grows : string_capacity old.text ≤ string_capacity new.text) (event : Event) where
+  stays : CanAssign new.keys → ((rest : List Event) → text_after old.settings.with_alias_only (length old.keys.keys.items) (event ∷ rest) ≡ added ++ text_after old.settings.with_alias_only (length new.keys.keys.items) rest)
+      → StaysReady CanWrite old (event ∷ []) new
+  stays assigned splits rest can =
+      let count = length new.keys.keys.items in
+      let left = text_after old.settings.with_alias_only count rest in
+      let fits = room_after old.text new.text added left bytes grows (subst (λ bs. string_len old.text + length bs ≤ string_capacity old.text) (splits rest) can.room) in
+      record { assigned = assigned; room = subst (λ (settings : Settings). string_len new.text + length (text_after settings.with_alias_only count rest) ≤ string_capacity new.text) (sym same) fits }
+
+  pub stays_keyless : new.keys ≡ old.keys → ((rest : List Event) → text_after old.settings.with_alias_only (length old.keys.keys.items) (event ∷ rest) ≡ added ++ text_after old.settings.with_alias_only (length old.keys.keys.items) rest)
+      → StaysReady CanWrite old (event ∷ []) new
+  stays_keyless keys splits rest can =
+      stays (subst CanAssign (sym keys) can.assigned) (λ rest. splits rest ∙ ap (λ (keys : KeyAssigner). added ++ text_after old.settings.with_alias_only (length keys.keys.items) rest) (sym keys)) rest can
+
+  pub stays_keyed : (label : Label) → ((earlier : List Label) → HasAssigned old.keys earlier → HasAssigned new.keys (label ∷ earlier))
+      → ((rest : List Event) → text_after old.settings.with_alias_only (length old.keys.keys.items) (event ∷ rest) ≡ added ++ text_after old.settings.with_alias_only (suc (length old.keys.keys.items)) rest)
+      → StaysReady CanWrite old (event ∷ []) new
+  stays_keyed label assigns splits rest can =
+      let a = can.assigned in
+      let shows = assigns a.before a.shows in
+      let more : suc (length old.keys.keys.items) ≡ length new.keys.keys.items = ap suc (keys_counted old.keys a.before a.shows) ∙ sym (keys_counted new.keys (label ∷ a.before) shows) in
+      stays (record { before = label ∷ a.before; shows = shows }) (λ rest. splits rest ∙ ap (λ n. added ++ text_after old.settings.with_alias_only n rest) more) rest can
+
 -- ---- the whole
+
+-- nothing is written yet, and there is room for the whole tree
+pub room_at_first : (stored : Definitions) (pattern : List ℕ) (start : Writer) → HasAssigned start.keys [] → string_bytes start.text ≡ []
+    → length (expanded start.settings.with_alias_only (tree stored pattern)) ≤ string_capacity start.text → CanWrite start (tree stored pattern)
+room_at_first stored pattern start assigned empty room =
+    let none : 0 ≡ length start.keys.keys.items = sym (keys_counted start.keys [] assigned) in
+    let whole = tree stored pattern in
+    let fits : string_len start.text + length (text_after start.settings.with_alias_only 0 whole) ≤ string_capacity start.text = omega (arith, room, start.text.bytes.ok.0, ap length empty) in
+    record {
+      assigned = record { before = []; shows = assigned };
+      room = subst (λ n. string_len start.text + length (text_after start.settings.with_alias_only n whole) ≤ string_capacity start.text) none fits;
+    }
 
 -- in a tree without a fault, no event stops the writer
 pub all_written : (stored : Definitions) (pattern : List ℕ) (found : Option Place) (start now : Writer) → first_structural (tree stored pattern) ≡ None

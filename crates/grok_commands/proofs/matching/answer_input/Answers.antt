@@ -1,60 +1,22 @@
-use Rattle.std.proofs.Common.{◌≡◌, ◌⊎◌, inl, inr, ℕ, List, flat_map, IfErr, subst}
+use Rattle.std.proofs.Common.{◌≡◌, ◌⊎◌, inl, inr, IfErr, subst}
 use Rattle.std.proofs.lemmas.Result.{on_ok_weaker}
-use Rattle.std.specs.Io.KnownBytes.{Appends}
-use Rattle.grok_lines.specs.Lines.{lines_of, ended_lines_of}
-use Rattle.grok_lines.specs.Traffic.{Traffic, traffic}
-use Rattle.grok_lines.specs.Streams.{answers_of, HasAnsweredInput, HasAnsweredInputThen, HasAnsweredEnded, HasAnsweredSome}
-use Rattle.grok_lines.proofs.AnswersAreNumberedOn.{answers_by_lines_alone}
-use Rattle.grok_commands.specs.Runs.{answer_by}
 use Rattle.grok_commands.specs.declared.fault.ToolFault.{ToolFault}
 use Rattle.grok_commands.specs.declared.fault.ToolFault.TheVariants.{Memory, Read, Write}
 use Rattle.grok_commands.proofs.matching.answer_input.Goals as goal
 
--- answers that don't depend on how many lines came before
-input_alone : (f : List ℕ → List ℕ) (later : ℕ → List ℕ → List ℕ) (t : Traffic) → HasAnsweredInputThen (λ n. f) later t → HasAnsweredInput (flat_map f) t
-input_alone f later t (bytes, read, end, written, next) =
-    (bytes, read, end, subst (λ (v : List ℕ). Appends t.written_old t.written_new v) (answers_by_lines_alone f (lines_of bytes)) written)
-
-ended_alone : (f : List ℕ → List ℕ) (t : Traffic) → HasAnsweredEnded (answers_of (λ n. f)) t → HasAnsweredEnded (flat_map f) t
-ended_alone f t (bytes, read, written) =
-    (bytes, read, subst (λ (v : List ℕ). Appends t.written_old t.written_new v) (answers_by_lines_alone f (ended_lines_of bytes)) written)
-
-some_alone : (f : List ℕ → List ℕ) (t : Traffic) → HasAnsweredSome (answers_of (λ n. f)) t → HasAnsweredSome (flat_map f) t
-some_alone f t (bytes, read, (sent, unsent, are, written)) =
-    (bytes, read, (sent, unsent, are, subst (λ (v : List ℕ). Appends t.written_old t.written_new v) (answers_by_lines_alone f sent) written))
-
 pub returns-clause-ok : goal.returns-clause-ok
 returns-clause-ok g c =
-    let t = traffic (g.R.Read.remaining c.args.input.now) (g.R.Read.remaining c.answer_each.new.input) (g.W.Write.contents c.args.output.now) (g.W.Write.contents c.answer_each.new.output) in
-    on_ok_weaker c.answer_each.result
-    (λ said. (
-      c.in_ok-pattern.pattern,
-      c.in_ok-pattern.ensures.ok,
-      subst (λ pattern. HasAnsweredInput (flat_map (answer_by c.args.format pattern)) t) c.in_ok-matcher.ensures
-          (input_alone (answer_by c.args.format c.in_ok-matcher.field-0) _ t said),
-    ))
-    c.answer_each.ensures.ok
+    on_ok_weaker c.answer_by_pattern.result (λ said. (c.in_ok-pattern.pattern, c.in_ok-pattern.ensures.ok, said)) c.answer_by_pattern.ensures.ok
 
 pub returns-clause-pattern : goal.returns-clause-pattern
 returns-clause-pattern g c error is =
-    let kind = subst (λ r. IfErr r (λ (fault : ToolFault). (fault ≡ Memory) ⊎ ((fault ≡ Read) ⊎ (fault ≡ Write)))) is c.answer_each.ensures.kind in
+    let kind = subst (λ r. IfErr r (λ (fault : ToolFault). (fault ≡ Memory) ⊎ ((fault ≡ Read) ⊎ (fault ≡ Write)))) is c.answer_by_pattern.ensures.kind in
     elim kind [ inl memory ↦ cc | inr device ↦ elim device [ inl read ↦ cc | inr write ↦ cc ] ]
 
 pub returns-clause-memory : goal.returns-clause-memory
 returns-clause-memory g c h =
-    let t = traffic (g.R.Read.remaining c.args.input.now) (g.R.Read.remaining c.answer_each.new.input) (g.W.Write.contents c.args.output.now) (g.W.Write.contents c.answer_each.new.output) in
-    inr (
-      c.in_ok-pattern.pattern,
-      c.in_ok-pattern.ensures.ok,
-      subst (λ pattern. HasAnsweredSome (flat_map (answer_by c.args.format pattern)) t) c.in_ok-matcher.ensures
-          (some_alone (answer_by c.args.format c.in_ok-matcher.field-0) t (c.answer_each.ensures.memory h)),
-    )
+    elim (c.answer_by_pattern.ensures.memory h) [ inl kept ↦ inl kept | inr some ↦ inr (c.in_ok-pattern.pattern, c.in_ok-pattern.ensures.ok, some) ]
 
 pub returns-clause-read : goal.returns-clause-read
 returns-clause-read g c h =
-    let t = traffic (g.R.Read.remaining c.args.input.now) (g.R.Read.remaining c.answer_each.new.input) (g.W.Write.contents c.args.output.now) (g.W.Write.contents c.answer_each.new.output) in (
-      c.in_ok-pattern.pattern,
-      c.in_ok-pattern.ensures.ok,
-      subst (λ pattern. HasAnsweredEnded (flat_map (answer_by c.args.format pattern)) t) c.in_ok-matcher.ensures
-          (ended_alone (answer_by c.args.format c.in_ok-matcher.field-0) t (c.answer_each.ensures.read h)),
-    )
+    (c.in_ok-pattern.pattern, c.in_ok-pattern.ensures.ok, c.answer_by_pattern.ensures.read h)

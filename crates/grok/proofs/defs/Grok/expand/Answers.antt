@@ -66,6 +66,11 @@ returns-in_err-expand_clean-in-Size c =
     expansion_without_memory (expansion_of c.args.self.now c.args.with_alias_only c.args.pattern.now)
     (some_bytes c.args.pattern.now (sym c.is_empty.ensures ∙ c.if-is_empty.false)) c.from_residual-in_err-expand_clean-in-Size.result c.from_residual-in_err-expand_clean-in-Size.ensures.1
 
+pub expand_clean-requires-clause-long : goal.expand_clean-requires-clause-long
+expand_clean-requires-clause-long c =
+    let events : List Event = tree (finite.get c.args.self.now) c.args.pattern.now in
+    (sized_is c.args.with_alias_only events c.in-Size.length c.in-Size.groups c.in-Size.nesting (sym (ap measure_view c.in-Size.is) ∙ c.in_ok-found.ensures.counted.answer)).1
+
 pub expand_clean-requires-clause-clean : goal.expand_clean-requires-clause-clean
 expand_clean-requires-clause-clean c =
     let events : List Event = tree (finite.get c.args.self.now) c.args.pattern.now in

@@ -17,6 +17,6 @@ returns-in-Ok-clause-passed c =
     let mid : ByteSearch = record { measurer = c.size_of_definition.new.self; byte = old.byte; before = old.before } in
     let one_more : c.args.levels + 1 ≡ suc c.args.levels = omega arith in
     let size : IsSizeOf alias_only c.in-Ok.size es = definition_size alias_only resolve c.args.levels text c.in-Ok.size (size_or_fault alias_only resolve (suc c.args.levels) text) refl
-    (rw (c.in-Ok.is, one_more) at (c.in_ok-size.ensures.size c.requires.ready c.requires.is)) in
+    (rw (c.in-Ok.is, one_more) at (c.in_ok-size.ensures.size c.requires.ready.is c.requires.is)) in
     let same = c.in_ok-size.ensures.settings in
     passed_if old mid c.pass_size.new.self c.pass_size.result es same refl refl (λ passed. c.pass_size.ensures.passed passed es (rw same size)) c.pass_size.ensures.same

@@ -13,7 +13,7 @@ pub returns-in-Some-clause-passed : goal.returns-in-Some-clause-passed
 returns-in-Some-clause-passed c =
     let self = c.args.self.now in
     let part = c.in-Some.part.now in
-    let known = c.requires.ready.known in
+    let known = c.requires.ready.is.known in
     let left = c.pass_uses.new.left in
     let new : UseSearch = record { settings = self.settings; parts = self.parts; counts = self.counts; base = self.base; left = left } in
     let text = c.args._definition.now in
@@ -25,13 +25,13 @@ returns-in-Some-clause-passed c =
     passed_if self new c.pass_uses.result es refl refl
     (λ passed.
     let fewer : c.unwrap_or-uses.result.times + left ≡ self.left = c.pass_uses.ensures.passed passed in
-    let low : counted.times < 2 ^ 64 - 1 = omega (arith, fewer, times, c.requires.ready.low) in
+    let low : counted.times < 2 ^ 64 - 1 = omega (arith, fewer, times, c.requires.ready.is.low) in
     let uses : how_often (capturing self.settings.with_alias_only es) self.base.now ≡ counted.times =
     part_uses self.settings known.done text part c.args.levels self.base.now self.counts.now (c.in-Some.ensures.part self.settings known text c.requires.is)
-    (none_left part.stop c.is_none.result c.is_none.ensures c.if-is_none.true) c.if-part-levels.true c.requires.ready.counted low in
+    (none_left part.stop c.is_none.result c.is_none.ensures c.if-is_none.true) c.if-part-levels.true c.requires.ready.is.counted low in
     let whole : how_often (capturing self.settings.with_alias_only es) self.base.now + left ≡ self.left = omega (arith, uses, times, fewer) in
     whole)
     (λ stopped. (c.pass_uses.ensures.stopped stopped).1)
 
 pub returns-in-Some-clause-ready : goal.returns-in-Some-clause-ready
-returns-in-Some-clause-ready c = goes_on c.args.self.now c.pass_uses.new.left c.pass_uses.ensures.less c.requires.ready
+returns-in-Some-clause-ready c rest ready = goes_on c.args.self.now c.pass_uses.new.left c.pass_uses.ensures.less ready

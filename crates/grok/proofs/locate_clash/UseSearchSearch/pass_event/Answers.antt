@@ -25,4 +25,4 @@ pub returns-in-Fault-clause-passed : goal.returns-in-Fault-clause-passed
 returns-in-Fault-clause-passed c passed start before p = rw c.in-Fault.is (passes_unused c.args.self.now (FaultEvent (fault_view c.in-Fault.field-0) ∷ []) refl start before p)
 
 pub returns-in-Open-clause-ready : goal.returns-in-Open-clause-ready
-returns-in-Open-clause-ready c = goes_on c.args.self.now c.pass_uses.new.left c.pass_uses.ensures.less c.requires
+returns-in-Open-clause-ready c passed rest ready = goes_on c.args.self.now c.pass_uses.new.left c.pass_uses.ensures.less ready
