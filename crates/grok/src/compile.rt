@@ -87,7 +87,8 @@ fn error_of_clash<'a>(
     Ok(Some(clash_error(alloc, key.as_str())?))
 }
 
-/// Expands a pattern that has no fault. Its expanded text has `length` bytes, and is reserved once.
+/// Expands a pattern that has no fault. Its expanded text has `length` bytes. The buffer for it is
+/// reserved once, for exactly these.
 ///
 /// # Errors
 ///

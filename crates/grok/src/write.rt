@@ -1,5 +1,5 @@
 //! Writes the text of a tree, and assigns its keys, in one reading.
-ghost use Rattle.std.specs.Prelude.{◌≡◌, ◌≤◌, List, [], ◌∷◌, length, IfOk, OnOk, None, true};
+ghost use Rattle.std.specs.Prelude.{◌≡◌, List, [], ◌∷◌, length, IfOk, OnOk, None, true};
 ghost use Rattle.std.specs.String.{string_bytes, string_capacity};
 ghost use Rattle.std.specs.FinMap as finite;
 ghost use Rattle.grok.specs.Tree as tree;
@@ -84,7 +84,8 @@ impl<'a> Search<'a> for Writer<'a> {
 }
 
 /// Expands a pattern without a structural fault: writes its expanded text into `text`, which is
-/// empty and has room for it, and assigns the keys and extracts of its capturing placeholders.
+/// empty and has room for exactly that, and assigns the keys and extracts of its capturing
+/// placeholders.
 ///
 /// # Errors
 ///
@@ -96,8 +97,8 @@ pub(crate) fn write(
 ) -> Result<ExpandedPattern, AllocError>
     requires clean { first_structural (tree_of (finite.get settings.grok.now) pattern.now) ≡ None }
     requires empty { string_bytes text ≡ [] }
-    requires room { length (expanded settings.with_alias_only (tree_of (finite.get settings.grok.now) pattern.now))
-        ≤ string_capacity text }
+    requires room { string_capacity text
+        ≡ length (expanded settings.with_alias_only (tree_of (finite.get settings.grok.now) pattern.now)) }
     ensures text { IfOk result (λ out. string_bytes out.text ≡ expanded settings.entry.with_alias_only
         (tree_of (finite.get settings.entry.grok.now) pattern.now)) }
     ensures keys { IfOk result (λ out. HasKeys settings.entry.with_alias_only

@@ -1,4 +1,4 @@
-use Rattle.std.proofs.Common.{refl}
+use Rattle.std.proofs.Common.{refl, arith}
 use Rattle.std.specs.FinMap as finite
 use Rattle.grok.specs.Tree.{tree}
 use Rattle.grok.specs.declared.write.Writer.{Writer}
@@ -9,7 +9,7 @@ use Rattle.grok.proofs.write.write.Goals as goal
 pub descend-requires : goal.descend-requires
 descend-requires c κs =
     let start : Writer = record { settings = c.args.settings; text = c.args.text; keys = c.new.result } in
-    ((refl, tt), (room_at_first (finite.get c.args.settings.grok.now) c.args.pattern.now start c.new.ensures c.requires.empty c.requires.room, (refl, record { settings = refl; text = c.requires.empty; keys = c.new.ensures })))
+    ((refl, tt), (room_at_first (finite.get c.args.settings.grok.now) c.args.pattern.now start c.new.ensures c.requires.empty (omega (arith, c.requires.room)), (refl, record { settings = refl; text = c.requires.empty; keys = c.new.ensures })))
 
 pub returns-clause-text : goal.returns-clause-text
 returns-clause-text c =
