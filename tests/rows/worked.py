@@ -523,7 +523,11 @@ CUT = [
     [r"(?:\(Views: ", "%{NUMBER:viewms}", r"ms \| ActiveRecord: ", "%{NUMBER:activerecordms}", r"ms|\(ActiveRecord: ",
      "%{NUMBER:activerecordms}", "ms)?"],
     ["%{NUMBER:ts}", r"\t", "%{NOTSPACE:uid}", r"\t", "%{IP:orig_h}", r"\t", "%{INT:orig_p}", r"\t", "%{IP:resp_h}", r"\t",
-     "%{INT:resp_p}", r"\t", "%{WORD:proto}", r"\t", "%{INT:trans_id}", r"\t", "%{GREEDYDATA:query}"],
+     "%{INT:resp_p}", r"\t", "%{WORD:proto}", r"\t", "%{INT:trans_id}", r"\t", "%{GREEDYDATA:query}", r"\t", "%{GREEDYDATA:qclass}", r"\t",
+     "%{GREEDYDATA:qclass_name}", r"\t", "%{GREEDYDATA:qtype}", r"\t", "%{GREEDYDATA:qtype_name}", r"\t", "%{GREEDYDATA:rcode}", r"\t",
+     "%{GREEDYDATA:rcode_name}", r"\t", "%{GREEDYDATA:AA}", r"\t", "%{GREEDYDATA:TC}", r"\t", "%{GREEDYDATA:RD}", r"\t",
+     "%{GREEDYDATA:RA}", r"\t", "%{GREEDYDATA:Z}", r"\t", "%{GREEDYDATA:answers}", r"\t", "%{GREEDYDATA:TTLs}", r"\t",
+     "%{GREEDYDATA:rejected}"],
 ]
 
 # For 60, 54, and so on down to 6 the doubling with that number and the two below it, without groups. With 135 letters more the

@@ -31,24 +31,28 @@ const SPLITS: &[(&str, &str)] = &[
         "0..1 a\n1..5 %{A} name=A alias= extract= definition=\nInvalidCharacter(' ')\n",
     ),
     (
-        "%{name:a[x]}",
-        "0..12 %{name:a[x]} name=name alias=a[x] extract= definition=\n",
-    ),
-    (
         "%{name:a:e-1}",
         "0..13 %{name:a:e-1} name=name alias=a extract=e-1 definition=\n",
     ),
     (
-        "%{name::e}",
-        "0..10 %{name::e} name=name alias= extract=e definition=\n",
-    ),
-    (
-        "%{name:a=d}",
-        "0..11 %{name:a=d} name=name alias=a extract= definition=d\n",
-    ),
-    (
         "%{name:a.b:e=d}",
         "0..15 %{name:a.b:e=d} name=name alias=a.b extract=e definition=d\n",
+    ),
+];
+
+/// Texts of one placeholder each, with what is there of its name, its alias, its extract and its definition.
+const PLACEHOLDERS: &[(&str, [&str; 4])] = &[
+    ("%{name}", ["name", "", "", ""]),
+    ("%{name:name}", ["name", "name", "", ""]),
+    ("%{name:name:name}", ["name", "name", "name", ""]),
+    ("%{name::name}", ["name", "", "name", ""]),
+    ("%{name=defn}", ["name", "", "", "defn"]),
+    ("%{name:name=defn}", ["name", "name", "", "defn"]),
+    ("%{name:name:name=defn}", ["name", "name", "name", "defn"]),
+    ("%{name:name[x]}", ["name", "name[x]", "", ""]),
+    (
+        "%{name:name[x]:name[y]}",
+        ["name", "name[x]", "name[y]", ""],
     ),
 ];
 
@@ -101,6 +105,28 @@ fn check_rows(rt: &(impl Abort + AllocGlobal), text: &str, expected: &str) -> Re
 fn pieces_with_ranges_and_parts(rt: HostRuntime) -> Result<(), Fail> {
     for (text, pieces) in SPLITS {
         check_rows(&rt, text, pieces)?;
+    }
+    Ok(())
+}
+
+/// Checks that the text is one placeholder with these parts.
+fn check_placeholder(
+    rt: &(impl Abort + AllocGlobal),
+    text: &str,
+    parts: &[&str; 4],
+) -> Result<(), Fail> {
+    let [name, alias, extract, definition] = parts;
+    let expected = format!(in rt.alloc();
+        "0..{} {text} name={name} alias={alias} extract={extract} definition={definition}\n",
+        text.len()
+    )?;
+    check_rows(rt, text, expected.as_str())
+}
+
+#[test]
+fn placeholders_with_each_choice_of_parts(rt: HostRuntime) -> Result<(), Fail> {
+    for (text, parts) in PLACEHOLDERS {
+        check_placeholder(&rt, text, parts)?;
     }
     Ok(())
 }
