@@ -4,9 +4,9 @@
  *   REFUSE_NTH=N        the N-th counted request is refused, and no other one; without this setting none is refused
  *   REFUSE_MARKED=1     only requests of one part of the program are counted: the part between the first line
  *                       "[call" that it writes to standard error, and the line "[done" that follows
- *   REFUSE_REPORT=FILE  at the program's end FILE gets the line "requests N refused R left B most M": R is 0 or 1, B is
- *                       how many bytes were allocated in the counted part and not freed there, and M the most that were
- *                       allocated there at any time
+ *   REFUSE_REPORT=FILE  at the program's end FILE gets the line "requests N refused R left B most M large L": R is 0 or
+ *                       1, B is how many bytes were allocated in the counted part and not freed there, M the most that
+ *                       were allocated there at any time, and L how many of the N requests asked for LARGE bytes or more
  *
  * It is no part of the product, and no crate links it.
  */
@@ -31,7 +31,10 @@ enum part { BEFORE, INSIDE, AFTER };
 
 static int is_ready, is_marked;
 static enum part part;
-static long refused_number, requests, refusals, left, most;
+static long refused_number, requests, refusals, left, most, large;
+
+/* A request for so many bytes counts as large, in the report alone. */
+enum { LARGE = 4096 };
 
 /* Reads the environment once. It takes no memory. */
 static void prepare(void) {
@@ -42,10 +45,12 @@ static void prepare(void) {
     is_ready = 1;
 }
 
-/* Counts a request, and returns whether it is the one to be refused. */
-static int is_refused(void) {
+/* Counts a request for so many bytes, and returns whether it is the one to be refused. */
+static int is_refused(size_t size) {
     if (!is_ready) prepare();
-    if (part != INSIDE || ++requests != refused_number) return 0;
+    if (part != INSIDE) return 0;
+    if (size >= LARGE) large++;
+    if (++requests != refused_number) return 0;
     refusals++;
     errno = ENOMEM;
     return 1;
@@ -64,15 +69,15 @@ void free(void *memory) {
 }
 
 void *malloc(size_t size) {
-    return is_refused() ? NULL : taken(__libc_malloc(size));
+    return is_refused(size) ? NULL : taken(__libc_malloc(size));
 }
 
 void *calloc(size_t count, size_t size) {
-    return is_refused() ? NULL : taken(__libc_calloc(count, size));
+    return is_refused(count * size) ? NULL : taken(__libc_calloc(count, size));
 }
 
 void *realloc(void *old, size_t size) {
-    if (is_refused()) return NULL;
+    if (is_refused(size)) return NULL;
     long before = (long)malloc_usable_size(old);
     void *memory = __libc_realloc(old, size);
     if (part == INSIDE && (memory || !size)) left -= before;
@@ -80,15 +85,15 @@ void *realloc(void *old, size_t size) {
 }
 
 void *aligned_alloc(size_t align, size_t size) {
-    return is_refused() ? NULL : taken(__libc_memalign(align, size));
+    return is_refused(size) ? NULL : taken(__libc_memalign(align, size));
 }
 
 void *memalign(size_t align, size_t size) {
-    return is_refused() ? NULL : taken(__libc_memalign(align, size));
+    return is_refused(size) ? NULL : taken(__libc_memalign(align, size));
 }
 
 int posix_memalign(void **memory, size_t align, size_t size) {
-    if (is_refused()) return ENOMEM;
+    if (is_refused(size)) return ENOMEM;
     *memory = taken(__libc_memalign(align, size));
     return *memory ? 0 : ENOMEM;
 }
@@ -114,8 +119,8 @@ __attribute__((destructor)) static void report(void) {
     if (!path) return;
     int file = open(path, O_WRONLY | O_CREAT | O_TRUNC, 0600);
     if (file < 0) return;
-    char line[120];
-    int length = snprintf(line, sizeof line, "requests %ld refused %ld left %ld most %ld\n", requests, refusals, left, most);
+    char line[160];
+    int length = snprintf(line, sizeof line, "requests %ld refused %ld left %ld most %ld large %ld\n", requests, refusals, left, most, large);
     (void)!syscall(SYS_write, file, line, (size_t)length);
     close(file);
 }

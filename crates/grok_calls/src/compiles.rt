@@ -22,8 +22,10 @@ pub(crate) fn call(rt: &HostRuntime, name: &str) -> Result<()> {
         "aliases" => compile::<Heads>(rt, &USERS, "%{USER:usr:text}", true),
         "all_names" => compile::<Heads>(rt, &USERS, "%{USER:usr:text}", false),
         "refused" => compile::<Refuser>(rt, &TWO_LEVELS, "%{A}", false),
-        "bare_short" => compile_repeated(rt, 1),
-        "bare_long" => compile_repeated(rt, 5000),
+        "bare_short" => compile_repeated(rt, "%a", 1),
+        "bare_long" => compile_repeated(rt, "%a", 5000),
+        "bare_placeholder" => compile_repeated(rt, "%{A}", 1),
+        "bare_placeholders" => compile_repeated(rt, "%{A}", 3000),
         "keys" => keys(rt),
         "mac" => compile::<RegexEngine>(rt, &grok::patterns(), "%{MAC}", false),
         _ => bail!("no call has this name"),
@@ -46,8 +48,9 @@ fn compile<E: Engine>(
     twice(rt, || grok.compile_with::<E>(pattern, with_alias_only))
 }
 
-/// Compiles `count` regular pieces `%a`, over an engine that makes one allocation.
-fn compile_repeated(rt: &HostRuntime, count: usize) -> Result<()> {
-    let pattern = "%a".repeat(rt.alloc(), count)?;
-    compile::<Bare>(rt, &[], pattern.as_str(), false)
+/// Compiles `count` times the same piece in alias-only mode, over an engine that makes one allocation. `A` has twenty
+/// letters, so the expanded text is much longer than a pattern of placeholders.
+fn compile_repeated(rt: &HostRuntime, piece: &str, count: usize) -> Result<()> {
+    let pattern = piece.repeat(rt.alloc(), count)?;
+    compile::<Bare>(rt, &[("A", "aaaaaaaaaaaaaaaaaaaa")], pattern.as_str(), true)
 }
