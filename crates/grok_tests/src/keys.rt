@@ -132,16 +132,8 @@ fn check_table<E: Engine>(rt: &(impl Abort + AllocGlobal), rows: &[Row]) -> Resu
 }
 
 #[test]
-fn keys_of_an_engine_that_reads_names(rt: HostRuntime) -> Result<(), Fail> {
-    check_table::<Heads>(&rt, OVER_HEADS)
-}
-
-#[test]
-fn keys_of_an_engine_without_groups(rt: HostRuntime) -> Result<(), Fail> {
-    check_table::<Bare>(&rt, OVER_BARE)
-}
-
-#[test]
-fn keys_that_a_pattern_has_and_others(rt: HostRuntime) -> Result<(), Fail> {
+fn keys_with_their_values(rt: HostRuntime) -> Result<(), Fail> {
+    check_table::<Heads>(&rt, OVER_HEADS)?;
+    check_table::<Bare>(&rt, OVER_BARE)?;
     check_table::<RegexEngine>(&rt, OVER_REGEX)
 }
