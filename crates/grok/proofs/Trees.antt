@@ -10,3 +10,4 @@ pub mod ByteIsLocated
 pub mod FaultInPlaceOfOpen
 pub mod StepsCompile
 pub mod DiagnosisIsFirstFault
+pub mod BlamedParts

@@ -12,7 +12,8 @@ use Rattle.grok.specs.FaultLocations.{Step, IsPieceAt, IsFaultOf, path_view}
 use Rattle.grok.specs.ByteLocations.{HasByte, IsByteLocation}
 use Rattle.grok.specs.ClashLocations.{IsClashAt}
 use Rattle.grok.specs.Malformations.{fault_of, IsMalformedAt}
-use Rattle.grok.specs.Refusals.{IsRegexText, IsReasonFor}
+use Rattle.grok.specs.Refusals.{IsAccepted, IsReasonFor, IsOfSyntax, IsOfBrackets}
+use Rattle.regex.specs.declared.error.Error.{Error}
 use Rattle.grok.specs.declared.location.Location.{Location}
 use Rattle.grok.specs.declared.locate_clash.Clash.{Clash}
 use Rattle.grok.specs.declared.locate_byte.WrittenByte.{WrittenByte}
@@ -80,23 +81,32 @@ pub data LeadsTo (stored : Definitions) (start : List ℕ) : (path : List Step) 
       → IsPieceAt stored text before from to (tree.PlaceholderItem label meaning)
       → LeadsTo stored start (path ++ record { name = label.name; from = from; to = to } ∷ []) (tree.meaning_text meaning)
 
--- Taken as a pattern of its own, the part has no fault, and `regex` may refuse its expanded text for this reason.
-pub record IsRefusedPart (texts : Texts) (alias_only : Bool) (refused : Refused) : Type 0 where
+-- Taken as a pattern of its own, the part has no fault, and its expanded text was refused for this reason.
+pub record IsRefusedPart (refuses : List ℕ → Error → Type 0) (texts : Texts) (alias_only : Bool) (refused : Refused)
+    : Type 0 where
   pub some : refused.part.now ≢ []
   pub can : CanBuild (expansion_of texts alias_only refused.part.now)
   pub text : string_bytes refused.text ≡ expanded alias_only (tree.tree (finite.get texts) refused.part.now)
-  pub reason : IsReasonFor (string_bytes refused.text) refused.reason
+  pub reason : IsReasonFor refuses (string_bytes refused.text) refused.reason
   pub location : LocatesReason (finite.get texts) alias_only refused.part.now refused.reason refused.location
 
--- The pattern has no fault, and `regex` may refuse its expanded text. The refused part is the pattern, or a definition to
--- which its path leads.
-pub record IsRefusedAs (texts : Texts) (alias_only : Bool) (pattern : List ℕ) (refused : Refused) : Type 0 where
+-- Why a part is blamed for the refusal of a pattern. If no placeholder leads to it, it is the pattern, with its own reason.
+-- A definition is blamed only if brackets of the pattern don't match, and only for its own syntax.
+abbrev pub IsBlamed : (path : List Step) (whole reason : RefusalReason) → Type 0
+IsBlamed [] whole reason = reason ≡ whole
+IsBlamed (step ∷ path) whole reason = IsOfBrackets whole × IsOfSyntax reason
+
+-- The pattern has no fault, and its expanded text was refused. The refused part is the pattern, or a definition to which its
+-- path leads, whose own expanded text was refused.
+pub record IsRefusedAs (refuses : List ℕ → Error → Type 0) (texts : Texts) (alias_only : Bool) (pattern : List ℕ)
+    (refused : Refused) : Type 0 where
   pub some : pattern ≢ []
   pub can : CanBuild (expansion_of texts alias_only pattern)
   pub whole : RefusalReason
-  pub refuses : IsReasonFor (expanded alias_only (tree.tree (finite.get texts) pattern)) whole
+  pub refusal : IsReasonFor refuses (expanded alias_only (tree.tree (finite.get texts) pattern)) whole
+  pub blamed : IsBlamed (path_view refused.path.items) whole refused.reason
   pub leads : LeadsTo (finite.get texts) pattern (path_view refused.path.items) refused.part.now
-  pub part : IsRefusedPart texts alias_only refused
+  pub part : IsRefusedPart refuses texts alias_only refused
 
 -- The pattern has no structural fault, and its expanded text is longer than the greatest `usize`.
 pub record IsTooLong (texts : Texts) (alias_only : Bool) (pattern : List ℕ) : Type 0 where
@@ -104,25 +114,28 @@ pub record IsTooLong (texts : Texts) (alias_only : Bool) (pattern : List ℕ) : 
   pub long : Fits (expansion_of texts alias_only pattern) → ⊥
 
 -- what is wrong with the pattern
-abbrev pub IsDiagnosis : Texts → Bool → List ℕ → Diagnosis → Type 0
-IsDiagnosis texts alias_only pattern diagnosis.Empty = pattern ≡ []
-IsDiagnosis texts alias_only pattern (diagnosis.Malformed reason byte location) =
+abbrev pub IsDiagnosis : (refuses : List ℕ → Error → Type 0) → Texts → Bool → List ℕ → Diagnosis → Type 0
+IsDiagnosis refuses texts alias_only pattern diagnosis.Empty = pattern ≡ []
+IsDiagnosis refuses texts alias_only pattern (diagnosis.Malformed reason byte location) =
     IsFirstMalformed texts alias_only pattern reason byte location
-IsDiagnosis texts alias_only pattern (diagnosis.Missing name location) =
+IsDiagnosis refuses texts alias_only pattern (diagnosis.Missing name location) =
     IsFirstStructural texts alias_only pattern (tree.Missing name.now) location
-IsDiagnosis texts alias_only pattern (diagnosis.TooDeep location) =
+IsDiagnosis refuses texts alias_only pattern (diagnosis.TooDeep location) =
     IsFirstStructural texts alias_only pattern tree.TooDeep location
-IsDiagnosis texts alias_only pattern (diagnosis.Clash clash) = IsFirstClashOf texts alias_only pattern clash
-IsDiagnosis texts alias_only pattern (diagnosis.Refused refused) = IsRefusedAs texts alias_only pattern refused
-IsDiagnosis texts alias_only pattern diagnosis.TooLong = IsTooLong texts alias_only pattern
+IsDiagnosis refuses texts alias_only pattern (diagnosis.Clash clash) = IsFirstClashOf texts alias_only pattern clash
+IsDiagnosis refuses texts alias_only pattern (diagnosis.Refused refused) =
+    IsRefusedAs refuses texts alias_only pattern refused
+IsDiagnosis refuses texts alias_only pattern diagnosis.TooLong = IsTooLong texts alias_only pattern
 
--- Nothing is wrong with the pattern: it isn't empty, it has no fault, and `regex` builds a regex from its expanded text.
-pub record IsFine (texts : Texts) (alias_only : Bool) (pattern : List ℕ) : Type 0 where
+-- Nothing is wrong with the pattern: it isn't empty, it has no fault, and its expanded text was accepted.
+pub record IsFine {E : Type 0} (is_built_from : E → List ℕ → Type 0) (texts : Texts) (alias_only : Bool) (pattern : List ℕ)
+    : Type 0 where
   pub some : pattern ≢ []
   pub can : CanBuild (expansion_of texts alias_only pattern)
-  pub regex : IsRegexText (expanded alias_only (tree.tree (finite.get texts) pattern))
+  pub accepted : IsAccepted is_built_from (expanded alias_only (tree.tree (finite.get texts) pattern))
 
 -- THE DIAGNOSIS OF A PATTERN: what is wrong with it, or `None` if nothing is.
-abbrev pub FindsDiagnosis : Texts → Bool → List ℕ → Option Diagnosis → Type 0
-FindsDiagnosis texts alias_only pattern found = MatchOption found (IsFine texts alias_only pattern)
-    (IsDiagnosis texts alias_only pattern)
+abbrev pub FindsDiagnosis : {E : Type 0} → (is_built_from : E → List ℕ → Type 0) → (refuses : List ℕ → Error → Type 0)
+    → Texts → Bool → List ℕ → Option Diagnosis → Type 0
+FindsDiagnosis is_built_from refuses texts alias_only pattern found =
+    MatchOption found (IsFine is_built_from texts alias_only pattern) (IsDiagnosis refuses texts alias_only pattern)

@@ -69,11 +69,11 @@ pub use Rattle.grok.specs.Compiled.{Expansion, expansion_of, Compiles, IsPattern
 pub use Rattle.grok.specs.KeyNumbers.{key_text, key_number, numbers}
 pub use Rattle.grok.specs.PlaceholderKeys.{AreKeysOf}
 -- why `regex` refuses the expanded text
-pub use Rattle.grok.specs.Refusals.{IsRegexText, IsReasonFor}
+pub use Rattle.grok.specs.Refusals.{IsAccepted, IsReasonFor, IsOfSyntax, IsOfBrackets}
 -- engines
 pub use Rattle.grok.specs.Captures.{name_texts, text_of, capture_texts, found_texts, IsSliceOf, AreSlicesOf, IsMatchIn}
 pub use Rattle.grok.specs.Engines.{engine_regex}
-pub use Rattle.grok.specs.RegexFinds.{IsReadByDefault, captures_in, captures_by}
+pub use Rattle.grok.specs.RegexFinds.{IsReadByDefault, IsRegexOf, MayRefuse, captures_in, captures_by}
 pub use Rattle.grok.specs.Locations.{IsLocationIn, AreLocationsIn, located_texts}
 pub use Rattle.regex.specs.Strings
 -- patterns and matches

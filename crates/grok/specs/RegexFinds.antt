@@ -1,11 +1,19 @@
 -- What `regex` builds from a text with its defaults, which texts it may refuse, and what it finds in a
 -- line.
-use Rattle.std.specs.Prelude.{◌≢◌, ℕ, List}
-use Rattle.regex.specs.Strings.{IsDefaultFailure}
+use Rattle.std.specs.Prelude.{◌≡◌, ◌≢◌, ℕ, ◌≤◌, ◌+◌, ◌*◌, ◌^◌, List}
+use Rattle.regex.specs.Strings.{regex_source, regex_size, IsDefaultFailure}
+use Rattle.regex.specs.declared.string.regex.Regex.{Regex}
 use Rattle.regex.specs.declared.error.Error.{Error}
 use Rattle.regex.specs.declared.error.Error.TheVariants.{Internal, OutOfMemory}
 -- regex_shared states what the search that calls share finds
 pub use Rattle.regex_shared.specs.Texts.{IsReadByDefault, text_at, texts_at, span_of_group, captures_in, captures_by}
+
+-- The regex was built from the text, with the defaults of `regex`: without flags, and with the limit of 10 MiB on the size
+-- of its tables.
+pub record IsRegexOf (built : Regex) (text : List ℕ) : Type 0 where
+  pub source : regex_source built ≡ text
+  pub read : IsReadByDefault built
+  pub small : regex_size built ≤ 10 * 2 ^ 20 + 24
 
 -- `regex` may refuse the text: its own contract allows an error for it other than that memory ran out. By that
 -- contract the text is no regular expression, or is nested too deeply, or would be too big.

@@ -7,13 +7,16 @@ ghost use Rattle.grok.specs.Expanded.{expanded};
 ghost use Rattle.grok.specs.ByteLocations.{HasByte};
 ghost use Rattle.grok.specs.steps.MeasureCache.{HasCorrectCache};
 ghost use Rattle.grok.specs.FaultLocations.{path_view};
-ghost use Rattle.grok.specs.Diagnoses.{IsRangeOf, IsOriginOf, LocatesReason, LeadsTo, IsRefusedPart, FindsDiagnosis};
+ghost use Rattle.grok.specs.Diagnoses.{IsRangeOf, IsOriginOf, LocatesReason, LeadsTo, IsBlamed, IsRefusedPart, FindsDiagnosis};
+ghost use Rattle.grok.specs.RegexFinds.{IsRegexOf};
+ghost use Rattle.regex.specs.Strings.{IsDefaultFailure};
 ghost use Rattle.grok.specs.steps.RefusedParts.{IsWhole, IsRefusedIn};
 
 use crate::compile::expand_clean;
 use crate::defs::Grok;
 use crate::defs::items::Item;
 use crate::defs::placed_items::PlacedItems;
+use crate::engine::regex_engine::BuildFromText;
 use crate::errors::fault::{Fault, MAX_NESTING};
 use crate::locate::locate_fault;
 use crate::locate_byte::{WrittenByte, locate_written};
@@ -27,6 +30,7 @@ use crate::parser::malformation_at;
 use crate::settings::Settings;
 use crate::why_refused::{RefusalReason, reason_for};
 use crate::write::ExpandedPattern;
+use regex::Regex;
 use std::alloc::AllocError;
 use std::collections::BTreeMap;
 use std::ops::Range;
@@ -145,7 +149,7 @@ fn locate_reason<'a>(
 }
 
 /// Returns the diagnosis of a pattern without a fault, whose expanded text has `length` bytes.
-fn diagnose_refusal<'a>(
+fn diagnose_refusal<'a, B: BuildFromText>(
     measurer: Measurer<'a>,
     pattern: &'a str,
     length: usize,
@@ -156,13 +160,13 @@ fn diagnose_refusal<'a>(
         (tree_of (finite.get measurer.settings.grok.now) pattern.now) ≡ None }
     requires long { length ≡ len (expanded measurer.settings.with_alias_only
         (tree_of (finite.get measurer.settings.grok.now) pattern.now)) }
-    ensures found { IfOk result (FindsDiagnosis measurer.entry.settings.grok.now
-        measurer.entry.settings.with_alias_only pattern.now) }
+    ensures found { IfOk result (FindsDiagnosis B.is_built_from B.refuses
+        measurer.entry.settings.grok.now measurer.entry.settings.with_alias_only pattern.now) }
     ensures whole { IfOk result (λ found. IfSome found (IsWhole pattern.now)) }
 {
     let settings = measurer.settings;
     let ExpandedPattern { text, .. } = expand_clean(settings, pattern, length)?;
-    let Some(reason) = reason_for(settings.grok.alloc(), text.as_str())? else {
+    let Some(reason) = reason_for::<B>(settings.grok.alloc(), text.as_str())? else {
         return Ok(None);
     };
     let location = locate_reason(measurer, pattern, reason)?;
@@ -176,7 +180,7 @@ fn diagnose_refusal<'a>(
 }
 
 /// Returns the diagnosis of a pattern whose first fault is a structural one.
-fn diagnose_structural<'a>(
+fn diagnose_structural<'a, B: BuildFromText>(
     measurer: Measurer<'a>,
     pattern: &'a str,
 ) -> Result<Option<Diagnosis<'a>>, AllocError>
@@ -184,8 +188,8 @@ fn diagnose_structural<'a>(
     requires faulty { first_structural (tree_of (finite.get measurer.settings.grok.now) pattern.now) ≢ None }
     requires no_clash { (key : List ℕ) → first_fault measurer.settings.with_alias_only
         (tree_of (finite.get measurer.settings.grok.now) pattern.now) ≢ Some (KeyClash key) }
-    ensures found { IfOk result (FindsDiagnosis measurer.entry.settings.grok.now
-        measurer.entry.settings.with_alias_only pattern.now) }
+    ensures found { IfOk result (FindsDiagnosis B.is_built_from B.refuses
+        measurer.entry.settings.grok.now measurer.entry.settings.with_alias_only pattern.now) }
     ensures whole { IfOk result (λ found. IfSome found (IsWhole pattern.now)) }
 {
     let Some(found) = locate_fault(measurer, pattern)? else {
@@ -208,11 +212,12 @@ fn diagnose_structural<'a>(
 
 /// Returns the diagnosis of a pattern, without a search for the definition that has the fault if
 /// `regex` refuses it.
-fn diagnose_whole<'a>(
+fn diagnose_whole<'a, B: BuildFromText>(
     settings: Settings<'a>,
     pattern: &'a str,
 ) -> Result<Option<Diagnosis<'a>>, AllocError>
-    ensures found { IfOk result (FindsDiagnosis settings.entry.grok.now settings.entry.with_alias_only pattern.now) }
+    ensures found { IfOk result (FindsDiagnosis B.is_built_from B.refuses
+        settings.entry.grok.now settings.entry.with_alias_only pattern.now) }
     ensures whole { IfOk result (λ found. IfSome found (IsWhole pattern.now)) }
 {
     if pattern.is_empty() {
@@ -223,22 +228,23 @@ fn diagnose_whole<'a>(
         Measure::TooLong => Ok(Some(Diagnosis::TooLong)),
         Measure::Fault(_) => match locate_clash(settings, pattern, &found)? {
             Some(clash) => Ok(Some(Diagnosis::Clash(clash))),
-            None => diagnose_structural(found.measurer, pattern),
+            None => diagnose_structural::<B>(found.measurer, pattern),
         },
         Measure::Size { length, .. } => match locate_clash(settings, pattern, &found)? {
             Some(clash) => Ok(Some(Diagnosis::Clash(clash))),
-            None => diagnose_refusal(found.measurer, pattern, length),
+            None => diagnose_refusal::<B>(found.measurer, pattern, length),
         },
     }
 }
 
 /// Returns the first placeholder of a text whose definition `regex` refuses alone because of its
 /// syntax, and what is refused. Returns `None` if there is none.
-fn first_refused<'a>(
+fn first_refused<'a, B: BuildFromText>(
     settings: Settings<'a>,
     text: &'a str,
 ) -> Result<Option<(PathStep<'a>, Refused<'a>)>, AllocError>
-    ensures { IfOk result (λ found. IfSome found (λ at. IsRefusedIn settings.entry text.now at.0 at.1)) }
+    ensures { IfOk result (λ found. IfSome found
+        (λ at. IsRefusedIn B.refuses settings.entry text.now at.0 at.1)) }
 {
     let mut seen = BTreeMap::new(settings.grok.alloc());
     let mut items = PlacedItems::of_text(settings.grok, text);
@@ -250,7 +256,7 @@ fn first_refused<'a>(
         if seen.insert(definition, ())?.is_some() {
             continue;
         }
-        if let Some(Diagnosis::Refused(refused)) = diagnose_whole(settings, definition)?
+        if let Some(Diagnosis::Refused(refused)) = diagnose_whole::<B>(settings, definition)?
             && let RefusalReason::Syntax(_) = refused.reason
         {
             let step = PathStep {
@@ -265,11 +271,17 @@ fn first_refused<'a>(
 
 /// Returns the innermost refused part: while brackets don't match and a definition of the part is
 /// refused alone, that definition takes its place.
-fn innermost<'a>(settings: Settings<'a>, refused: Refused<'a>) -> Result<Refused<'a>, AllocError>
-    requires { IsRefusedPart settings.grok.now settings.with_alias_only refused }
+fn innermost<'a, B: BuildFromText>(
+    settings: Settings<'a>,
+    refused: Refused<'a>,
+) -> Result<Refused<'a>, AllocError>
+    requires { IsRefusedPart B.refuses settings.grok.now settings.with_alias_only refused }
     ensures leads { IfOk result (λ inner. LeadsTo (finite.get settings.entry.grok.now) refused.entry.part.now
         (path_view inner.path.items) inner.part.now) }
-    ensures part { IfOk result (λ inner. IsRefusedPart settings.entry.grok.now settings.entry.with_alias_only inner) }
+    ensures blamed { IfOk result (λ inner. IsBlamed (path_view inner.path.items)
+        refused.entry.reason inner.reason) }
+    ensures part { IfOk result (λ inner. IsRefusedPart B.refuses
+        settings.entry.grok.now settings.entry.with_alias_only inner) }
 {
     let mut path = Vec::new(settings.grok.alloc());
     let mut inner = refused;
@@ -277,7 +289,7 @@ fn innermost<'a>(settings: Settings<'a>, refused: Refused<'a>) -> Result<Refused
         if !inner.reason.is_of_brackets() {
             break;
         }
-        let Some((step, refused)) = first_refused(settings, inner.part)? else {
+        let Some((step, refused)) = first_refused::<B>(settings, inner.part)? else {
             break;
         };
         path.push(step)?;
@@ -310,15 +322,15 @@ impl Grok {
         pattern: &'a str,
         with_alias_only: bool,
     ) -> Result<Option<Diagnosis<'a>>, AllocError>
-        ensures { IfOk result (FindsDiagnosis self.now with_alias_only pattern.now) }
+        ensures { IfOk result (FindsDiagnosis IsRegexOf IsDefaultFailure self.now with_alias_only pattern.now) }
     {
         let settings = Settings {
             grok: self,
             with_alias_only,
         };
-        match diagnose_whole(settings, pattern)? {
+        match diagnose_whole::<Regex>(settings, pattern)? {
             Some(Diagnosis::Refused(refused)) => {
-                let refused = innermost(settings, refused)?;
+                let refused = innermost::<Regex>(settings, refused)?;
                 Ok(Some(Diagnosis::Refused(refused)))
             }
             found => Ok(found),

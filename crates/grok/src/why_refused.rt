@@ -1,9 +1,9 @@
 //! Finds out why `regex` refuses the expanded text of a pattern.
-ghost use Rattle.std.specs.Prelude.{◌≡◌, ◌≢◌, IfOk, MatchOption, MatchResult};
+ghost use Rattle.std.specs.Prelude.{◌≡◌, ◌≢◌, IfOk, IsTrue, MatchOption, MatchResult};
 ghost use Rattle.regex.specs.declared.error.Error.TheVariants.{Internal, OutOfMemory};
-ghost use Rattle.grok.specs.Refusals.{regex_error_of, IsRegexText, IsReasonFor};
+ghost use Rattle.grok.specs.Refusals.{regex_error_of, IsAccepted, IsReasonFor, IsOfBrackets};
 
-use regex::Regex;
+use crate::engine::regex_engine::BuildFromText;
 use regex_syntax::ErrorKind;
 use std::alloc::{AllocError, Global};
 
@@ -19,7 +19,9 @@ pub enum RefusalReason {
 
 impl RefusalReason {
     /// Returns whether a group isn't closed, or a `)` closes none.
-    pub(crate) fn is_of_brackets(self) -> bool {
+    pub(crate) fn is_of_brackets(self) -> bool
+        ensures { IsTrue result → IsOfBrackets self }
+    {
         matches!(
             self,
             RefusalReason::Syntax(regex_syntax::Error {
@@ -54,12 +56,15 @@ fn reason_of(error: regex::Error) -> Result<RefusalReason, AllocError>
 /// # Errors
 ///
 /// If an allocation fails.
-pub(crate) fn reason_for(alloc: Global, text: &str) -> Result<Option<RefusalReason>, AllocError>
-    ensures { IfOk result
-        (λ found. MatchOption found (IsRegexText text.now) (IsReasonFor text.now)) }
+pub(crate) fn reason_for<B: BuildFromText>(
+    alloc: Global,
+    text: &str,
+) -> Result<Option<RefusalReason>, AllocError>
+    ensures { IfOk result (λ found. MatchOption found (IsAccepted B.is_built_from text.now)
+        (IsReasonFor B.refuses text.now)) }
 {
-    let error = match Regex::new(alloc, text) {
-        Ok(_regex) => return Ok(None),
+    let error = match B::build_from_text(alloc, text) {
+        Ok(_built) => return Ok(None),
         Err(error) => error,
     };
     let reason = reason_of(error)?;

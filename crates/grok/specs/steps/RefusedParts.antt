@@ -3,7 +3,9 @@ use Rattle.std.specs.Prelude.{◌≡◌, ℕ, List, []}
 use Rattle.std.specs.FinMap as finite
 use Rattle.grok.specs.Tree.{Item, Label, Meaning, PlaceholderItem, meaning_text}
 use Rattle.grok.specs.FaultLocations.{IsPieceAt}
+use Rattle.grok.specs.Refusals.{IsOfSyntax}
 use Rattle.grok.specs.Diagnoses.{IsRefusedPart}
+use Rattle.regex.specs.declared.error.Error.{Error}
 use Rattle.grok.specs.declared.location.PathStep.{PathStep}
 use Rattle.grok.specs.declared.diagnose.Refused.{Refused}
 use Rattle.grok.specs.declared.diagnose.Diagnosis.{Diagnosis}
@@ -20,12 +22,14 @@ IsWhole pattern (diagnosis.TooDeep location) = Unit {0}
 IsWhole pattern (diagnosis.Clash clash) = Unit {0}
 IsWhole pattern diagnosis.TooLong = Unit {0}
 
--- the step is a placeholder of the text, and `regex` may refuse what it stands for
-pub record IsRefusedIn (settings : Settings) (text : List ℕ) (step : PathStep) (refused : Refused) : Type 0 where
+-- the step is a placeholder of the text, and what it stands for was refused for its syntax
+pub record IsRefusedIn (refuses : List ℕ → Error → Type 0) (settings : Settings) (text : List ℕ) (step : PathStep)
+    (refused : Refused) : Type 0 where
   pub before : List Item
   pub label : Label
   pub meaning : Meaning
   pub stands : IsPieceAt (finite.get settings.grok.now) text before step.range.start step.range.end (PlaceholderItem label meaning)
   pub named : step.name.now ≡ label.name
   pub is : refused.part.now ≡ meaning_text meaning
-  pub part : IsRefusedPart settings.grok.now settings.with_alias_only refused
+  pub syntax : IsOfSyntax refused.reason
+  pub part : IsRefusedPart refuses settings.grok.now settings.with_alias_only refused

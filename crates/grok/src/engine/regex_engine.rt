@@ -1,16 +1,49 @@
 //! The engine over the crate `regex`.
-ghost use Rattle.std.specs.Prelude.{◌≡◌, ◌↔◌, length, vec_len, option_map, box_value, IfOk, IfSome, OnOk};
+ghost use Rattle.std.specs.Prelude.{◌≡◌, ◌≢◌, ◌↔◌, ℕ, List, length, vec_len, option_map, box_value, IfOk, IfErr, IfSome, OnOk};
 ghost use Rattle.std.specs.Option.{ForSome};
 ghost use Rattle.grok.specs.Captures.{text_of, capture_texts, texts_if, IsSliceOf, AreSlicesOf, IsMatchIn};
 ghost use Rattle.grok.specs.Locations.{IsLocationIn, AreLocationsIn, located_texts};
 ghost use Rattle.grok.specs.RegexFinds.{IsReadByDefault, captures_by, texts_at, text_at};
-ghost use Rattle.regex.specs.declared.error.Error.TheVariants.{OutOfMemory};
+ghost use Rattle.regex.specs.declared.error.Error.{Error};
+ghost use Rattle.regex.specs.declared.error.Error.TheVariants.{Internal, OutOfMemory};
 ghost use Rattle.regex.specs.Strings.{captures_haystack, captures_span, captures_names, regex_names};
 
 use crate::engine::{Engine, Refusal};
 use regex::{Captures, Regex};
 use regex_shared::SharedSearch;
 use std::alloc::{AllocError, Global};
+
+/// A value that is built from a text, or refused with an error of `regex`.
+///
+/// Only `Regex` is one. The functions that diagnose a pattern are written for any of them, so that
+/// their proofs know of a text only what a build of this text returned: they can't report a refusal
+/// that no build returned, nor call a text right that none accepted.
+pub(crate) trait BuildFromText: Sized + Drop {
+    /// The value was built from the text.
+    ghost is_built_from: { Self → List ℕ → Type 0 };
+
+    /// The text may be refused with the error.
+    ghost refuses: { List ℕ → Error → Type 0 };
+
+    /// Builds a value from the text, or returns why it is refused.
+    fn build_from_text(alloc: Global, text: &str) -> Result<Self, regex::Error>
+        ensures built { IfOk result (λ built. is_built_from built text.now) }
+        ensures refused { IfErr result (refuses text.now) }
+        ensures no_internal { IfErr result (λ error. error ≢ Internal) };
+}
+
+impl BuildFromText for Regex {
+    ghost use Rattle.grok.specs.RegexFinds.{IsRegexOf};
+    ghost use Rattle.regex.specs.Strings.{IsDefaultFailure};
+
+    ghost is_built_from = { IsRegexOf };
+
+    ghost refuses = { IsDefaultFailure };
+
+    fn build_from_text(alloc: Global, text: &str) -> Result<Regex, regex::Error> {
+        Regex::new(alloc, text)
+    }
+}
 
 /// The engine over the crate `regex`, with its defaults: no flag and no limit is set.
 pub struct RegexEngine {
@@ -61,7 +94,7 @@ impl Engine for RegexEngine {
     ghost may_refuse = { MayRefuse };
 
     fn build(alloc: Global, text: &str) -> Result<Self, Refusal> {
-        let regex = Regex::new(alloc, text)?;
+        let regex = Regex::build_from_text(alloc, text)?;
         match Box::new(alloc, regex) {
             Ok(regex) => Ok(RegexEngine {
                 regex,

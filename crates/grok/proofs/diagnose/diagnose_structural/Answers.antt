@@ -8,7 +8,7 @@ use Rattle.grok.proofs.Trees.DiagnosisIsFirstFault.{first_structural_at, malform
 use Rattle.grok.proofs.diagnose.diagnose_structural.Goals as goal
 
 pub returns-in-Missing : goal.returns-in-Missing
-returns-in-Missing c = record {
+returns-in-Missing g c = record {
   found = subst (λ (fault : Fault). IsFirstStructural c.args.measurer.settings.grok.now c.args.measurer.settings.with_alias_only c.args.pattern.now (fault_view fault) c.in-Some.found.location) c.in-Missing.is
       (first_structural_at c.args.measurer.settings.grok.now c.args.measurer.settings.with_alias_only c.args.pattern.now (fault_view c.in-Some.found.fault) c.in-Some.found.location c.requires.no_clash
       (rw c.in-Some.is at c.in_ok-found.ensures.fault) (rw c.in-Some.is at c.in_ok-found.ensures.location));
@@ -16,7 +16,7 @@ returns-in-Missing c = record {
 }
 
 pub returns-in-TooDeep : goal.returns-in-TooDeep
-returns-in-TooDeep c = record {
+returns-in-TooDeep g c = record {
   found = subst (λ (fault : Fault). IsFirstStructural c.args.measurer.settings.grok.now c.args.measurer.settings.with_alias_only c.args.pattern.now (fault_view fault) c.in-Some.found.location) c.in-TooDeep.is
       (first_structural_at c.args.measurer.settings.grok.now c.args.measurer.settings.with_alias_only c.args.pattern.now (fault_view c.in-Some.found.fault) c.in-Some.found.location c.requires.no_clash
       (rw c.in-Some.is at c.in_ok-found.ensures.fault) (rw c.in-Some.is at c.in_ok-found.ensures.location));
@@ -24,14 +24,14 @@ returns-in-TooDeep c = record {
 }
 
 pub malformation_at-reason-requires : goal.malformation_at-reason-requires
-malformation_at-reason-requires c = (
+malformation_at-reason-requires g c = (
   c.in-Malformed.field-0,
   malformed_at_location (finite.get c.args.measurer.settings.grok.now) c.args.pattern.now (fault_view c.in-Some.found.fault) c.in-Malformed.field-0 c.in-Some.found.location
       (rw c.in-Some.is at c.in_ok-found.ensures.location) (ap fault_view c.in-Malformed.is),
 )
 
 pub returns-in-Malformed : goal.returns-in-Malformed
-returns-in-Malformed c =
+returns-in-Malformed g c =
     let location = c.in-Some.found.location in
     let at = malformed_at_location (finite.get c.args.measurer.settings.grok.now) c.args.pattern.now (fault_view c.in-Some.found.fault) c.in-Malformed.field-0 location
     (rw c.in-Some.is at c.in_ok-found.ensures.location) (ap fault_view c.in-Malformed.is) in

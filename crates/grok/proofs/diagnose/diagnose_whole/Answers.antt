@@ -12,7 +12,7 @@ use Rattle.grok.proofs.Trees.DiagnosisIsFirstFault.{no_clash}
 use Rattle.grok.proofs.diagnose.diagnose_whole.Goals as goal
 
 pub diagnose_refusal-requires-clause-clean : goal.diagnose_refusal-requires-clause-clean
-diagnose_refusal-requires-clause-clean c =
+diagnose_refusal-requires-clause-clean g c =
     let events = tree (finite.get c.args.settings.grok.now) c.args.pattern.now in
     let sized = sized_is c.args.settings.with_alias_only events c.in-Size.length c.in-Size.groups c.in-Size.nesting (sym (ap measure_view c.in-Size.is) ∙ c.in_ok-found.ensures.counted.answer) in
     let other = no_clash (first_fault c.args.settings.with_alias_only events) c.in_ok-clash-in-Size.field-0 c.in_ok-clash-in-Size.ensures.first c.in-None-2.is in
@@ -20,7 +20,7 @@ diagnose_refusal-requires-clause-clean c =
     (other_fault_is_structural c.args.settings.with_alias_only events other ∙ ap (option_map Structural) sized.0)
 
 pub diagnose_refusal-requires-clause-long : goal.diagnose_refusal-requires-clause-long
-diagnose_refusal-requires-clause-long c =
+diagnose_refusal-requires-clause-long g c =
     let events = tree (finite.get c.args.settings.grok.now) c.args.pattern.now in
     let sized = sized_is c.args.settings.with_alias_only events c.in-Size.length c.in-Size.groups c.in-Size.nesting (sym (ap measure_view c.in-Size.is) ∙ c.in_ok-found.ensures.counted.answer) in
     subst (λ (settings : Settings). c.in-Size.length ≡ length (expanded settings.with_alias_only (tree (finite.get settings.grok.now) c.args.pattern.now))) (sym c.in_ok-found.ensures.settings_same) sized.1

@@ -1,17 +1,18 @@
-use Rattle.std.proofs.Common.{ℕ, List, Bor, [], ◌∷◌, ◌++◌, refl, ◌∙◌, ap, subst}
+use Rattle.std.proofs.Common.{sym, ℕ, List, Bor, [], ◌∷◌, ◌++◌, refl, ◌∙◌, ap, subst}
 use Rattle.std.specs.FinMap as finite
 use Rattle.grok.specs.Items.{item_view, label_view, meaning_view}
 use Rattle.grok.specs.FaultLocations.{IsPieceAt}
+use Rattle.grok.specs.Refusals.{IsOfSyntax}
 use Rattle.grok.proofs.diagnose.first_refused.Goals as goal
 
 pub items-init : goal.items-init
-items-init c = record {
+items-init g c = record {
   read = ([], c.of_text-items.ensures.read);
   text = ap (λ (text : Bor (List ℕ)). text.now) c.of_text-items.ensures.text;
 }
 
 pub items-preserved-in_default-item : goal.items-preserved-in_default-item
-items-preserved-in_default-item c =
+items-preserved-in_default-item g c =
     let (before, read) = c.items.invariant.read in
     let (stands, of_library, later) = rw c.in-Some.is at (c.in_ok-placed.ensures.stands (finite.get c.args.settings.grok.now) before read) in
     record {
@@ -20,7 +21,7 @@ items-preserved-in_default-item c =
     }
 
 pub items-preserved-then-is_some : goal.items-preserved-then-is_some
-items-preserved-then-is_some c =
+items-preserved-then-is_some g c =
     let (before, read) = c.items.invariant.read in
     let (stands, of_library, later) = rw c.in-Some.is at (c.in_ok-placed.ensures.stands (finite.get c.args.settings.grok.now) before read) in
     record {
@@ -29,7 +30,7 @@ items-preserved-then-is_some c =
     }
 
 pub items-preserved : goal.items-preserved
-items-preserved c =
+items-preserved g c =
     let (before, read) = c.items.invariant.read in
     let (stands, of_library, later) = rw c.in-Some.is at (c.in_ok-placed.ensures.stands (finite.get c.args.settings.grok.now) before read) in
     record {
@@ -38,7 +39,7 @@ items-preserved c =
     }
 
 pub returns-in-Some : goal.returns-in-Some
-returns-in-Some c =
+returns-in-Some g c =
     let stored = finite.get c.args.settings.grok.now in
     let placed = c.in-Some.placed in
     let (before, read) = c.items.invariant.read in
@@ -53,5 +54,6 @@ returns-in-Some c =
           (subst (λ text. IsPieceAt stored text before placed.range.start placed.range.end (item_view placed.item)) c.items.invariant.text stands);
       named = refl;
       is = whole.1 ∙ c.text-definition.ensures;
+      syntax = subst IsOfSyntax (sym c.in-Syntax.is) tt;
       part = found.part;
     }

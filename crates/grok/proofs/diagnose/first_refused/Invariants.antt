@@ -5,10 +5,10 @@ use Rattle.grok.specs.steps.PlacedItems.{HasRead, left_in}
 use Rattle.grok.proofs.diagnose.first_refused.Given as goal
 
 abbrev pub invariant-items : goal.invariant-items
-invariant-items l = record {
+invariant-items g l = record {
   read : (before : List Item) × HasRead (finite.get l.settings.grok.now) before l.items;
   text : l.items.text.now ≡ l.text;
 }
 
 abbrev pub decreases-items : goal.decreases-items
-decreases-items l = length (left_in l.items)
+decreases-items g l = length (left_in l.items)
