@@ -40,27 +40,31 @@ pub mod steps
 -- THE WORDS FOR CALLERS: every definition that a contract of a public call uses.
 -- pieces
 pub use Rattle.grok.specs.Pieces.{Piece, Regular, Placeholder, Malformed, Parts, pieces}
-pub use Rattle.grok.specs.Pieces.{is_name_byte}
+pub use Rattle.grok.specs.Pieces.{is_name_byte, is_brace, pieces_at}
 pub use Rattle.grok.specs.PlaceholderNames.{is_name}
-pub use Rattle.grok.specs.Grammar.{ArePieces}
+pub use Rattle.grok.specs.Grammar.{ArePieces, NonePass}
 pub use Rattle.grok.specs.Views.{piece_view}
-pub use Rattle.grok.specs.Texts.{component_text}
+pub use Rattle.grok.specs.Texts.{component_text, component_debug, fault_words}
+pub use Rattle.grok.specs.steps.Tiles.{Tile}
+pub use Rattle.grok.specs.steps.Joined.{AreRegular, AreWellFormed, joined_pieces}
 -- definitions, and the tree of a pattern
-pub use Rattle.grok.specs.Maps.{set_all, pair_texts}
+pub use Rattle.grok.specs.Maps.{Texts, texts_of, texts_code, set_all, pair_texts}
+pub use Rattle.grok.specs.steps.Named.{NoneNames}
 pub use Rattle.grok.specs.DefaultDefinitions.{default_definitions}
 pub use Rattle.grok.specs.Tree.{Definitions, Item, Event, Fault, items_of, definition_of, tree, first_structural, reached}
-pub use Rattle.grok.specs.Keys.{capturing, keys, extract_of, first_fault}
+pub use Rattle.grok.specs.TreeLaws.{OwnDefinitionHolds, EarlierDefinitionHolds, StoredDefinitionHolds, UnusedDefinitionsDoNotMatter, ModesFaultAlike, HeadsAloneDiffer}
+pub use Rattle.grok.specs.Keys.{capturing, keys, extract_of, first_fault, numbered, EndsInNumberWhereNumbered, ClashNeedsNumber, KeysAreDistinct}
+pub use Rattle.grok.specs.FirstFault.{FirstFaultIsFirst, OtherFaultIsStructural, ExtractIsLast}
 pub use Rattle.grok.specs.Expanded.{expanded}
 -- sizes
-pub use Rattle.grok.specs.Measured.{measured_tree, reached_pieces, reached_texts, saturated}
-pub use Rattle.grok.specs.Measured.{measure_view}
+pub use Rattle.grok.specs.Measured.{measured_tree, reached_pieces, reached_texts, saturated, tree_of, measure_view}
 pub use Rattle.grok.specs.CountedMeasures.{IsCountedMeasure}
 -- what is wrong with a pattern, and where: faults and clashes, and which piece writes a byte of the expanded text
 pub use Rattle.grok.specs.FaultLocations.{IsFaultAt, IsFaultOf, path_view}
 pub use Rattle.grok.specs.ByteLocations.{HasByte, IsEventAt, IsByteLocation, LocatesByte}
 pub use Rattle.grok.specs.ClashLocations.{HasKeyAt, IsClashAt}
 pub use Rattle.grok.specs.Malformations.{IsMalformedAt}
-pub use Rattle.grok.specs.Diagnoses.{FindsDiagnosis, IsDiagnosis, IsFine, IsFirstStructural, IsFirstMalformed, IsFirstClashOf, IsRefusedAs, IsRefusedPart, LeadsTo, IsTooLong, LocatesReason, IsOriginOf}
+pub use Rattle.grok.specs.Diagnoses.{FindsDiagnosis, IsDiagnosis, IsFine, IsFirstStructural, IsFirstMalformed, IsFirstClashOf, IsRefusedAs, IsBlamed, IsRefusedPart, LeadsTo, IsTooLong, LocatesReason, IsOriginOf}
 -- errors, and what compiling returns
 pub use Rattle.grok.specs.Items.{fault_view}
 pub use Rattle.grok.specs.Errors.{ErrorValue, error_value, error_text}
@@ -68,15 +72,18 @@ pub use Rattle.grok.specs.Compiled.{Expansion, expansion_of, Compiles, IsPattern
 -- the keys of the placeholders of a pattern
 pub use Rattle.grok.specs.KeyNumbers.{key_text, key_number, numbers}
 pub use Rattle.grok.specs.PlaceholderKeys.{AreKeysOf}
--- why `regex` refuses the expanded text
+-- whether a text was accepted, or why it was refused
 pub use Rattle.grok.specs.Refusals.{IsAccepted, IsReasonFor, IsOfSyntax, IsOfBrackets}
 -- engines
 pub use Rattle.grok.specs.Captures.{name_texts, text_of, capture_texts, found_texts, IsSliceOf, AreSlicesOf, IsMatchIn}
 pub use Rattle.grok.specs.Engines.{engine_regex}
-pub use Rattle.grok.specs.RegexFinds.{IsReadByDefault, IsRegexOf, MayRefuse, captures_in, captures_by}
+pub use Rattle.grok.specs.RegexFinds.{IsReadByDefault, IsWithinLimit, IsRegexOf, MayRefuse, captures_in, captures_by}
 pub use Rattle.grok.specs.Locations.{IsLocationIn, AreLocationsIn, located_texts}
 pub use Rattle.regex.specs.Strings
 -- patterns and matches
 pub use Rattle.grok.specs.KeyTable.{Entries, IsKeyTable, group_in}
-pub use Rattle.grok.specs.Answers.{PatternValue, MatchesValue, value_of, walk}
+pub use Rattle.grok.specs.Answers.{PatternValue, MatchesValue, extract_texts, pattern_code, matches_code, value_of, walk}
+pub use Rattle.grok.specs.Groups.{group_texts}
+pub use Rattle.grok.specs.AnswerLaws.{WalksHaveTheAnsweredKeys, AnswersAreThoseOfTheWalk, GeneratedNamesMeanTheirKeys, OtherNamesMeanThemselves, GroupsAreTheGreatest}
 pub use Rattle.grok.specs.BorrowedMatches.{borrowed_line, borrowed_keys, borrowed_captures}
+pub use Rattle.grok.specs.Debugs.{debug_texts, debug_pairs}

@@ -1,4 +1,4 @@
--- Definitions that only contracts of private functions use.
+-- Definitions that only private functions and laws use.
 pub mod Rows
 pub mod KnownParts
 pub mod RowReading

@@ -14,7 +14,7 @@ ghost use Rattle.grok.specs.Errors.{error_value, Memory as memory};
 ghost use Rattle.grok.specs.Compiled.{IsExpansionError, IsFirstError, IsBuilt, IsRefusal, Compiles, expansion_of};
 ghost use Rattle.grok.specs.steps.Expansions.{Expands, IsExpansionOf};
 ghost use Rattle.grok.specs.steps.FullMeasures.{IsFullMeasure};
-ghost use Rattle.grok.specs.RegexFinds.{IsReadByDefault, MayRefuse};
+ghost use Rattle.grok.specs.RegexFinds.{IsReadByDefault, IsWithinLimit, MayRefuse};
 ghost use Rattle.grok.specs.Engines.{engine_regex};
 ghost use Rattle.regex.specs.Strings.{regex_source, regex_names};
 
@@ -206,6 +206,7 @@ impl Grok {
             (λ engine. regex_names (engine_regex engine)) MayRefuse
             (expansion_of self.now with_alias_only pattern.now) result }
         ensures read { IfOk result (λ pattern. ∥ IsReadByDefault (engine_regex pattern.engine) ∥₁) }
+        ensures small { IfOk result (λ pattern. IsWithinLimit (engine_regex pattern.engine)) }
     {
         self.compile_with::<RegexEngine>(pattern, with_alias_only)
     }

@@ -306,7 +306,8 @@ fn innermost<'a, B: BuildFromText>(
 
 impl Grok {
     /// Finds out why [`Grok::compile`] returns an error for a pattern, and where in the pattern or
-    /// its definitions the reason is. Returns `None` if the pattern compiles.
+    /// its definitions the reason is. Returns `None` if nothing is wrong. Both calls ask `regex` alike,
+    /// for the same text.
     ///
     /// Each definition is read as often as [`Grok::compile`] reads it. Then only the definitions that
     /// lead to a location are read again, at most [`MAX_NESTING`] for each location. If `regex` refuses

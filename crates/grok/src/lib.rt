@@ -24,13 +24,16 @@
 //! ```
 //!
 //! [`Grok::compile`] returns an [`Error`] for the first fault in reading order, or if the engine
-//! refuses the expanded text. [`Grok::diagnose`] returns what is wrong, and where. [`Grok::measure`]
-//! returns the size of the expanded text without expanding it.
+//! refuses the expanded text. [`Grok::diagnose`] returns what is wrong, and where in the pattern or
+//! in a definition. It returns no location if the pattern is empty, if its expanded text is too
+//! long, if the regex is too big, or if `regex` reports the end of the text.
+//! [`Grok::measure`] returns the size of the expanded text without expanding it.
 //! Every call that allocates returns a `Result`, and a call that fails changes nothing.
 //!
 //! To match many lines, make a [`Matcher`] once. It returns what [`PatternOf::match_against`]
 //! returns, and keeps the engine's caches from line to line. [`MatcherOf::find`] returns a match
-//! that is borrowed until the next line, and allocates nothing for it.
+//! that is borrowed until the next line, and copies nothing of it. Only the engine may allocate, as
+//! the caches of `regex` do until they are filled.
 #![tactic(auto)]
 
 mod compile;

@@ -1,5 +1,7 @@
-//! Tests of `diagnose`: what is wrong with a pattern, and where. The contract says which diagnosis is right; the rows are
-//! worked by hand, so a definition that means another place than people do would fail them.
+//! Tests of `diagnose`: what is wrong with a pattern, and where. The rows are worked by hand, so a definition that means
+//! another place than people do would fail them. They also show what the contract of `diagnose` leaves open, since that of
+//! `regex` does: which regexes are too big, which kind of error a text gets and where, and how far the search for the
+//! part with the fault goes.
 
 use crate::libraries::{add_chain, add_doublings};
 use grok::{Clash, Diagnosis, Grok, Location, PathStep, RefusalReason, Refused};
@@ -197,10 +199,27 @@ const REFUSED: &[Row] = &[
         expected: "y(?:c)( has GroupUnclosed, at A 4..8 > B 5..9 > 5..6 of y%{C}(",
     },
     Row {
+        name: "a bracket too many, three levels deep, after definitions that are right",
+        definitions: &[
+            ("A", "%{U}a%{B}"),
+            ("B", "%{U}b%{C}"),
+            ("C", "%{U}c)"),
+            ("U", "u"),
+        ],
+        pattern: "%{U}%{A}",
+        expected: "(?:u)c) has GroupUnopened, at A 4..8 > B 5..9 > C 5..9 > 5..6 of %{U}c)",
+    },
+    Row {
         name: "a group that isn't closed, in the pattern, whose definitions are right",
         definitions: &[("A", "a")],
         pattern: "(%{A:key}",
         expected: "((?<_n_0>a) has GroupUnclosed, at 0..1 of (%{A:key}",
+    },
+    Row {
+        name: "a group that isn't closed, after a definition that is too big",
+        definitions: &[("A", "(a{1000}){1000}")],
+        pattern: "%{A}(",
+        expected: "(?:(a{1000}){1000})( has GroupUnclosed, at 4..5 of %{A}(",
     },
     Row {
         name: "a repetition of nothing, in a definition",
@@ -269,26 +288,33 @@ const REFUSED: &[Row] = &[
         pattern: r"a\",
         expected: r"a\ has EscapeUnexpectedEof, at 1..2 of a\",
     },
+    // A million states of 12 bytes are more than 10 MiB, and less than twice that.
     Row {
-        name: "a regex that is too big",
+        name: "a regex that is too big, and would not be with twice the limit",
         definitions: &[("A", "a{1000}")],
-        pattern: "(%{A:key}{1000}){1000}",
-        expected: "((?<_n_0>a{1000}){1000}){1000} is too big",
+        pattern: "%{A}{1000}",
+        expected: "(?:a{1000}){1000} is too big",
     },
 ];
 
-/// Patterns without a fault, and without a text.
-const OTHERS: &[Row] = &[
-    Row {
-        name: "the empty pattern",
-        definitions: &[],
-        pattern: "",
-        expected: "it is empty",
-    },
+/// Patterns without a fault.
+const RIGHT: &[Row] = &[
     Row {
         name: "a pattern that compiles",
         definitions: &[("A", "a")],
         pattern: "%{A:x[1]}%{A:x}",
+        expected: "nothing",
+    },
+    Row {
+        name: "a pattern that compiles, whose definition is used twice",
+        definitions: &[("A", "(a|b)")],
+        pattern: "%{A}%{A}",
+        expected: "nothing",
+    },
+    Row {
+        name: "a large pattern that compiles",
+        definitions: &[("A", "a{1000}")],
+        pattern: "%{A}{100}",
         expected: "nothing",
     },
 ];
@@ -375,6 +401,8 @@ fn describe(alloc: Global, found: &Option<Diagnosis<'_>>) -> Result<String, Allo
     }
 }
 
+/// Checks the diagnosis of a pattern, that `compile` refuses exactly what `diagnose` finds a fault in, and that it refuses
+/// the part that is blamed.
 fn check_row(rt: &(impl Abort + AllocGlobal), row: &Row) -> Result<(), Fail> {
     let grok = Grok::from_iter(rt.alloc(), row.definitions)?;
     let found = grok.diagnose(row.pattern, true)?;
@@ -382,16 +410,46 @@ fn check_row(rt: &(impl Abort + AllocGlobal), row: &Row) -> Result<(), Fail> {
     assert_eq!(rt; shown.as_str(), row.expected, "{}", row.name);
     let is_compiled = grok.compile(row.pattern, true).is_ok();
     assert!(rt; is_compiled == found.is_none(), "{}", row.name);
+    if let Some(Diagnosis::Refused(refused)) = &found
+        && !refused.path.is_empty()
+    {
+        assert!(rt; grok.compile(refused.part, true).is_err(), "{}", row.name);
+    }
+    Ok(())
+}
+
+fn check_rows(rt: &(impl Abort + AllocGlobal), rows: &[Row]) -> Result<(), Fail> {
+    for row in rows {
+        check_row(rt, row)?;
+    }
     Ok(())
 }
 
 #[test]
-fn rows(rt: HostRuntime) -> Result<(), Fail> {
-    for rows in [STRUCTURAL, CLASHES, REFUSED, OTHERS] {
-        for row in rows {
-            check_row(&rt, row)?;
-        }
-    }
+fn structural_faults(rt: HostRuntime) -> Result<(), Fail> {
+    check_rows(&rt, STRUCTURAL)
+}
+
+#[test]
+fn clashes(rt: HostRuntime) -> Result<(), Fail> {
+    check_rows(&rt, CLASHES)
+}
+
+#[test]
+fn refused_texts(rt: HostRuntime) -> Result<(), Fail> {
+    check_rows(&rt, REFUSED)
+}
+
+#[test]
+fn right_patterns(rt: HostRuntime) -> Result<(), Fail> {
+    check_rows(&rt, RIGHT)
+}
+
+#[test]
+fn the_empty_pattern(rt: HostRuntime) -> Result<(), Fail> {
+    let grok = Grok::empty(rt.alloc());
+    let found = grok.diagnose("", true)?;
+    assert!(rt; found == Some(Diagnosis::Empty));
     Ok(())
 }
 

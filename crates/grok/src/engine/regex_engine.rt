@@ -3,7 +3,7 @@ ghost use Rattle.std.specs.Prelude.{◌≡◌, ◌≢◌, ◌↔◌, ℕ, List, 
 ghost use Rattle.std.specs.Option.{ForSome};
 ghost use Rattle.grok.specs.Captures.{text_of, capture_texts, texts_if, IsSliceOf, AreSlicesOf, IsMatchIn};
 ghost use Rattle.grok.specs.Locations.{IsLocationIn, AreLocationsIn, located_texts};
-ghost use Rattle.grok.specs.RegexFinds.{IsReadByDefault, captures_by, texts_at, text_at};
+ghost use Rattle.grok.specs.RegexFinds.{IsReadByDefault, IsWithinLimit, captures_by, texts_at, text_at};
 ghost use Rattle.regex.specs.declared.error.Error.{Error};
 ghost use Rattle.regex.specs.declared.error.Error.TheVariants.{Internal, OutOfMemory};
 ghost use Rattle.regex.specs.Strings.{captures_haystack, captures_span, captures_names, regex_names};
@@ -51,6 +51,7 @@ pub struct RegexEngine {
     pub(crate) regex: Box<Regex>,
     search: SharedSearch,
     ghost by_default: { ∥ IsReadByDefault (box_value regex) ∥₁ },
+    ghost within_limit: { IsWithinLimit (box_value regex) },
 }
 
 // Not derived: the proof of a crate that drops a pattern then has one call here, and not the drop of
