@@ -216,12 +216,6 @@ const REFUSED: &[Row] = &[
         expected: "((?<_n_0>a) has GroupUnclosed, at 0..1 of (%{A:key}",
     },
     Row {
-        name: "a group that isn't closed, after a definition that is too big",
-        definitions: &[("A", "(a{1000}){1000}")],
-        pattern: "%{A}(",
-        expected: "(?:(a{1000}){1000})( has GroupUnclosed, at 4..5 of %{A}(",
-    },
-    Row {
         name: "a repetition of nothing, in a definition",
         definitions: &[("A", "*a")],
         pattern: "%{A}",
@@ -288,12 +282,21 @@ const REFUSED: &[Row] = &[
         pattern: r"a\",
         expected: r"a\ has EscapeUnexpectedEof, at 1..2 of a\",
     },
-    // A million states of 12 bytes are more than 10 MiB, and less than twice that.
+];
+
+/// Regexes of a million states. These take 12 MB, which is more than the limit of 10 MiB, and less than twice that.
+const TOO_BIG: &[Row] = &[
     Row {
-        name: "a regex that is too big, and would not be with twice the limit",
+        name: "a regex that twice the limit would allow",
         definitions: &[("A", "a{1000}")],
         pattern: "%{A}{1000}",
         expected: "(?:a{1000}){1000} is too big",
+    },
+    Row {
+        name: "a group that isn't closed, after a definition that is too big",
+        definitions: &[("A", "(a{1000}){1000}")],
+        pattern: "%{A}(",
+        expected: "(?:(a{1000}){1000})( has GroupUnclosed, at 4..5 of %{A}(",
     },
 ];
 
@@ -438,6 +441,11 @@ fn clashes(rt: HostRuntime) -> Result<(), Fail> {
 #[test]
 fn refused_texts(rt: HostRuntime) -> Result<(), Fail> {
     check_rows(&rt, REFUSED)
+}
+
+#[test]
+fn regexes_that_are_too_big(rt: HostRuntime) -> Result<(), Fail> {
+    check_rows(&rt, TOO_BIG)
 }
 
 #[test]
