@@ -48,7 +48,8 @@ pub use Rattle.grok.specs.Texts.{component_text, component_debug, fault_words}
 pub use Rattle.grok.specs.steps.Tiles.{Tile}
 pub use Rattle.grok.specs.steps.Joined.{AreRegular, AreWellFormed, joined_pieces}
 -- definitions, and the tree of a pattern
-pub use Rattle.grok.specs.Maps.{Texts, texts_of, texts_code, set_all, pair_texts}
+-- (`Texts` of `Maps` is named by its path, since a file here has that name too)
+pub use Rattle.grok.specs.Maps.{texts_of, texts_code, set_all, pair_texts}
 pub use Rattle.grok.specs.steps.Named.{NoneNames}
 pub use Rattle.grok.specs.DefaultDefinitions.{default_definitions}
 pub use Rattle.grok.specs.Tree.{Definitions, Item, Event, Fault, items_of, definition_of, tree, first_structural, reached}
