@@ -304,6 +304,23 @@ fn innermost<'a, B: BuildFromText>(
     })
 }
 
+/// Returns the diagnosis of a pattern.
+fn diagnose_pattern<'a, B: BuildFromText>(
+    settings: Settings<'a>,
+    pattern: &'a str,
+) -> Result<Option<Diagnosis<'a>>, AllocError>
+    ensures { IfOk result (FindsDiagnosis B.is_built_from B.refuses
+        settings.entry.grok.now settings.entry.with_alias_only pattern.now) }
+{
+    match diagnose_whole::<B>(settings, pattern)? {
+        Some(Diagnosis::Refused(refused)) => {
+            let refused = innermost::<B>(settings, refused)?;
+            Ok(Some(Diagnosis::Refused(refused)))
+        }
+        found => Ok(found),
+    }
+}
+
 impl Grok {
     /// Finds out why [`Grok::compile`] returns an error for a pattern, and where in the pattern or
     /// its definitions the reason is. Returns `None` if nothing is wrong. Both calls ask `regex` alike,
@@ -329,12 +346,6 @@ impl Grok {
             grok: self,
             with_alias_only,
         };
-        match diagnose_whole::<Regex>(settings, pattern)? {
-            Some(Diagnosis::Refused(refused)) => {
-                let refused = innermost::<Regex>(settings, refused)?;
-                Ok(Some(Diagnosis::Refused(refused)))
-            }
-            found => Ok(found),
-        }
+        diagnose_pattern::<Regex>(settings, pattern)
     }
 }
