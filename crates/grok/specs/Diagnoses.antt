@@ -1,5 +1,5 @@
 -- What is wrong with a pattern, and where.
-use Rattle.std.specs.Prelude.{◌≡◌, ◌≢◌, ℕ, ◌+◌, ◌-◌, min, Bool, List, [], ◌∷◌, ◌++◌, Option, Some, None, MatchOption, string_bytes}
+use Rattle.std.specs.Prelude.{◌≡◌, ◌≢◌, ◌⊎◌, All, length, ◌<◌, ℕ, ◌+◌, ◌-◌, min, Bool, List, [], ◌∷◌, ◌++◌, Option, Some, None, MatchOption, string_bytes}
 use Rattle.std.specs.FinMap as finite
 use Rattle.grok.specs.Maps.{Texts}
 use Rattle.grok.specs.Tree as tree
@@ -107,6 +107,43 @@ pub record IsRefusedAs (refuses : List ℕ → Error → Type 0) (texts : Texts)
   pub blamed : IsBlamed (path_view refused.path.items) whole refused.reason
   pub leads : LeadsTo (finite.get texts) pattern (path_view refused.path.items) refused.part.now
   pub part : IsRefusedPart refuses texts alias_only refused
+
+-- The definition isn't to blame: unless it is empty or has a fault, its own expanded text was accepted, or was refused for its
+-- size.
+abbrev pub IsNotToBlame : {E : Type 0} → (is_built_from : E → List ℕ → Type 0) → (refuses : List ℕ → Error → Type 0)
+    → Texts → Bool → List ℕ → Type 0
+IsNotToBlame is_built_from refuses texts alias_only text = text ≢ [] → CanBuild (expansion_of texts alias_only text)
+    → IsAccepted is_built_from (expanded alias_only (tree.tree (finite.get texts) text))
+    ⊎ IsReasonFor refuses (expanded alias_only (tree.tree (finite.get texts) text)) TooBig
+
+-- if the item is a placeholder, what it stands for has the property
+abbrev pub IfPlaceholder : (List ℕ → Type 0) → tree.Item → Type 0
+IfPlaceholder P (tree.TextItem text) = Unit {0}
+IfPlaceholder P (tree.FaultItem fault) = Unit {0}
+IfPlaceholder P (tree.PlaceholderItem label meaning) = P (tree.meaning_text meaning)
+
+-- no definition that the text uses is to blame
+abbrev pub AreNotToBlame : {E : Type 0} → (is_built_from : E → List ℕ → Type 0) → (refuses : List ℕ → Error → Type 0)
+    → Texts → Bool → List ℕ → Type 0
+AreNotToBlame is_built_from refuses texts alias_only text =
+    All (IfPlaceholder (IsNotToBlame is_built_from refuses texts alias_only)) (tree.items_of (finite.get texts) text)
+
+-- The search for the part to blame goes as far as it can: if brackets of the part don't match, no definition that it uses is
+-- to blame. (At most 1,023 placeholders are nested, so a part to which that many lead uses no definition.)
+abbrev pub IsInnermost : {E : Type 0} → (is_built_from : E → List ℕ → Type 0) → (refuses : List ℕ → Error → Type 0)
+    → Texts → Bool → Refused → Type 0
+IsInnermost is_built_from refuses texts alias_only refused = IsOfBrackets refused.reason
+    → length refused.path.items < 1023 → AreNotToBlame is_built_from refuses texts alias_only refused.part.now
+
+-- if `regex` refuses the pattern, what is refused has the property
+abbrev pub IfRefused : (Refused → Type 0) → Diagnosis → Type 0
+IfRefused P (diagnosis.Refused refused) = P refused
+IfRefused P diagnosis.Empty = Unit {0}
+IfRefused P (diagnosis.Malformed reason byte location) = Unit {0}
+IfRefused P (diagnosis.Missing name location) = Unit {0}
+IfRefused P (diagnosis.TooDeep location) = Unit {0}
+IfRefused P (diagnosis.Clash clash) = Unit {0}
+IfRefused P diagnosis.TooLong = Unit {0}
 
 -- The pattern has no structural fault, and its expanded text is longer than the greatest `usize`.
 pub record IsTooLong (texts : Texts) (alias_only : Bool) (pattern : List ℕ) : Type 0 where

@@ -65,7 +65,7 @@ pub use Rattle.grok.specs.FaultLocations.{IsFaultAt, IsFaultOf, path_view}
 pub use Rattle.grok.specs.ByteLocations.{HasByte, IsEventAt, IsByteLocation, LocatesByte}
 pub use Rattle.grok.specs.ClashLocations.{HasKeyAt, IsClashAt}
 pub use Rattle.grok.specs.Malformations.{IsMalformedAt}
-pub use Rattle.grok.specs.Diagnoses.{FindsDiagnosis, IsDiagnosis, IsFine, IsFirstStructural, IsFirstMalformed, IsFirstClashOf, IsRefusedAs, IsBlamed, IsRefusedPart, LeadsTo, IsTooLong, LocatesReason, IsOriginOf}
+pub use Rattle.grok.specs.Diagnoses.{FindsDiagnosis, IsDiagnosis, IsFine, IsFirstStructural, IsFirstMalformed, IsFirstClashOf, IsRefusedAs, IsBlamed, IsRefusedPart, IsInnermost, AreNotToBlame, IsNotToBlame, IfPlaceholder, IfRefused, LeadsTo, IsTooLong, LocatesReason, IsOriginOf}
 -- errors, and what compiling returns
 pub use Rattle.grok.specs.Items.{fault_view}
 pub use Rattle.grok.specs.Errors.{ErrorValue, error_value, error_text}

@@ -7,10 +7,11 @@ ghost use Rattle.grok.specs.Expanded.{expanded};
 ghost use Rattle.grok.specs.ByteLocations.{HasByte};
 ghost use Rattle.grok.specs.steps.MeasureCache.{HasCorrectCache};
 ghost use Rattle.grok.specs.FaultLocations.{path_view};
-ghost use Rattle.grok.specs.Diagnoses.{IsRangeOf, IsOriginOf, LocatesReason, LeadsTo, IsBlamed, IsRefusedPart, FindsDiagnosis};
+ghost use Rattle.grok.specs.Diagnoses.{IsRangeOf, IsOriginOf, LocatesReason, LeadsTo, IsBlamed, IsRefusedPart, IsNotToBlame, AreNotToBlame, IsInnermost, IfRefused, FindsDiagnosis};
 ghost use Rattle.grok.specs.RegexFinds.{IsRegexOf};
+ghost use Rattle.grok.specs.Refusals.{IsOfBrackets};
 ghost use Rattle.regex.specs.Strings.{IsDefaultFailure};
-ghost use Rattle.grok.specs.steps.RefusedParts.{IsWhole, IsRefusedIn};
+ghost use Rattle.grok.specs.steps.RefusedParts.{IsWhole, IsToBlame, IsRefusedIn};
 
 use crate::compile::expand_clean;
 use crate::defs::Grok;
@@ -162,7 +163,7 @@ fn diagnose_refusal<'a, B: BuildFromText>(
         (tree_of (finite.get measurer.settings.grok.now) pattern.now)) }
     ensures found { IfOk result (FindsDiagnosis B.is_built_from B.refuses
         measurer.entry.settings.grok.now measurer.entry.settings.with_alias_only pattern.now) }
-    ensures whole { IfOk result (λ found. IfSome found (IsWhole pattern.now)) }
+    ensures whole { IfOk result (λ found. IfSome found (IfRefused (IsWhole pattern.now))) }
 {
     let settings = measurer.settings;
     let ExpandedPattern { text, .. } = expand_clean(settings, pattern, length)?;
@@ -190,7 +191,7 @@ fn diagnose_structural<'a, B: BuildFromText>(
         (tree_of (finite.get measurer.settings.grok.now) pattern.now) ≢ Some (KeyClash key) }
     ensures found { IfOk result (FindsDiagnosis B.is_built_from B.refuses
         measurer.entry.settings.grok.now measurer.entry.settings.with_alias_only pattern.now) }
-    ensures whole { IfOk result (λ found. IfSome found (IsWhole pattern.now)) }
+    ensures whole { IfOk result (λ found. IfSome found (IfRefused (IsWhole pattern.now))) }
 {
     let Some(found) = locate_fault(measurer, pattern)? else {
         return Ok(None);
@@ -218,7 +219,7 @@ fn diagnose_whole<'a, B: BuildFromText>(
 ) -> Result<Option<Diagnosis<'a>>, AllocError>
     ensures found { IfOk result (FindsDiagnosis B.is_built_from B.refuses
         settings.entry.grok.now settings.entry.with_alias_only pattern.now) }
-    ensures whole { IfOk result (λ found. IfSome found (IsWhole pattern.now)) }
+    ensures whole { IfOk result (λ found. IfSome found (IfRefused (IsWhole pattern.now))) }
 {
     if pattern.is_empty() {
         return Ok(Some(Diagnosis::Empty));
@@ -237,13 +238,34 @@ fn diagnose_whole<'a, B: BuildFromText>(
     }
 }
 
+/// Returns what `regex` refuses of a definition alone, if it refuses it because of its syntax.
+fn refused_for_syntax<'a, B: BuildFromText>(
+    settings: Settings<'a>,
+    definition: &'a str,
+) -> Result<Option<Refused<'a>>, AllocError>
+    ensures { IfOk result (λ found. MatchOption found
+        (IsNotToBlame B.is_built_from B.refuses
+        settings.entry.grok.now settings.entry.with_alias_only definition.now)
+        (IsToBlame B.refuses settings.entry definition.now)) }
+{
+    let Some(Diagnosis::Refused(refused)) = diagnose_whole::<B>(settings, definition)? else {
+        return Ok(None);
+    };
+    match refused.reason {
+        RefusalReason::Syntax(_) => Ok(Some(refused)),
+        RefusalReason::TooBig => Ok(None),
+    }
+}
+
 /// Returns the first placeholder of a text whose definition `regex` refuses alone because of its
 /// syntax, and what is refused. Returns `None` if there is none.
 fn first_refused<'a, B: BuildFromText>(
     settings: Settings<'a>,
     text: &'a str,
 ) -> Result<Option<(PathStep<'a>, Refused<'a>)>, AllocError>
-    ensures { IfOk result (λ found. IfSome found
+    ensures { IfOk result (λ found. MatchOption found
+        (AreNotToBlame B.is_built_from B.refuses
+        settings.entry.grok.now settings.entry.with_alias_only text.now)
         (λ at. IsRefusedIn B.refuses settings.entry text.now at.0 at.1)) }
 {
     let mut seen = BTreeMap::new(settings.grok.alloc());
@@ -256,9 +278,7 @@ fn first_refused<'a, B: BuildFromText>(
         if seen.insert(definition, ())?.is_some() {
             continue;
         }
-        if let Some(Diagnosis::Refused(refused)) = diagnose_whole::<B>(settings, definition)?
-            && let RefusalReason::Syntax(_) = refused.reason
-        {
+        if let Some(refused) = refused_for_syntax::<B>(settings, definition)? {
             let step = PathStep {
                 name: label.name,
                 range: placed.range,
@@ -267,6 +287,24 @@ fn first_refused<'a, B: BuildFromText>(
         }
     }
     Ok(None)
+}
+
+/// Returns the first placeholder of a refused part whose definition is to blame for brackets that
+/// don't match, and what is refused of that definition. Returns `None` if there is none.
+fn first_to_blame<'a, B: BuildFromText>(
+    settings: Settings<'a>,
+    outer: &Refused<'a>,
+) -> Result<Option<(PathStep<'a>, Refused<'a>)>, AllocError>
+    ensures { IfOk result (λ found. MatchOption found
+        (IsOfBrackets outer.now.reason → AreNotToBlame B.is_built_from B.refuses
+        settings.entry.grok.now settings.entry.with_alias_only outer.now.part.now)
+        (λ at. IsOfBrackets outer.now.reason
+        × IsRefusedIn B.refuses settings.entry outer.now.part.now at.0 at.1)) }
+{
+    if !outer.reason.is_of_brackets() {
+        return Ok(None);
+    }
+    first_refused::<B>(settings, outer.part)
 }
 
 /// Returns the innermost refused part: while brackets don't match and a definition of the part is
@@ -282,26 +320,21 @@ fn innermost<'a, B: BuildFromText>(
         refused.entry.reason inner.reason) }
     ensures part { IfOk result (λ inner. IsRefusedPart B.refuses
         settings.entry.grok.now settings.entry.with_alias_only inner) }
+    ensures innermost { IfOk result (IsInnermost B.is_built_from B.refuses
+        settings.entry.grok.now settings.entry.with_alias_only) }
 {
     let mut path = Vec::new(settings.grok.alloc());
     let mut inner = refused;
     'levels: for _level in 0..MAX_NESTING {
-        if !inner.reason.is_of_brackets() {
-            break;
-        }
-        let Some((step, refused)) = first_refused::<B>(settings, inner.part)? else {
-            break;
+        let Some((step, refused)) = first_to_blame::<B>(settings, &inner)? else {
+            inner.path = path;
+            return Ok(inner);
         };
         path.push(step)?;
         inner = refused;
     }
-    Ok(Refused {
-        path,
-        part: inner.part,
-        text: inner.text,
-        reason: inner.reason,
-        location: inner.location,
-    })
+    inner.path = path;
+    Ok(inner)
 }
 
 /// Returns the diagnosis of a pattern.
@@ -309,8 +342,11 @@ fn diagnose_pattern<'a, B: BuildFromText>(
     settings: Settings<'a>,
     pattern: &'a str,
 ) -> Result<Option<Diagnosis<'a>>, AllocError>
-    ensures { IfOk result (FindsDiagnosis B.is_built_from B.refuses
+    ensures found { IfOk result (FindsDiagnosis B.is_built_from B.refuses
         settings.entry.grok.now settings.entry.with_alias_only pattern.now) }
+    ensures innermost { IfOk result (λ found. IfSome found (IfRefused
+        (IsInnermost B.is_built_from B.refuses
+        settings.entry.grok.now settings.entry.with_alias_only))) }
 {
     match diagnose_whole::<B>(settings, pattern)? {
         Some(Diagnosis::Refused(refused)) => {
@@ -340,7 +376,10 @@ impl Grok {
         pattern: &'a str,
         with_alias_only: bool,
     ) -> Result<Option<Diagnosis<'a>>, AllocError>
-        ensures { IfOk result (FindsDiagnosis IsRegexOf IsDefaultFailure self.now with_alias_only pattern.now) }
+        ensures found { IfOk result
+            (FindsDiagnosis IsRegexOf IsDefaultFailure self.now with_alias_only pattern.now) }
+        ensures innermost { IfOk result (λ found. IfSome found
+            (IfRefused (IsInnermost IsRegexOf IsDefaultFailure self.now with_alias_only))) }
     {
         let settings = Settings {
             grok: self,

@@ -1,5 +1,5 @@
 //! Finds out why `regex` refuses the expanded text of a pattern.
-ghost use Rattle.std.specs.Prelude.{◌≡◌, ◌≢◌, IfOk, IsTrue, MatchOption, MatchResult};
+ghost use Rattle.std.specs.Prelude.{◌≡◌, ◌≢◌, ◌↔◌, IfOk, IsTrue, MatchOption, MatchResult};
 ghost use Rattle.regex.specs.declared.error.Error.TheVariants.{Internal, OutOfMemory};
 ghost use Rattle.grok.specs.Refusals.{regex_error_of, IsAccepted, IsReasonFor, IsOfBrackets};
 
@@ -20,7 +20,7 @@ pub enum RefusalReason {
 impl RefusalReason {
     /// Returns whether a group isn't closed, or a `)` closes none.
     pub(crate) fn is_of_brackets(self) -> bool
-        ensures { IsTrue result → IsOfBrackets self }
+        ensures { IsTrue result ↔ IsOfBrackets self }
     {
         matches!(
             self,

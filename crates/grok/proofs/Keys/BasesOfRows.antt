@@ -1,10 +1,10 @@
 -- The search handles each base key that can clash, and in the end all of them are free.
-use Rattle.std.proofs.Common.{◌≡◌, ℕ, zero, suc, ◌<◌, ◌≤◌, Bool, true, false, cond, List, [], ◌∷◌, ◌++◌, length, slice_get, Some, None, Option, Vec, Global, Bor, BTreeMap, refl, sym, ◌∙◌, ap, subst, inl, inr, arith}
+use Rattle.std.proofs.Common.{◌≡◌, ℕ, zero, suc, ◌<◌, ◌≤◌, Bool, true, false, cond, List, [], ◌∷◌, ◌++◌, ◌⊎◌, length, slice_get, Some, None, Option, Vec, Global, Bor, BTreeMap, refl, sym, ◌∙◌, ap, subst, inl, inr, arith}
 use Rattle.std.specs.Prelude.{is_some}
 use Rattle.std.specs.Str.{bytes_eq}
 use Rattle.std.specs.List.{AllByRecursion}
 use Rattle.std.specs.Map.{lookup}
-use Rattle.std.specs.BTreeMap.{is_at, get_by}
+use Rattle.std.specs.BTreeMap.{is_at, get_by, IsEmpty}
 use Rattle.std.specs.Cmp.Lexicographic.{slice_cmp}
 use Rattle.std.specs.Ordering.{nat_cmp}
 use Rattle.std.proofs.lemmas.Bool.{true≢false, cases_Bool, cases_eq, cases_lt}
@@ -60,6 +60,10 @@ module _ {V : Type 0} where
   pub bases_kept : (keys : List (List ℕ)) (old new : BTreeMap (Bor (List ℕ)) V) → ((base : List ℕ) → has_base old base ≡ true → has_base new base ≡ true) → HasBasesOf keys old → HasBasesOf keys new
   bases_kept keys old new kept p base count some = kept base (p base count some)
 
+  pub has_no_base : (bases : BTreeMap (Bor (List ℕ)) V) → IsEmpty bases → (base : List ℕ) → has_base bases base ≡ true → ⊥
+  has_no_base bases empty base has =
+      true≢false (sym has ∙ ap (λ entries. is_some (lookup (is_at (λ (key : Bor (List ℕ)). slice_cmp nat_cmp base key.now)) entries)) empty)
+
   -- ---- one base more
 
   some_of_cond : (b : Bool) (v : V) (o : Option V) → is_some (cond b (Some v) o) ≡ cond b true (is_some o)
@@ -79,6 +83,20 @@ module _ {V : Type 0} where
         always : (b : Bool) → cond b true true ≡ true
         always true = refl
         always false = refl
+
+    pub is_added_or_old : (base : List ℕ) → has_base new base ≡ true → (added ≡ base) ⊎ (has_base old base ≡ true)
+    is_added_or_old base has = elim (cases_Bool (bytes_eq added base)) [
+      | inl same ↦ inl (same_text added base same)
+      | inr apart ↦ inr (ap (λ b. cond b true (has_base old base)) (sym apart) ∙ sym (has_now base) ∙ has)
+    ]
+
+    -- what holds of each old base and of the added one
+    pub holds_of_each : (P : List ℕ → Type 0) → ((base : List ℕ) → has_base old base ≡ true → P base) → P added
+        → (base : List ℕ) → has_base new base ≡ true → P base
+    holds_of_each P each one base has = elim (is_added_or_old base has) [
+      | inl same ↦ subst P same one
+      | inr there ↦ each base there
+    ]
 
   -- ---- bases of rows
 

@@ -8,19 +8,19 @@ use Rattle.grok.specs.Diagnoses.{IsRefusedPart}
 use Rattle.regex.specs.declared.error.Error.{Error}
 use Rattle.grok.specs.declared.location.PathStep.{PathStep}
 use Rattle.grok.specs.declared.diagnose.Refused.{Refused}
-use Rattle.grok.specs.declared.diagnose.Diagnosis.{Diagnosis}
-use Rattle.grok.specs.declared.diagnose.Diagnosis.TheVariants as diagnosis
 use Rattle.grok.specs.declared.settings.Settings.{Settings}
 
--- if the pattern is refused, the refused part is the pattern itself
-abbrev pub IsWhole : List ℕ → Diagnosis → Type 0
-IsWhole pattern (diagnosis.Refused refused) = (refused.path.items ≡ []) × (refused.part.now ≡ pattern)
-IsWhole pattern diagnosis.Empty = Unit {0}
-IsWhole pattern (diagnosis.Malformed reason byte location) = Unit {0}
-IsWhole pattern (diagnosis.Missing name location) = Unit {0}
-IsWhole pattern (diagnosis.TooDeep location) = Unit {0}
-IsWhole pattern (diagnosis.Clash clash) = Unit {0}
-IsWhole pattern diagnosis.TooLong = Unit {0}
+-- the refused part is the pattern itself
+pub record IsWhole (pattern : List ℕ) (refused : Refused) : Type 0 where
+  pub path : refused.path.items ≡ []
+  pub part : refused.part.now ≡ pattern
+
+-- what is refused is this definition, for its syntax
+pub record IsToBlame (refuses : List ℕ → Error → Type 0) (settings : Settings) (definition : List ℕ) (refused : Refused)
+    : Type 0 where
+  pub is : refused.part.now ≡ definition
+  pub syntax : IsOfSyntax refused.reason
+  pub part : IsRefusedPart refuses settings.grok.now settings.with_alias_only refused
 
 -- the step is a placeholder of the text, and what it stands for was refused for its syntax
 pub record IsRefusedIn (refuses : List ℕ → Error → Type 0) (settings : Settings) (text : List ℕ) (step : PathStep)
@@ -30,6 +30,4 @@ pub record IsRefusedIn (refuses : List ℕ → Error → Type 0) (settings : Set
   pub meaning : Meaning
   pub stands : IsPieceAt (finite.get settings.grok.now) text before step.range.start step.range.end (PlaceholderItem label meaning)
   pub named : step.name.now ≡ label.name
-  pub is : refused.part.now ≡ meaning_text meaning
-  pub syntax : IsOfSyntax refused.reason
-  pub part : IsRefusedPart refuses settings.grok.now settings.with_alias_only refused
+  pub blame : IsToBlame refuses settings (meaning_text meaning) refused

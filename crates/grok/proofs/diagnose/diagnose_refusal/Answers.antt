@@ -26,7 +26,7 @@ returns g c =
           location = c.in_ok-location.ensures;
         };
       };
-      whole = (c.new.ensures.items, refl);
+      whole = record { path = c.new.ensures.items; part = refl };
     }
 
 pub locate_reason-requires-clause-clean : goal.locate_reason-requires-clause-clean
