@@ -1,12 +1,10 @@
-use Rattle.std.proofs.Common.{◌≡◌, ℕ, List, Bor, Some, [], ◌∷◌, ◌++◌, true, All, refl, sym, ◌∙◌, ap, subst, arith}
+use Rattle.std.proofs.Common.{ℕ, List, Bor, Some, [], ◌∷◌, ◌++◌, refl, sym, ◌∙◌, ap, subst, arith}
 use Rattle.std.specs.Prelude.{is_some}
 use Rattle.std.specs.FinMap as finite
 use Rattle.std.proofs.lemmas.Map.Text.{btree_map_updates_str}
-use Rattle.grok.specs.Tree.{items_of}
 use Rattle.grok.specs.Items.{item_view, label_view, meaning_view}
 use Rattle.grok.specs.FaultLocations.{IsPieceAt}
 use Rattle.grok.specs.Diagnoses.{IsNotToBlame, IfPlaceholder}
-use Rattle.grok.specs.steps.CountedUses.{has_base}
 use Rattle.grok.specs.steps.RefusedParts.{IsToBlame}
 use Rattle.grok.proofs.Keys.BasesOfRows.{has_no_base, holds_of_each}
 use Rattle.grok.proofs.Trees.BlamedParts.{one_more, no_placeholder}
