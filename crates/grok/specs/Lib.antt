@@ -44,7 +44,7 @@ pub use Rattle.grok.specs.Pieces.{is_name_byte}
 pub use Rattle.grok.specs.PlaceholderNames.{is_name}
 pub use Rattle.grok.specs.Grammar.{ArePieces}
 pub use Rattle.grok.specs.Views.{piece_view}
-pub use Rattle.grok.specs.Texts.{component_text}
+pub use Rattle.grok.specs.Texts.{component_text, IsFaultText, IsPieceText}
 -- definitions, and the tree of a pattern
 pub use Rattle.grok.specs.Maps.{set_all, pair_texts}
 pub use Rattle.grok.specs.DefaultDefinitions.{default_definitions}
