@@ -7,3 +7,5 @@ pub mod SettingOneName
 pub mod EntriesAreTable
 pub mod OneMoreInlineDefinition
 pub mod RoomIsLeft
+pub mod TextStandsAroundCharacter
+pub mod WrittenTextIsAppended

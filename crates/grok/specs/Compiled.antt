@@ -1,7 +1,7 @@
 -- What compiling a pattern returns.
-use Rattle.std.specs.Prelude.{◌≡◌, ◌≢◌, ℕ, ◌<◌, ◌^◌, Bool, List, [], ◌++◌, length, codes, Option, Some, None, Result, MatchResult, IfSome}
+use Rattle.std.specs.Prelude.{◌≡◌, ◌≢◌, ℕ, ◌<◌, ◌^◌, Bool, List, [], ◌++◌, length, codes, Option, Some, None, Result, MatchResult}
 use Rattle.std.specs.FinMap as finite
-use Rattle.grok.specs.Texts.{fault_words}
+use Rattle.grok.specs.Texts.{IsFaultText}
 use Rattle.grok.specs.Maps.{Texts}
 use Rattle.grok.specs.Tree.{Fault, MalformedPiece, Missing, TooDeep, Event, tree, first_structural}
 use Rattle.grok.specs.Keys.{TreeFault, Structural, Clash, first_fault, keys, capturing, extract_of}
@@ -15,15 +15,15 @@ use Rattle.grok.specs.declared.errors.error.Error.{Error}
 
 -- ---- errors of faults
 
--- The error is a `GenericCompilationFailure` with the message `words`. If `words` is `None`, it may have any message.
-abbrev pub FailsWith : Option (List ℕ) → ErrorValue → Type 0
-FailsWith words (GenericCompilationFailure message) = IfSome words (λ known. message ≡ known)
-FailsWith words error = ⊥
+-- The error is a `GenericCompilationFailure` with a message for which `is_message` holds.
+abbrev pub FailsWith : (List ℕ → Type 0) → ErrorValue → Type 0
+FailsWith is_message (GenericCompilationFailure message) = is_message message
+FailsWith is_message error = ⊥
 
 -- `error` is the error for this structural fault (a malformed placeholder, a missing definition, or nesting that is
 -- too deep). The message for a malformed placeholder is what Debug shows of its fault.
 abbrev pub IsFaultError : Fault → ErrorValue → Type 0
-IsFaultError (MalformedPiece fault) error = FailsWith (fault_words fault) error
+IsFaultError (MalformedPiece fault) error = FailsWith (IsFaultText fault) error
 IsFaultError (Missing name) error = error ≡ DefinitionNotFound name
 IsFaultError TooDeep error = error ≡ RecursionTooDeep
 

@@ -44,7 +44,7 @@ pub use Rattle.grok.specs.Pieces.{is_name_byte, is_brace, pieces_at}
 pub use Rattle.grok.specs.PlaceholderNames.{is_name}
 pub use Rattle.grok.specs.Grammar.{ArePieces, NonePass}
 pub use Rattle.grok.specs.Views.{piece_view}
-pub use Rattle.grok.specs.Texts.{component_text, component_debug, fault_words}
+pub use Rattle.grok.specs.Texts.{component_text, component_debug, fault_words, IsFaultText, IsPieceText}
 pub use Rattle.grok.specs.steps.Tiles.{Tile}
 pub use Rattle.grok.specs.steps.Joined.{AreRegular, AreWellFormed, joined_pieces}
 -- definitions, and the tree of a pattern

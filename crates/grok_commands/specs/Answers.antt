@@ -1,13 +1,7 @@
 -- Which answers were written. `old` and `new` are the bytes that the output had before and has after, or `None`
 -- for an output whose bytes the kit doesn't know.
-use Rattle.std.specs.Prelude.{◌≡◌, ℕ, List, [], ◌∷◌, ◌++◌, Option, Some, None}
+use Rattle.std.specs.Prelude.{◌≡◌, ℕ, List, [], ◌∷◌, ◌++◌, Option}
 use Rattle.std.specs.Io.KnownBytes.{Appends}
-
--- `printed` is the text in the first argument. If that is `None`, the text isn't specified, and `printed` may be
--- any.
-abbrev pub Prints : Option (List ℕ) → List ℕ → Type 0
-Prints None printed = Unit {0}
-Prints (Some text) printed = printed ≡ text
 
 -- `bytes` are an answer to each element of the list, one after another, and nothing else. `IsAnswer` says what an
 -- answer is.

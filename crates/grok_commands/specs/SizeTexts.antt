@@ -36,8 +36,7 @@ IsFaulty TooLong error = ⊥
 
 -- ---- check
 
--- `text` is the size, or the text of the fault's error. If the fault is a character that isn't allowed in a
--- placeholder, and this character isn't ASCII, the text of the error isn't specified.
+-- `text` is the size, or the text of the fault's error
 abbrev pub IsMeasuredText : Measured → List ℕ → Type 0
 IsMeasuredText (Faulty fault) text = (error : ErrorValue) × IsFaultError fault error
     × (text ≡ error_text error)

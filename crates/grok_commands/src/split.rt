@@ -2,40 +2,34 @@
 ghost use Rattle.std.specs.Prelude.{◌≡◌, ◌⊎◌, OnOk, IfOk, IfErr, IsErrOf, string_bytes};
 ghost use Rattle.std.specs.Io.KnownBytes.{append_known};
 ghost use Rattle.grok.specs.Pieces.{pieces};
-ghost use Rattle.grok.specs.Texts.{fault_words};
 ghost use Rattle.grok.specs.Views.{piece_view};
 ghost use Rattle.grok_lines.specs.Errors.{IsWriteError};
-ghost use Rattle.grok_commands.specs.Answers.{HasAnswered, HasAnsweredFirst, Prints};
+ghost use Rattle.grok_commands.specs.Answers.{HasAnswered, HasAnsweredFirst};
 ghost use Rattle.grok_commands.specs.Split.{IsPieceLine};
 
 use crate::fault::ToolFault;
-use grok::parser::{GrokComponent, GrokPatternError, grok_split};
+use grok::parser::{GrokComponent, grok_split};
 use grok_lines::{LinesError, finish, hold};
 use std::alloc::{AllocError, Global};
+use std::fmt::{self, Formatter};
 use std::io::Write;
 
-/// Returns a fault as Debug prints it, such as `InvalidCharacter('!')`.
-fn words_of(alloc: Global, fault: &GrokPatternError) -> Result<String, AllocError>
-    ensures { IfOk result (λ words. Prints (fault_words fault.now) (string_bytes words)) }
+/// Returns what `split` writes for a piece: what Display shows of it, and a line feed. The memory of
+/// `buffer` is used for it.
+fn line_of(mut buffer: String, piece: &GrokComponent<'_>) -> Result<String, AllocError>
+    ensures { IfOk result (λ line. IsPieceLine (piece_view piece.now) (string_bytes line)) }
 {
-    format!(in alloc; "{fault:?}")
-}
-
-/// Replaces `text` by what `split` writes for a piece: its text, or `<error F>` for a fault F, and
-/// a line feed.
-fn write_line(alloc: Global, text: &mut String, piece: &GrokComponent<'_>) -> Result<(), AllocError>
-    ensures { OnOk result (IsPieceLine (piece_view piece.now) (string_bytes text.new)) }
-{
-    text.clear();
-    match piece {
-        GrokComponent::RegularExpression { string, .. } => text.push_str(string)?,
-        GrokComponent::GrokPattern { pattern, .. } => text.push_str(pattern)?,
-        GrokComponent::PatternError(fault) => {
-            let words = words_of(alloc, fault)?;
-            write!(text, "<error {words}>")?;
+    buffer.clear();
+    let mut f = Formatter::new(buffer);
+    match fmt::Display::fmt(piece, &mut f) {
+        Ok(()) => {
+            let mut line = f.into_inner();
+            line.push('\n')?;
+            Ok(line)
         }
+        // own error: only an allocation of the text can fail.
+        Err(_) => Err(AllocError),
     }
-    text.push('\n')
 }
 
 /// Adds the line of each piece of a pattern to `held`, and sends what is held to `output` whenever
@@ -54,10 +48,10 @@ fn hold_pieces<W: Write>(
         (append_known (W.contents output.new) held.new.items) }
     ensures kind { IfErr result (λ error. (error ≡ LinesError.Memory) ⊎ IsWriteError error) }
 {
-    let mut text = String::new(alloc);
+    let mut line = String::new(alloc);
     'pieces: for piece in grok_split(pattern) {
-        write_line(alloc, &mut text, &piece)?;
-        hold(held, output, text.as_bytes())?;
+        line = line_of(line, &piece)?;
+        hold(held, output, line.as_bytes())?;
     }
     Ok(())
 }

@@ -87,6 +87,40 @@ fn groups_and_flags(rt: HostRuntime) -> Result<(), Fail> {
     )
 }
 
+/// Texts that both syntaxes have, in which they mean the same: nothing of them is written in another
+/// form. The last two have a malformed placeholder, which whoever reads the placeholders reports.
+const TEXTS_OF_BOTH: [&str; 15] = [
+    "",
+    "%{IP:client} %{WORD:method} %{URIPATHPARAM:request:string}",
+    r#"\[%{HTTPDATE:timestamp}\] "(?:%{WORD:verb} %{NOTSPACE:request}|-)""#,
+    "%{A:v=b+}%{B=c}",
+    "a*b+?c{2,3}d?",
+    "(a|b)(?:c)(?<name>d)",
+    "(?i:a)",
+    r#"[a-z0-9_]+[^"]*"#,
+    r"\d+\.\w\s\b\B\S\D\W\\",
+    "^a.b$",
+    "100%",
+    "5% of it",
+    "é, 日本",
+    "(?>a)%{A",
+    r"\h%{A:b:}",
+];
+
+#[test]
+fn texts_of_both_syntaxes_stay(rt: HostRuntime) -> Result<(), Fail> {
+    for text in TEXTS_OF_BOTH {
+        match rewrite(rt.alloc(), text, PATTERN)? {
+            Outcome::Rewritten(rewritten) => {
+                assert_eq!(rt; rewritten.text.as_str(), text);
+                assert_eq!(rt; rewritten.changes.len(), 0);
+            }
+            Outcome::Refused(_) => assert_eq!(rt; "is refused", text),
+        }
+    }
+    Ok(())
+}
+
 #[test]
 fn quantifiers(rt: HostRuntime) -> Result<(), Fail> {
     check(

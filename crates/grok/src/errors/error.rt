@@ -1,13 +1,15 @@
 //! The errors of compiling a pattern.
-ghost use Rattle.std.specs.Prelude.{◌≡◌, IfOk, Some};
+ghost use Rattle.std.specs.Prelude.{◌≡◌, IfOk, Some, string_bytes};
 ghost use Rattle.grok.specs.Errors.{error_value, error_text};
 ghost use Rattle.grok.specs.declared.errors.error.Error.TheVariants.{Memory};
+ghost use Rattle.grok.specs.Texts.{IsFaultText};
 ghost use Rattle.grok.specs.Items.{fault_view};
 ghost use Rattle.grok.specs.Keys.{Clash};
 ghost use Rattle.grok.specs.Compiled.{IsFaultError, IsErrorOf, error_of_refusal};
 
 use crate::engine::Refusal;
 use crate::errors::fault::Fault;
+use crate::parser::GrokPatternError;
 use std::alloc::{AllocError, AllocFailed, Global};
 use std::{error, fmt};
 
@@ -106,6 +108,18 @@ impl<T: Drop> From<AllocFailed<T>> for Error {
     }
 }
 
+/// Returns the text that Debug writes for a fault.
+fn words_of(alloc: Global, fault: &GrokPatternError) -> Result<String, AllocError>
+    ensures { IfOk result (λ words. IsFaultText fault.now (string_bytes words)) }
+{
+    let mut f = fmt::Formatter::new(String::new(alloc));
+    match fmt::Debug::fmt(fault, &mut f) {
+        Ok(()) => Ok(f.into_inner()),
+        // own error: only an allocation of the text can fail.
+        Err(_) => Err(AllocError),
+    }
+}
+
 impl Fault<'_> {
     /// Returns the error that compiling a pattern with this fault returns.
     ///
@@ -116,9 +130,7 @@ impl Fault<'_> {
         ensures { IfOk result (λ error. IsFaultError (fault_view self.now) (error_value error)) }
     {
         Ok(match self {
-            Fault::Malformed(fault) => {
-                Error::GenericCompilationFailure(format!(in alloc; "{fault:?}")?)
-            }
+            Fault::Malformed(fault) => { Error::GenericCompilationFailure(words_of(alloc, fault)?) }
             Fault::Missing(name) => Error::DefinitionNotFound(String::from_str(alloc, name)?),
             Fault::TooDeep => Error::RecursionTooDeep,
         })
