@@ -119,7 +119,7 @@ def finish(passed, failed, least=1):
     """Prints the last line of a script, which `tests/run` reads, and returns the script's status. Fewer tests than `least` are a
     failure."""
     if passed + failed < least:
-        print(f"FAILED: {passed + failed} tests were run, and not {least} or more")
+        print(f"FAILED: tests that were run: {passed + failed}, and not {least} or more")
         failed += 1
     print(f"{passed} passed, {failed} failed")
     return 1 if failed else 0
