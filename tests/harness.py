@@ -115,15 +115,21 @@ def passing(check, cases):
         return [found for outcomes in pool.map(outcome, cases) for found in outcomes]
 
 
-def finish(passed, failed):
-    """Prints the last line of a script, which `tests/run` reads, and returns the script's status."""
+def finish(passed, failed, least=1):
+    """Prints the last line of a script, which `tests/run` reads, and returns the script's status. Fewer tests than `least` are a
+    failure."""
+    if passed + failed < least:
+        print(f"FAILED: tests that were run: {passed + failed}, and not {least} or more")
+        failed += 1
     print(f"{passed} passed, {failed} failed")
     return 1 if failed else 0
 
 
-def main(tests):
+def main(tests, least=1):
     """Runs these tests, or those of them that have the script's first word in their names, and returns the script's status. A
-    test is a function. Unless it was `named`, its name is that of the function with blanks. What it returns is printed with it."""
+    test is a function. Unless it was `named`, its name is that of the function with blanks. What it returns is printed with it.
+    A script states by `least` how many tests it has, or more, so that none gets lost unnoticed. A word that is in no name is a
+    failure."""
     word = sys.argv[1] if len(sys.argv) > 1 else ""
     passed = failed = 0
     for test in tests:
@@ -137,4 +143,4 @@ def main(tests):
         except FAILURES as wrong:
             failed += 1
             print(f"{name}: FAILED: {failure(wrong)}", flush=True)
-    return finish(passed, failed)
+    return finish(passed, failed, 1 if word else least)
