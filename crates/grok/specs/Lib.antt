@@ -3,6 +3,8 @@ pub mod Pieces
 pub mod PlaceholderNames
 pub mod Views
 pub mod Grammar
+pub mod Tiles
+pub mod Joined
 pub mod Texts
 pub mod Numeral
 pub mod GeneratedNames
@@ -20,6 +22,7 @@ pub mod BorrowedMatches
 pub mod AnswerLaws
 pub mod DefaultDefinitions
 pub mod Tree
+pub mod Named
 pub mod Keys
 pub mod Expanded
 pub mod Items
@@ -45,12 +48,12 @@ pub use Rattle.grok.specs.PlaceholderNames.{is_name}
 pub use Rattle.grok.specs.Grammar.{ArePieces, NonePass}
 pub use Rattle.grok.specs.Views.{piece_view}
 pub use Rattle.grok.specs.Texts.{component_text, component_debug, fault_words, IsFaultText, IsPieceText}
-pub use Rattle.grok.specs.steps.Tiles.{Tile}
-pub use Rattle.grok.specs.steps.Joined.{AreRegular, AreWellFormed, joined_pieces}
+pub use Rattle.grok.specs.Tiles.{Tile}
+pub use Rattle.grok.specs.Joined.{AreRegular, AreWellFormed, joined_pieces}
 -- definitions, and the tree of a pattern
 -- (`Texts` of `Maps` is named by its path, since a file here has that name too)
 pub use Rattle.grok.specs.Maps.{texts_of, texts_code, set_all, pair_texts}
-pub use Rattle.grok.specs.steps.Named.{NoneNames}
+pub use Rattle.grok.specs.Named.{NoneNames}
 pub use Rattle.grok.specs.DefaultDefinitions.{default_definitions}
 pub use Rattle.grok.specs.Tree.{Definitions, Item, Event, Fault, items_of, definition_of, tree, first_structural, reached}
 pub use Rattle.grok.specs.TreeLaws.{OwnDefinitionHolds, EarlierDefinitionHolds, StoredDefinitionHolds, UnusedDefinitionsDoNotMatter, ModesFaultAlike, HeadsAloneDiffer}

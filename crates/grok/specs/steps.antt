@@ -1,4 +1,4 @@
--- Definitions that only private functions and laws use.
+-- Definitions that only private functions use.
 pub mod Rows
 pub mod KnownParts
 pub mod RowReading
@@ -8,15 +8,12 @@ pub mod TreeClashes
 pub mod UseSearches
 pub mod Rest
 pub mod Readings
-pub mod Joined
-pub mod Tiles
 pub mod KeyRanges
 pub mod Spans
 pub mod Sources
 pub mod Events
 pub mod KeyUses
 pub mod Writes
-pub mod Named
 pub mod PlacedItems
 pub mod FaultSearches
 pub mod ByteSearches

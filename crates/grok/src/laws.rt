@@ -3,7 +3,7 @@
 ghost use Rattle.std.specs.Prelude.{◌≡◌, ◌≢◌, ◌++◌, List, ℕ, ◌∷◌, Some, None};
 ghost use Rattle.std.specs.FinMap as finite;
 ghost use Rattle.grok.specs.Maps.{Texts, set_all};
-ghost use Rattle.grok.specs.steps.Named.{NoneNames};
+ghost use Rattle.grok.specs.Named.{NoneNames};
 
 pub mod answers;
 pub mod keys;

@@ -7,7 +7,7 @@ use Rattle.std.proofs.lemmas.List.{length-append}
 use Rattle.std.specs.List.{AllByRecursion, flat_map}
 use Rattle.grok_lines.specs.Events.{event_text, EndOnlyWhenDue, AreEventsOf, event_answers, ended_events, AnswersEvents}
 use Rattle.grok_lines.specs.LineLaws.{NoOtherEvents}
-use Rattle.grok_lines.specs.steps.EventStates.{EventState, begins_event, is_full, answer_so_far, answer_if_full, after_begin, after_more, after_end, ended_if_full, answers_after, StatesAnswerEvents}
+use Rattle.grok_lines.specs.EventStates.{EventState, begins_event, is_full, answer_so_far, answer_if_full, after_begin, after_more, after_end, ended_if_full, answers_after, StatesAnswerEvents}
 use Rattle.grok_lines.proofs.EventsGoOn.{at_line, begins_first, begins_at_start}
 
 -- ---- the events of an event that has begun and of the lines after it

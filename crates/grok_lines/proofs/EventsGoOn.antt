@@ -2,7 +2,7 @@
 use Rattle.std.proofs.Common.{◌≡◌, ℕ, ◌+◌, ◌≤◌, Bool, true, false, List, [], ◌∷◌, ◌++◌, ◌==◌, if◌then◌else◌, length, inl, inr, refl, sym, ap, ◌∙◌, append-nil, append_assoc, arith}
 use Rattle.std.proofs.lemmas.Bool.{cases_Bool, eqb-true}
 use Rattle.grok_lines.specs.Streams.{GoesOn}
-use Rattle.grok_lines.specs.steps.EventStates.{EventState, begins_event, is_full, answer_so_far, answer_if_full, with_line, after_end, ended_if_full, answers_after, IsNextState}
+use Rattle.grok_lines.specs.EventStates.{EventState, begins_event, is_full, answer_so_far, answer_if_full, with_line, after_end, ended_if_full, answers_after, IsNextState}
 use Rattle.grok_lines.proofs.HandlersGoOn.{goes_on_none}
 
 -- what a line adds to the answers, if it begins an event or not

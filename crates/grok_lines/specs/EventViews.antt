@@ -1,7 +1,7 @@
 -- What contracts see of an `EventAnswers`.
 use Rattle.std.specs.Prelude.{ℕ, ◌+◌, ◌==◌, Bool, List, [], if◌then◌else◌}
 use Rattle.grok_lines.specs.Events.{line_starts}
-use Rattle.grok_lines.specs.steps.EventStates.{EventState}
+use Rattle.grok_lines.specs.EventStates.{EventState}
 use Rattle.grok_lines.specs.declared.events.EventAnswers.{EventAnswers}
 
 -- How far it has come. What answers the events isn't told yet of `passed` lines.

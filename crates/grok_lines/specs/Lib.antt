@@ -6,7 +6,7 @@ pub mod Events
 pub mod EventViews
 pub mod Errors
 pub mod Pairs
-pub mod steps
+pub mod EventStates
 -- THE WORDS FOR CALLERS: each definition that a contract of `answer_lines`, `handle_lines`, `EventAnswers` or `append_pair` uses.
 pub use Rattle.grok_lines.specs.Lines.{lines_of, ended_lines_of}
 pub use Rattle.grok_lines.specs.Traffic.{traffic}

@@ -105,7 +105,7 @@ impl<A: SkipLines, S: EventStarts> EventAnswers<A, S> {
     ghost use Rattle.std.specs.Int.NonZero.{non_zero_u64_get};
     ghost use Rattle.grok_lines.specs.Events.{line_starts, AnswersEvents};
     ghost use Rattle.grok_lines.specs.EventViews.{event_state};
-    ghost use Rattle.grok_lines.specs.steps.EventStates.{begins_event, answer_so_far, answer_if_full, after_begin, after_more, ended_if_full};
+    ghost use Rattle.grok_lines.specs.EventStates.{begins_event, answer_so_far, answer_if_full, after_begin, after_more, ended_if_full};
 
     /// Makes an `EventAnswers` of events that have `most` lines at most.
     pub fn new(alloc: Global, answers: A, start: S, most: NonZeroU64) -> EventAnswers<A, S>
@@ -208,7 +208,7 @@ impl<A, S: Drop> EventAnswers<A, S> {
 impl<A: SkipLines, S: EventStarts> LineHandler for EventAnswers<A, S> {
     ghost use Rattle.std.proofs.Common.{refl};
     ghost use Rattle.grok_lines.specs.EventViews.{event_state};
-    ghost use Rattle.grok_lines.specs.steps.EventStates.{answer_so_far, answers_after, IsNextState};
+    ghost use Rattle.grok_lines.specs.EventStates.{answer_so_far, answers_after, IsNextState};
 
     ghost answers = { λ events. answers_after answer_so_far (event_state A.answer S.starts events) };
 

@@ -1,7 +1,7 @@
 //! Laws of the definition of lines, of the answers to them, and of events. The functions do nothing: the laws
 //! are their contracts, and that is proved.
 ghost use Rattle.grok_lines.specs.LineLaws.{AnswersByLinesAlone, AnswersGoOn, InputsAreTheirLines, NoLineHoldsALineFeed, OnlyTheLastMayLackItsLineFeed, NoOtherLinesMakeUpAnInput, NoOtherEvents};
-ghost use Rattle.grok_lines.specs.steps.EventStates.{StatesAnswerEvents};
+ghost use Rattle.grok_lines.specs.EventStates.{StatesAnswerEvents};
 
 /// Laws of the lines of an input.
 ///

@@ -7,9 +7,9 @@ use Rattle.grok.proofs.Pieces.TextBeginsWithOpening.{is_open_split}
 use Rattle.grok.proofs.Pieces.RegularPieces.{drop_two_more}
 use Rattle.grok.specs.Pieces.{Piece, Parts, Regular, Placeholder, Malformed, pieces, is_brace}
 use Rattle.grok.specs.Grammar.{ArePieces, NonePass, HasByteAt, IsOpenAt, IsPlaceholder, ReadsParts, MayDefine, or_empty, written}
-use Rattle.grok.specs.steps.Tiles.{Tile}
+use Rattle.grok.specs.Tiles.{Tile}
 use Rattle.grok.specs.declared.parser.GrokPatternError.{GrokPatternError}
-use Rattle.grok.specs.steps.Joined.{joined_pieces, AreWellFormed, AreRegular}
+use Rattle.grok.specs.Joined.{joined_pieces, AreWellFormed, AreRegular}
 use Rattle.grok.proofs.Pieces.PiecesAreUnique.{pieces_are, pieces_are_only, open_from, regular_within, placeholder_within}
 
 -- a range of the text, and the text after it

@@ -4,7 +4,7 @@ use Rattle.std.specs.Prelude.{not}
 use Rattle.std.specs.Str.{bytes_eq}
 use Rattle.grok.specs.Pieces.{Parts, Piece, Regular, Placeholder, Malformed, pieces, is_brace}
 use Rattle.grok.specs.Grammar.{NonePass, MayDefine, or_empty, ArePieces}
-use Rattle.grok.specs.steps.Joined.{joined_pieces, AreRegular}
+use Rattle.grok.specs.Joined.{joined_pieces, AreRegular}
 use Rattle.grok.specs.Tree.{Definitions, no_definitions, with_written, resolved, label_of, is_absent, items_after, items_of, Item}
 use Rattle.grok.proofs.Pieces.PiecesAreUnique.{pieces_are}
 use Rattle.grok.proofs.Pieces.PieceLaws.{regular_pieces}

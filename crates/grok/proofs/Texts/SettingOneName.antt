@@ -5,7 +5,7 @@ use Rattle.std.specs.Cmp.Lexicographic.{slice_cmp}
 use Rattle.std.proofs.lemmas.Cmp.{nat_list_cmp_total, tied_itself}
 use Rattle.std.specs.FinMap as finite
 use Rattle.grok.specs.Maps.{Texts, set_all}
-use Rattle.grok.specs.steps.Named.{NoneNames}
+use Rattle.grok.specs.Named.{NoneNames}
 use Rattle.grok.proofs.Texts.MapShowsTree.{same_bytes, is_equal}
 
 pub get_set : (texts : Texts) (name text : List ℕ) → finite.get (finite.insert texts name text) name ≡ Some text

@@ -2,9 +2,9 @@
 //! laws are its contract, and that is proved.
 ghost use Rattle.std.specs.Prelude.{◌≡◌, ℕ, ◌++◌, List, [], ◌∷◌, length};
 ghost use Rattle.grok.specs.Grammar.{NonePass};
-ghost use Rattle.grok.specs.steps.Joined.{joined_pieces, AreWellFormed, AreRegular};
+ghost use Rattle.grok.specs.Joined.{joined_pieces, AreWellFormed, AreRegular};
 ghost use Rattle.grok.specs.Pieces.{Piece, Parts, Placeholder, Malformed, pieces, is_brace};
-ghost use Rattle.grok.specs.steps.Tiles.{Tile};
+ghost use Rattle.grok.specs.Tiles.{Tile};
 
 use crate::parser::GrokPatternError;
 

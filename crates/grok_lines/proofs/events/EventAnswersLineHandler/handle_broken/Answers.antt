@@ -1,6 +1,6 @@
 use Rattle.std.proofs.Common.{◌≡◌, ◌≤◌, ◌∷◌, [], true, false, if◌then◌else◌, ap, ◌∙◌, arith}
 use Rattle.grok_lines.specs.EventViews.{event_state}
-use Rattle.grok_lines.specs.steps.EventStates.{begins_event, answer_so_far, answers_after, IsNextState}
+use Rattle.grok_lines.specs.EventStates.{begins_event, answer_so_far, answers_after, IsNextState}
 use Rattle.grok_lines.proofs.HandlersGoOn.{goes_on_by, on_ok_by}
 use Rattle.grok_lines.proofs.EventsGoOn.{begins_first, begins_at_start, state_taken}
 use Rattle.grok_lines.proofs.events.EventAnswersLineHandler.handle_broken.Goals as goal

@@ -1,6 +1,6 @@
 use Rattle.std.proofs.Common.{◌≡◌, ◌++◌, ◌∷◌, [], true, false, sym, ap, ◌∙◌, append-nil}
 use Rattle.grok_lines.specs.EventViews.{event_state}
-use Rattle.grok_lines.specs.steps.EventStates.{begins_event, answer_so_far, answer_if_full, after_begin, after_more, ended_if_full, answers_after, IsNextState}
+use Rattle.grok_lines.specs.EventStates.{begins_event, answer_so_far, answer_if_full, after_begin, after_more, ended_if_full, answers_after, IsNextState}
 use Rattle.grok_lines.proofs.HandlersGoOn.{goes_on_by, on_ok_by}
 use Rattle.grok_lines.proofs.EventsGoOn.{answered_at, at_line, state_taken}
 use Rattle.grok_lines.proofs.events.EventAnswersLineHandler.handle_str.Goals as goal
