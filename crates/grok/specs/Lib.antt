@@ -17,6 +17,7 @@ pub mod KeyTable
 pub mod Answers
 pub mod Groups
 pub mod BorrowedMatches
+pub mod LineSearches
 pub mod AnswerLaws
 pub mod DefaultDefinitions
 pub mod Tree
@@ -80,3 +81,4 @@ pub use Rattle.regex.specs.Strings
 pub use Rattle.grok.specs.KeyTable.{Entries, IsKeyTable, group_in}
 pub use Rattle.grok.specs.Answers.{PatternValue, MatchesValue, value_of, walk}
 pub use Rattle.grok.specs.BorrowedMatches.{borrowed_line, borrowed_keys, borrowed_captures}
+pub use Rattle.grok.specs.LineSearches.{LineSearchValue, HasMatchIn}
