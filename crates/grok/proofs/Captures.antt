@@ -1,3 +1,4 @@
 -- Lemmas of the groups of a match.
 pub mod CapturesAreOfMatch
 pub mod GroupsLieInLine
+pub mod SearchKeepsMatch

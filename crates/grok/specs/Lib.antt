@@ -19,6 +19,7 @@ pub mod KeyTable
 pub mod Answers
 pub mod Groups
 pub mod BorrowedMatches
+pub mod LineSearches
 pub mod AnswerLaws
 pub mod DefaultDefinitions
 pub mod Tree
@@ -90,4 +91,5 @@ pub use Rattle.grok.specs.Answers.{PatternValue, MatchesValue, extract_texts, pa
 pub use Rattle.grok.specs.Groups.{group_texts}
 pub use Rattle.grok.specs.AnswerLaws.{WalksHaveTheAnsweredKeys, AnswersAreThoseOfTheWalk, GeneratedNamesMeanTheirKeys, OtherNamesMeanThemselves, GroupsAreTheGreatest}
 pub use Rattle.grok.specs.BorrowedMatches.{borrowed_line, borrowed_keys, borrowed_captures}
+pub use Rattle.grok.specs.LineSearches.{LineSearchValue, line_search_code, HasMatchIn}
 pub use Rattle.grok.specs.Debugs.{debug_texts, debug_pairs}

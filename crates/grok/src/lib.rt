@@ -74,6 +74,7 @@ pub use locate_clash::Clash;
 pub use location::{Location, PathStep};
 pub use malformed::MalformedReason;
 pub use matches::borrowed::MatchesRef;
+pub use matches::line_search::LineSearchOf;
 pub use matches::matcher::MatcherOf;
 pub use matches::{CaptureNames, MatchesIter, MatchesOf, PatternOf};
 pub use measure::{Looks, Measure};
@@ -88,3 +89,7 @@ pub type Matches<'a> = MatchesOf<'a, RegexEngine>;
 /// Searches line after line for a compiled pattern, and keeps the caches of its engine, `regex`,
 /// from one line to the next.
 pub type Matcher<'p> = MatcherOf<'p, RegexEngine>;
+
+/// Searches line after line for a compiled pattern, as [`Matcher`] does, and keeps the match that it
+/// found last.
+pub type LineSearch<'p> = LineSearchOf<'p, RegexEngine>;

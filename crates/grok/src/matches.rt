@@ -16,14 +16,15 @@ ghost use Rattle.grok.specs.Answers.{extract_texts, value_of, walk};
 
 pub(crate) mod borrowed;
 pub(crate) mod groups;
+pub(crate) mod line_search;
 pub(crate) mod matcher;
-pub(crate) mod search;
 
 use crate::debug_map::{write_entry, write_map};
 use crate::engine::Engine;
 use crate::engine::matcher::HasMatcher;
 use crate::key_table::{KeyEntries, KeyTable};
 use crate::matches::groups::{GroupTexts, capture_of};
+use crate::matches::line_search::LineSearchOf;
 use crate::matches::matcher::MatcherOf;
 use std::alloc::{AllocError, Global};
 use std::collections::BTreeMap;
@@ -139,6 +140,20 @@ impl<E: Engine> PatternOf<E> {
         ensures { IfOk result (λ matcher. matcher ≡ self.now) }
     {
         MatcherOf::new(self.alloc, self, &self.engine)
+    }
+
+    /// Makes a search for many lines. It finds the same as `match_against`, and keeps the match that it
+    /// found last.
+    ///
+    /// # Errors
+    ///
+    /// If an allocation of the engine fails.
+    pub fn line_search<'p>(&'p self) -> Result<LineSearchOf<'p, E>, AllocError>
+    where
+        E: HasMatcher<'p>,
+        ensures { IfOk result (λ search. search.pattern ≡ self.now) }
+    {
+        LineSearchOf::new(self.alloc, self, &self.engine)
     }
 
     /// Returns an iterator over the keys in byte order, each once.

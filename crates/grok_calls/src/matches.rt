@@ -1,7 +1,9 @@
 //! Calls that match lines with the pattern `%{MAC}` over the default definitions, and calls on the matches.
 use crate::{LABELS, finish, twice};
 use anyhow::{Result, bail};
-use grok::{Engine, Grok, Matcher, Matches, MatchesIter, MatchesRef, Pattern, PatternOf};
+use grok::{
+    Engine, Grok, LineSearch, Matcher, Matches, MatchesIter, MatchesRef, Pattern, PatternOf,
+};
 use grok_engines::Bare;
 use std::alloc::{AllocError, Global};
 
@@ -54,6 +56,8 @@ fn call_on_pattern(rt: &HostRuntime, name: &str, pattern: &Pattern) -> Result<()
         "line_not_found" => find_lines(rt, pattern, HALF_A_LINE, 0),
         "warm_line_found" => find_lines(rt, pattern, LINE, WARM),
         "range" => ranges(rt, &mut pattern.matcher()?),
+        "line_search" => twice(rt, || has_match(pattern, LINE)),
+        "last_match" => last_matches(rt, &mut pattern.line_search()?),
         _ => call_on_keys(rt, name, pattern),
     }
 }
@@ -137,6 +141,11 @@ fn is_found(pattern: &Pattern, line: &str) -> Result<bool, AllocError> {
     Ok(matcher.find(line)?.is_some())
 }
 
+/// Returns whether a new search of the pattern finds a match in the line.
+fn has_match(pattern: &Pattern, line: &str) -> Result<bool, AllocError> {
+    pattern.line_search()?.search(line)
+}
+
 /// Matches a line four times by the pattern and once by a matcher, and returns how many of these find a match.
 fn count_found(pattern: &Pattern) -> Result<u32, AllocError> {
     let mut found = 0u32;
@@ -206,6 +215,18 @@ fn find_twice(rt: &HostRuntime, matcher: &mut Matcher<'_>, line: &str) -> Result
     'calls: for label in LABELS {
         eprintln!(rt; "[call")?;
         finish(rt, label, matcher.find(line))?;
+    }
+    Ok(())
+}
+
+/// Searches the line once, and returns twice the match that was found.
+fn last_matches(rt: &HostRuntime, search: &mut LineSearch<'_>) -> Result<()> {
+    if !search.search(LINE)? {
+        bail!("the line should match");
+    }
+    'calls: for label in LABELS {
+        eprintln!(rt; "[call")?;
+        finish(rt, label, search.last_match(LINE))?;
     }
     Ok(())
 }

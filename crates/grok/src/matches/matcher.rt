@@ -5,10 +5,10 @@ ghost use Rattle.std.specs.Io.BufRead.{Rests};
 ghost use mir.Syntax.{named};
 ghost use Rattle.grok.specs.Captures.{IsMatchIn};
 
-use crate::engine::matcher::{EngineMatcher, HasMatcher};
+use crate::engine::matcher::HasMatcher;
 use crate::matches::PatternOf;
 use crate::matches::borrowed::MatchesRef;
-use crate::matches::search::KeptSearch;
+use crate::matches::line_search::LineSearchOf;
 use std::alloc::{AllocError, Global};
 use std::marker::Model;
 
@@ -16,7 +16,7 @@ use std::marker::Model;
 /// one line to the next. [`PatternOf::matcher`] makes it.
 #[derive(Drop)]
 pub struct MatcherOf<'p, E: HasMatcher<'p>> {
-    search: KeptSearch<'p, E>,
+    search: LineSearchOf<'p, E>,
 }
 
 // Contracts see the pattern.
@@ -28,7 +28,7 @@ impl<'p, E: HasMatcher<'p>> Model for MatcherOf<'p, E> {
 
     ghost coded = { pattern_code E.code };
 
-    ghost view = { λ matcher. matcher.search.pattern.now };
+    ghost view = { λ matcher. matcher.search.pattern };
 }
 
 impl<'p, E: HasMatcher<'p>> MatcherOf<'p, E> {
@@ -44,7 +44,7 @@ impl<'p, E: HasMatcher<'p>> MatcherOf<'p, E> {
         requires { engine.now ≡ pattern.now.engine }
         ensures { IfOk result (λ matcher. matcher ≡ pattern.now) }
     {
-        let search = KeptSearch::new(alloc, pattern, engine)?;
+        let search = LineSearchOf::new(alloc, pattern, engine)?;
         Ok(MatcherOf { search })
     }
 
@@ -69,7 +69,7 @@ impl<'p, E: HasMatcher<'p>> MatcherOf<'p, E> {
             E.Matcher.row E.Engine E.Matcher.EngineMatcher)
             self.entry (λ last. last ≡ self.entry.now)) }
     {
-        if !self.search.read(text)? {
+        if !self.search.search(text)? {
             return Ok(None);
         }
         Ok(Some(self.search.last_match(text)))
