@@ -4,7 +4,7 @@ use crate::definition::{read_definition, skip_blanks};
 use crate::definitions::without_mark;
 use crate::library::DefinitionFile;
 use groklog_input::{Fault, Report};
-use oniguruma_syntax::{Outcome, Rewritten, Wish, rewrite};
+use oniguruma_syntax::{Outcome, Wish, rewrite};
 use std::alloc::{AllocError, Global};
 
 /// The text of a file of definitions.
@@ -45,11 +45,14 @@ impl Lines {
                 let why = format!(in self.alloc; "{}", refused.reason)?;
                 self.push_refused(line, end, why.as_str())
             }
-            Outcome::Rewritten(Rewritten { text: new, .. }) if new.as_str() != text => {
+            Outcome::Rewritten(rewritten) => {
+                let new = rewritten.text.as_str();
+                if new == text {
+                    return self.push(line, end);
+                }
                 let line = format!(in self.alloc; "{name}={new}")?;
                 self.push(line.as_str(), end)
             }
-            Outcome::Rewritten(_) => self.push(line, end),
         }
     }
 
