@@ -24,18 +24,17 @@ struct Placeholders<'a> {
     malformed: Option<usize>,
 }
 
-/// Returns whether a placeholder begins with the `%` before the byte `end` of a text. The library of grok
-/// patterns reads `%%` as one piece, so that `%%{INT}` has no placeholder, but in Logstash it is a `%` and one.
-fn is_doubled(text: &str, end: usize) -> bool {
-    let (front, _) = split_after(text, end);
-    let Some(before) = front.strip_suffix("%%") else {
-        return false;
-    };
-    let (_, rest) = split_after(text, before.len().saturating_add(1));
-    matches!(
-        grok_split(rest).next(),
-        Some(GrokComponent::GrokPattern { .. })
-    )
+/// Returns whether `%%` begins at a byte of a text, and a placeholder with its second `%`. The library of grok
+/// patterns reads no placeholder in `%%{INT}`, but in Logstash it is a `%` and one.
+fn is_doubled(text: &str, at: usize) -> bool {
+    let (_, rest) = split_after(text, at);
+    match rest.strip_prefix('%') {
+        Some(rest) => matches!(
+            grok_split(rest).next(),
+            Some(GrokComponent::GrokPattern { .. })
+        ),
+        None => false,
+    }
 }
 
 /// Appends the placeholders of a text that begins at the byte `start` of the whole, as the library of
@@ -50,10 +49,10 @@ fn add_placeholders<'a>(
     for piece in grok_split(text) {
         match piece {
             GrokComponent::RegularExpression { range, .. } => {
-                end = start.saturating_add(range.end);
-                if is_doubled(text, range.end) {
-                    return Ok(Some(end.saturating_sub(1)));
+                if is_doubled(text, range.start) {
+                    return Ok(Some(start.saturating_add(range.start).saturating_add(1)));
                 }
+                end = start.saturating_add(range.end);
             }
             GrokComponent::GrokPattern {
                 range,
