@@ -16,6 +16,9 @@ const OPEN_FILES: [&str; 4] = ["/dev/stdout", "/dev/stderr", "/dev/fd/", "/proc/
 /// wrote are taken.
 const MOST_TEMPORARIES: u32 = 1000;
 
+/// The advice for a file that has no room.
+const MORE_SPACE: &str = "free some space, or write to another disk";
+
 /// A file that an option asks for.
 #[derive(Clone, Copy)]
 pub struct WholeFile<'a> {
@@ -171,9 +174,8 @@ fn advice_for_unwritable(kind: ErrorKind) -> &'static str {
     match kind {
         ErrorKind::NotFound => "make its folder first, or the file that it is a link to",
         ErrorKind::IsADirectory => "name a file in it",
-        ErrorKind::StorageFull | ErrorKind::QuotaExceeded | ErrorKind::FileTooLarge => {
-            "free some space, or write to another disk"
-        }
+        ErrorKind::StorageFull | ErrorKind::QuotaExceeded => MORE_SPACE,
+        ErrorKind::FileTooLarge => MORE_SPACE,
         _ => "check with ls -ld whether you may write to it, and make files in its folder",
     }
 }
