@@ -1,9 +1,7 @@
-//! Reads the files and folders of definitions that are named after `-d`, and writes the file of
-//! `--write-definitions`.
+//! Reads the files and folders of definitions that are named after `-d`.
 
-use groklog_input::{Failure, Fault, Report, file_fault, write_fault};
-use groklog_patterns::{DefinitionFile, Library, definition_lines};
-use oniguruma_syntax::Wish;
+use groklog_input::{Failure, Fault, Report, file_fault};
+use groklog_patterns::DefinitionFile;
 use std::alloc::{AllocError, Global};
 use std::{fs, io};
 
@@ -15,14 +13,20 @@ fn or_file_fault<T>(alloc: Global, name: &str, outcome: io::Result<T>) -> Result
     }
 }
 
+/// Returns whether a file of a folder isn't read: it is hidden, since its name begins with a dot, or it is the
+/// copy of another file that an editor keeps, as `names~`.
+fn is_left_out(name: &str) -> bool {
+    name.starts_with('.') || name.ends_with('~')
+}
+
 /// Returns the paths of the files in a folder, in the byte order of their names. Hidden files,
-/// whose names begin with a dot, and folders are left out.
+/// copies that editors keep, and folders are left out.
 fn files_in(rt: &HostRuntime, folder: &str) -> Result<Vec<String>, Fault> {
     let alloc = rt.alloc();
     let mut paths = Vec::new(alloc);
     for entry in or_file_fault(alloc, folder, fs::read_dir(rt, folder))? {
         let entry = or_file_fault(alloc, folder, entry)?;
-        if entry.file_name().starts_with('.') {
+        if is_left_out(entry.file_name()) {
             continue;
         }
         let path = entry.path().to_string_lossy();
@@ -65,7 +69,7 @@ fn add_file(rt: &HostRuntime, files: &mut Vec<DefinitionFile>, name: &str) -> Re
 }
 
 /// Reads the files of definitions with these names. If a name is that of a folder, reads each file
-/// in it, in the byte order of their names, but no hidden files and no folders.
+/// in it, in the byte order of their names, but no hidden files, no copies that editors keep, and no folders.
 ///
 /// # Errors
 ///
@@ -86,26 +90,4 @@ pub fn read_definition_files(
         }
     }
     Ok(files)
-}
-
-/// Writes the user's definitions to the file `name`. Those that no pattern uses are rewritten first if `wish` is
-/// given.
-///
-/// # Errors
-///
-/// Returns an error if the file can't be written, or if an allocation fails.
-pub fn write_definitions(
-    rt: &HostRuntime,
-    library: &Library<'_>,
-    name: &str,
-    wish: Option<Wish>,
-) -> Result<(), Fault> {
-    let alloc = rt.alloc();
-    let lines = definition_lines(alloc, library, wish)?;
-    if let Err(error) = fs::write(rt, name, lines.as_str())
-        && let Some(fault) = write_fault(alloc, &error)?
-    {
-        return Err(fault);
-    }
-    Ok(())
 }

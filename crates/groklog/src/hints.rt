@@ -5,6 +5,17 @@ use groklog_input::{Encoding, LineForm, Signs};
 use groklog_views::Unit;
 use std::alloc::{AllocError, Global};
 
+/// Returns the program that compressed an input and the one that unpacks it, or `None` if it isn't compressed.
+fn packer_of(encoding: Encoding) -> Option<(&'static str, &'static str)> {
+    match encoding {
+        Encoding::Gzip => Some(("gzip", "zcat")),
+        Encoding::Xz => Some(("xz", "xzcat")),
+        Encoding::Zstd => Some(("zstd", "zstdcat")),
+        Encoding::Bzip2 => Some(("bzip2", "bzcat")),
+        Encoding::Utf16 | Encoding::Other => None,
+    }
+}
+
 /// Finds the hints of a run. Each hint comes once, but that at a compressed file or at UTF-16 comes
 /// once for each such input.
 #[derive(Drop)]
@@ -42,14 +53,16 @@ impl Hints {
         signs: Signs,
     ) -> Result<Option<String>, AllocError> {
         self.has_return = self.has_return || signs.has_return;
+        if let Some((packer, unpacker)) = packer_of(signs.encoding) {
+            return Ok(Some(format!(in alloc;
+                "{name} looks like a file of {packer}: use {unpacker} FILE | groklog .."
+            )?));
+        }
         match (signs.encoding, signs.first_broken) {
-            (Encoding::Gzip, _) => Ok(Some(format!(in alloc;
-                "{name} looks like a file of gzip: use zcat FILE | groklog .."
-            )?)),
             (Encoding::Utf16, _) => Ok(Some(format!(in alloc;
                 "{name} looks like UTF-16: use iconv -f UTF-16 -t UTF-8 FILE | groklog .."
             )?)),
-            (Encoding::Other, Some(number)) if !self.form.is_lossy && !self.was_broken => {
+            (_, Some(number)) if !self.form.is_lossy && !self.was_broken => {
                 self.was_broken = true;
                 let what = match self.unit {
                     Unit::Line => "it",
@@ -59,7 +72,7 @@ impl Hints {
                     "line {number} of {name} isn't UTF-8, so {what} has no fields: use --lossy, or for another encoding iconv -f LATIN1 -t UTF-8 FILE | groklog .."
                 )?))
             }
-            (Encoding::Other, _) => Ok(None),
+            _ => Ok(None),
         }
     }
 

@@ -44,7 +44,7 @@ fn watch<'a>(rt: &'a HostRuntime, file: File, name: &'a str, shows: bool) -> Wat
 }
 
 /// Returns what messages call the file `name`.
-fn shown_name(name: &str) -> &str {
+pub fn shown_name(name: &str) -> &str {
     if name == "-" { "standard input" } else { name }
 }
 

@@ -9,11 +9,13 @@ mod notes;
 mod output;
 mod page;
 mod plans;
+mod read_files;
 mod run;
 mod show;
 mod suggest;
 mod summary;
 mod terminal;
+mod whole_file;
 mod why;
 
 use crate::inputs::Outcome;

@@ -82,8 +82,28 @@ impl<'p> Noted<'p> {
     }
 }
 
+/// Returns the note on a pattern that is the name of a definition, or would be without a `%` or braces, but no
+/// placeholder. As a pattern it has no keys.
+fn note_on_name(
+    alloc: Global,
+    library: &Library<'_>,
+    text: &PatternText,
+) -> Result<Option<String>, AllocError> {
+    let pattern = text.text.as_str();
+    let name = pattern.strip_prefix('%').unwrap_or(pattern);
+    let name = name.strip_prefix('{').unwrap_or(name);
+    let name = name.strip_suffix('}').unwrap_or(name);
+    if library.grok.definition(name).is_none() || pattern.starts_with("%{") {
+        return Ok(None);
+    }
+    let words = text.words.as_str();
+    Ok(Some(format!(in alloc;
+        "{words} means the text {name} itself; for the definition of this name write '%{{{name}}}'"
+    )?))
+}
+
 /// Returns notes on a pattern: on keys that never have a value, that share one, or that are named
-/// like an extract.
+/// like an extract, and on a pattern that is the name of a definition.
 ///
 /// # Errors
 ///
@@ -108,6 +128,9 @@ pub fn notes_of_pattern(
     noted.note_lost_keys(alloc, &mut notes)?;
     noted.note_shared_keys(alloc, &mut notes)?;
     noted.note_extracts_as_keys(alloc, &mut notes)?;
+    if let Some(note) = note_on_name(alloc, library, text)? {
+        notes.push(note)?;
+    }
     Ok(notes)
 }
 

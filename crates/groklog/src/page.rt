@@ -1,14 +1,10 @@
-//! Collects a page about the first lines or events, for `--html`, and writes it.
+//! Collects a page about the first lines or events, for `--html`.
 ghost use Rattle.std.specs.Prelude.{[]};
 
 use grok_lines::{LineAnswers, SkipLines};
-use groklog_input::{Failure, Fault, Report};
-use groklog_options::Options;
 use groklog_patterns::Explainer;
-use groklog_views::{EXPLAINED, LocatedFields, PageContent, page_html};
-use std::alloc::{AllocError, Global};
-use std::fs;
-use std::io::ErrorKind;
+use groklog_views::{EXPLAINED, LocatedFields, PageContent};
+use std::alloc::AllocError;
 
 /// Collects what a page shows of the first lines, or of the first events. It has no answers.
 #[derive(Drop)]
@@ -85,49 +81,4 @@ impl SkipLines for Page<'_, '_, '_> {
         self.content.skip_lines(count);
         Ok(())
     }
-}
-
-/// Checks that the page isn't written over a file that is read.
-///
-/// # Errors
-///
-/// Returns an error if the page has the name of a file that is read, or if an allocation fails.
-pub fn check_page(alloc: Global, options: &Options<'_>) -> Result<(), Fault> {
-    let Some(name) = options.page else {
-        return Ok(());
-    };
-    if !options.files.iter().any(|file| *file == name) {
-        return Ok(());
-    }
-    let what = format!(in alloc; "--html would write over {name}, which is also read")?;
-    let advice = "name another file after --html";
-    Err(Fault::Usage(Report::new(alloc, what.as_str(), advice)?))
-}
-
-/// Writes the page to the file `name`.
-///
-/// # Errors
-///
-/// Returns an error if the file can't be written, or if an allocation fails.
-pub fn write_page(
-    rt: &HostRuntime,
-    options: &Options<'_>,
-    page: &Page<'_, '_, '_>,
-    name: &str,
-) -> Result<(), Fault> {
-    let alloc = rt.alloc();
-    let tags = options.tags(alloc)?;
-    let html = page_html(alloc, &options.files, &tags, &page.located, &page.content)?;
-    let Err(error) = fs::write(rt, name, html.as_str()) else {
-        return Ok(());
-    };
-    let failure = Failure::of(&error);
-    if failure.kind == ErrorKind::OutOfMemory {
-        // own error: the system reported that an allocation failed.
-        return Err(Fault::Memory);
-    }
-    let what = format!(in alloc; "can't write the page {name}: {failure}")?;
-    let advice = "check that its folder is there, and whether you may write there";
-    // own error: the system reported that the file can't be written.
-    Err(Fault::Write(Report::new(alloc, what.as_str(), advice)?))
 }

@@ -1,26 +1,33 @@
 //! Runs the program over files, or over standard input.
 
-use crate::definition_files::{read_definition_files, write_definitions};
+use crate::definition_files::read_definition_files;
 use crate::inputs::{Outcome, STANDARD_INPUT, answer_each, answer_file};
 use crate::notes::{notes_of_extracts, notes_of_pattern, notes_of_words};
 use crate::output::{DirectOutput, show_note, show_notes, write_bytes, write_output};
-use crate::page::{Page, check_page, write_page};
+use crate::page::Page;
 use crate::plans::{WrittenKey, plan_all, written_keys};
+use crate::read_files::{ReadFiles, check_logs, is_same_file};
 use crate::show::Show;
 use crate::suggest::{Sample, report_of_sample};
 use crate::summary::summary_of;
 use crate::terminal::is_coloured;
+use crate::whole_file::WholeFile;
 use crate::why::Why;
 use grok::Pattern;
 use groklog_answers::{LogAnswers, OutputFormat, Plan, header_of};
-use groklog_input::{Fault, FormedAnswers, write_fault};
+use groklog_input::{Fault, FormedAnswers, Report, write_fault};
 use groklog_options::{Options, check_keys, chosen_fields, layout_of, layout_of_count, with_tags};
 use groklog_patterns::{
-    Adapted, Explainer, Library, PatternText, adapt_all, compile, compile_all, explain,
-    list_common_definitions, patterns_of, start_pattern, titles_of,
+    Adapted, Explainer, Library, PatternText, adapt_all, compile, compile_all, definition_lines,
+    explain, list_common_definitions, patterns_of, start_pattern, titles_of,
 };
-use groklog_views::{KeyCounts, LocatedFields, PageContent, Scope};
+use groklog_views::{KeyCounts, LocatedFields, PageContent, Scope, page_html};
 use std::alloc::{AllocError, Global};
+
+/// The options that ask for a file.
+const PAGE: &str = "--html";
+
+const DEFINITIONS: &str = "--write-definitions";
 
 /// Reports the counts of the lines on standard error.
 fn show_summary(
@@ -131,18 +138,21 @@ fn run_show<'a>(
     Ok(outcome)
 }
 
-/// Reads the first lines or events, and writes a page about them to the file `name`. Reports their counts
-/// if that is wanted.
+/// Reads the first lines or events, and writes a page about them to this file. Reports their counts if that
+/// is wanted.
 fn run_page<'a>(
     rt: &HostRuntime,
     options: &Options<'a>,
     start: Option<&Pattern>,
     page: Page<'a, '_, '_>,
-    name: &str,
+    file: WholeFile<'_>,
 ) -> Result<Outcome, Fault> {
+    let alloc = rt.alloc();
     let (page, outcome) = answer_each(rt, options, start, page)?;
     let outcome = outcome?;
-    write_page(rt, options, &page, name)?;
+    let tags = options.tags(alloc)?;
+    let html = page_html(alloc, &options.files, &tags, &page.located, &page.content)?;
+    file.write(rt, outcome, html.as_str())?;
     if options.has_summary {
         show_summary(rt, options, &page.located.answers)?;
     }
@@ -197,8 +207,7 @@ fn explain_all(
 }
 
 /// Returns the patterns, and after them the pattern of `--start` if there is one. If they were made for
-/// Logstash, they are rewritten, with the definitions that they use, and notes say what was changed. If
-/// that is wanted, writes the definitions to a file.
+/// Logstash, they are rewritten, with the definitions that they use, and notes say what was changed.
 fn texts_of(
     rt: &HostRuntime,
     library: &mut Library<'_>,
@@ -218,20 +227,19 @@ fn texts_of(
         },
     };
     show_notes(rt, &notes)?;
-    if let Some(file) = options.written_definitions {
-        write_definitions(rt, library, file, wish)?;
-    }
     Ok(texts)
 }
 
 /// What the answers of a run are made from: the texts of its patterns, the patterns, the keys of each
-/// pattern if a plan is wanted, and the pattern of `--start` if there is one.
+/// pattern if a plan is wanted, the pattern of `--start` if there is one, and what is read.
 #[derive(Drop)]
-struct Sources {
+struct Sources<'r> {
     texts: Vec<PatternText>,
     patterns: Vec<Pattern>,
     keys: Vec<Vec<WrittenKey>>,
     start: Option<Pattern>,
+    /// The files that are read, of which none is written over.
+    read: &'r ReadFiles,
 }
 
 /// Shows the notes on the patterns, before any line is read.
@@ -239,7 +247,7 @@ fn show_notes_of_patterns(
     rt: &HostRuntime,
     options: &Options<'_>,
     library: &Library<'_>,
-    sources: &Sources,
+    sources: &Sources<'_>,
 ) -> Result<(), AllocError> {
     let alloc = rt.alloc();
     if options.is_typed {
@@ -259,7 +267,7 @@ fn page_of<'a, 'd>(
     alloc: Global,
     options: &Options<'_>,
     library: &'a Library<'d>,
-    sources: &'a Sources,
+    sources: &'a Sources<'_>,
     located: LocatedFields<'a>,
 ) -> Result<Page<'a, 'a, 'd>, AllocError> {
     let (texts, patterns) = (&sources.texts, &sources.patterns);
@@ -287,7 +295,7 @@ fn answer_by_plans<'a>(
     rt: &HostRuntime,
     options: &Options<'a>,
     library: &'a Library<'_>,
-    sources: &'a Sources,
+    sources: &'a Sources<'_>,
     plans: &'a [Plan<'a>],
 ) -> Result<Outcome, Fault> {
     let alloc = rt.alloc();
@@ -308,7 +316,12 @@ fn answer_by_plans<'a>(
     if let Some(name) = options.page {
         let located = LocatedFields::new(alloc, answers, &sources.patterns, fields.as_deref())?;
         let page = page_of(alloc, options, library, sources, located)?;
-        return run_page(rt, options, sources.start.as_ref(), page, name);
+        let file = WholeFile {
+            option: PAGE,
+            name,
+            read: sources.read,
+        };
+        return run_page(rt, options, sources.start.as_ref(), page, file);
     }
     let Some(most) = options.why else {
         if options.are_records {
@@ -333,10 +346,9 @@ fn answer_by_sources<'a>(
     rt: &HostRuntime,
     options: &Options<'a>,
     library: &'a Library<'_>,
-    sources: &'a Sources,
+    sources: &'a Sources<'_>,
 ) -> Result<Outcome, Fault> {
     let alloc = rt.alloc();
-    check_page(alloc, options)?;
     let plans = plan_all(alloc, options, &sources.texts, &sources.keys)?;
     check_keys(alloc, options, &sources.patterns, &plans)?;
     show_notes_of_patterns(rt, options, library, sources)?;
@@ -354,12 +366,74 @@ fn answer_by_sources<'a>(
     answer_by_plans(rt, options, library, sources, &plans)
 }
 
+/// Returns the fault that reports that two options ask for the same file.
+fn written_twice(alloc: Global, name: &str) -> Result<Fault, AllocError> {
+    let what = format!(in alloc; "{PAGE} and {DEFINITIONS} would both write {name}")?;
+    let advice = "name another file after one of them";
+    Ok(Fault::Usage(Report::new(alloc, what.as_str(), advice)?))
+}
+
+/// Checks, before a line is read, that each file can be written that the options ask for, that it isn't one
+/// of those that are read, and that the logs can be opened.
+fn check_files(rt: &HostRuntime, options: &Options<'_>, read: &ReadFiles) -> Result<(), Fault> {
+    if let (Some(page), Some(definitions)) = (options.page, options.written_definitions)
+        && is_same_file(rt, page, definitions)
+    {
+        return Err(written_twice(rt.alloc(), page)?);
+    }
+    let asked = [
+        (PAGE, options.page),
+        (DEFINITIONS, options.written_definitions),
+    ];
+    for (option, name) in asked {
+        if let Some(name) = name {
+            WholeFile { option, name, read }.check(rt)?;
+            check_logs(rt, options)?;
+        }
+    }
+    Ok(())
+}
+
+/// Compiles the patterns, and explains them, or answers or explains the lines.
+fn answer_by_texts(
+    rt: &HostRuntime,
+    options: &Options<'_>,
+    library: &Library<'_>,
+    texts: Vec<PatternText>,
+    read: &ReadFiles,
+) -> Result<Outcome, Fault> {
+    let alloc = rt.alloc();
+    if let Some(most) = options.suggest {
+        return run_suggest(rt, options, library, most);
+    }
+    let mut texts = texts;
+    let start = if options.start.is_some() {
+        texts.pop()
+    } else {
+        None
+    };
+    let patterns = compile_all(alloc, library, &texts, !options.is_all)?;
+    let start = match &start {
+        Some(start) => Some(compile(alloc, library, start, true)?),
+        None => None,
+    };
+    let keys = written_keys(alloc, options, library, &texts, &patterns)?;
+    let sources = Sources {
+        texts,
+        patterns,
+        keys,
+        start,
+        read,
+    };
+    answer_by_sources(rt, options, library, &sources)
+}
+
 /// Does what the options ask for.
 ///
 /// # Errors
 ///
-/// Returns the first fault of a definition, a pattern or a key before any line is read. After that,
-/// returns an error if an allocation, a file or the output fails.
+/// Returns the first fault of a definition, a pattern, a key or a file that is written, before any line is
+/// read. After that, returns an error if an allocation, a file or the output fails.
 pub fn run(rt: &HostRuntime, options: &Options<'_>) -> Result<Outcome, Fault> {
     let alloc = rt.alloc();
     if let Some(text) = options.list {
@@ -369,27 +443,26 @@ pub fn run(rt: &HostRuntime, options: &Options<'_>) -> Result<Outcome, Fault> {
     }
     show_notes(rt, &notes_of_words(rt, options)?)?;
     let files = read_definition_files(rt, &options.definition_files)?;
-    let mut library = Library::new(alloc, options.has_common, &files, &options.definitions)?;
-    let mut texts = texts_of(rt, &mut library, options)?;
-    if let Some(most) = options.suggest {
-        return run_suggest(rt, options, &library, most);
-    }
-    let start = if options.start.is_some() {
-        texts.pop()
-    } else {
-        None
+    let mut library = Library::new(
+        alloc,
+        options.has_common,
+        &files,
+        &options.definitions,
+        options.most_bytes,
+    )?;
+    let texts = texts_of(rt, &mut library, options)?;
+    let read = ReadFiles::of(rt, options, &files)?;
+    check_files(rt, options, &read)?;
+    let Some(name) = options.written_definitions else {
+        return answer_by_texts(rt, options, &library, texts, &read);
     };
-    let patterns = compile_all(alloc, &library, &texts, !options.is_all)?;
-    let start = match &start {
-        Some(start) => Some(compile(alloc, &library, start, true)?),
-        None => None,
+    let lines = definition_lines(alloc, &files, &options.definitions, options.logstash_wish())?;
+    let outcome = answer_by_texts(rt, options, &library, texts, &read)?;
+    let file = WholeFile {
+        option: DEFINITIONS,
+        name,
+        read: &read,
     };
-    let keys = written_keys(alloc, options, &library, &texts, &patterns)?;
-    let sources = Sources {
-        texts,
-        patterns,
-        keys,
-        start,
-    };
-    answer_by_sources(rt, options, &library, &sources)
+    file.write(rt, outcome, lines.as_str())?;
+    Ok(outcome)
 }

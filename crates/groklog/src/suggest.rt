@@ -76,15 +76,15 @@ struct Fitting<'a> {
 }
 
 /// Returns whether a definition has placeholders with an alias, so that it can tell something about a
-/// line.
-fn has_keys(measure: Measure<'_>) -> bool {
+/// line, and at most this many bytes when it is expanded.
+fn has_keys(measure: Measure<'_>, most_bytes: usize) -> bool {
     match measure {
-        Measure::Size { groups, .. } => groups > 0,
+        Measure::Size { groups, length, .. } => groups > 0 && length <= most_bytes,
         _ => false,
     }
 }
 
-/// Returns the names of the definitions that have keys, in byte order.
+/// Returns the names of the definitions that have keys and aren't too long, in byte order.
 fn names_with_keys<'a>(
     alloc: Global,
     library: &'a Library<'_>,
@@ -92,7 +92,10 @@ fn names_with_keys<'a>(
     let mut names = Vec::new(alloc);
     for name in library.grok.names() {
         let text = format!(in alloc; "%{{{name}}}")?;
-        if has_keys(library.grok.measure(text.as_str(), true)?) {
+        if has_keys(
+            library.grok.measure(text.as_str(), true)?,
+            library.most_bytes,
+        ) {
             names.push(name)?;
         }
     }

@@ -4,7 +4,7 @@ use Rattle.std.specs.List.{starts_with, ends_with, enumerate_from}
 use Rattle.std.specs.Str.Lossy.{utf8_lossy}
 use Rattle.groklog_input.specs.declared.line_form.LineForm.{LineForm}
 use Rattle.groklog_input.specs.declared.line_form.Encoding.{Encoding}
-use Rattle.groklog_input.specs.declared.line_form.Encoding.TheVariants.{Gzip, Utf16, Other}
+use Rattle.groklog_input.specs.declared.line_form.Encoding.TheVariants.{Gzip, Xz, Zstd, Bzip2, Utf16, Other}
 
 -- The text without `part` at its front, if it begins with that, and otherwise the whole text.
 abbrev pub without_prefix : List ℕ → List ℕ → List ℕ
@@ -44,5 +44,8 @@ formed_lines form count lines = map (λ line. formed form line.0 line.1) (enumer
 abbrev pub encoding_of : List ℕ → Encoding
 encoding_of bytes =
     if starts_with ◌==◌ bytes (0x1F ∷ 0x8B ∷ []) then Gzip
+    else (if starts_with ◌==◌ bytes (0xFD ∷ 0x37 ∷ 0x7A ∷ 0x58 ∷ 0x5A ∷ []) then Xz
+    else (if starts_with ◌==◌ bytes (0x28 ∷ 0xB5 ∷ 0x2F ∷ 0xFD ∷ []) then Zstd
+    else (if starts_with ◌==◌ bytes (0x42 ∷ 0x5A ∷ 0x68 ∷ []) then Bzip2
     else (if starts_with ◌==◌ bytes (0xFF ∷ 0xFE ∷ []) then Utf16
-    else (if starts_with ◌==◌ bytes (0xFE ∷ 0xFF ∷ []) then Utf16 else Other))
+    else (if starts_with ◌==◌ bytes (0xFE ∷ 0xFF ∷ []) then Utf16 else Other)))))

@@ -25,6 +25,12 @@ pub struct LineForm {
 pub enum Encoding {
     /// A file that gzip compressed.
     Gzip,
+    /// A file that xz compressed.
+    Xz,
+    /// A file that zstd compressed.
+    Zstd,
+    /// A file that bzip2 compressed.
+    Bzip2,
     /// A text in UTF-16, with its byte order mark.
     Utf16,
     /// Anything else.
@@ -137,6 +143,12 @@ fn encoding_of(bytes: &[u8]) -> Encoding
 {
     if bytes.starts_with(&[0x1f, 0x8b]) {
         Encoding::Gzip
+    } else if bytes.starts_with(&[0xfd, 0x37, 0x7a, 0x58, 0x5a]) {
+        Encoding::Xz
+    } else if bytes.starts_with(&[0x28, 0xb5, 0x2f, 0xfd]) {
+        Encoding::Zstd
+    } else if bytes.starts_with(&[0x42, 0x5a, 0x68]) {
+        Encoding::Bzip2
     } else if bytes.starts_with(&[0xff, 0xfe]) || bytes.starts_with(&[0xfe, 0xff]) {
         Encoding::Utf16
     } else {

@@ -88,6 +88,12 @@ const SOURCES: &[CommandOption] = &[
         excludes: &[],
     },
     CommandOption {
+        name: "max-expansion",
+        takes: Takes::Number,
+        help: "At most N bytes of regular expression for a pattern with its definitions [default: 1000000]",
+        excludes: &[],
+    },
+    CommandOption {
         name: "list",
         takes: Takes::ValueOrNothing("TEXT"),
         help: "Write the common definitions, or those whose name has this text, and read no lines",
@@ -109,7 +115,7 @@ const SOURCES: &[CommandOption] = &[
         name: "write-definitions",
         takes: Takes::Value("FILE"),
         help: "Also write the definitions of -d and -D to this file, rewritten by --from-logstash",
-        excludes: &[],
+        excludes: &["list"],
     },
 ];
 

@@ -16,6 +16,9 @@ use std::num::NonZeroU64;
 /// How many different values `--count` counts, unless `--max` says how many.
 const VALUES: usize = 100_000;
 
+/// How many bytes the expanded text of a pattern has at most, unless `--max-expansion` says how many.
+const EXPANSION: usize = 1_000_000;
+
 /// How many lines `--html` reads, unless `--max` says how many.
 const PAGE_LINES: usize = 1000;
 
@@ -51,6 +54,8 @@ pub struct Options<'a> {
     pub has_common: bool,
     /// The words after `-D`.
     pub definitions: Vec<&'a str>,
+    /// How many bytes the expanded text of a pattern has at most.
+    pub most_bytes: usize,
     pub lines: Lines,
     /// How the lines of the logs are read.
     pub form: LineForm,
@@ -386,6 +391,7 @@ pub fn read_options<'a>(alloc: Global, words: &'a [String]) -> Result<Options<'a
         files,
         definition_files: values_of(alloc, &matches, "definitions")?,
         definitions: values_of(alloc, &matches, "define")?,
+        most_bytes: matches.get_one("max-expansion").unwrap_or(EXPANSION),
         list,
         has_common: !matches.get_flag("no-common"),
         lines: chosen_lines(&matches),

@@ -1,8 +1,9 @@
 -- What the pattern of a user is compiled to, or reported as.
-use Rattle.std.specs.Prelude.{◌≢◌, Bool, string_bytes}
+use Rattle.std.specs.Prelude.{◌≢◌, ℕ, ◌<◌, Bool, true, false, ⊤, ◌⊎◌, string_bytes}
 use Rattle.grok.specs.Maps.{Texts}
 use Rattle.grok.specs.Answers.{PatternValue}
 use Rattle.grok.specs.Compiled.{IsPatternOf, IsCompileError, expansion_of}
+use Rattle.grok.specs.Measured.{Measured, Faulty, Sized, TooLong, measured_tree, tree_of}
 use Rattle.grok.specs.Errors as errors
 use Rattle.grok.specs.Errors.{ErrorValue}
 use Rattle.grok.specs.RegexFinds.{MayRefuse}
@@ -25,6 +26,26 @@ pub record IsRefusedText (definitions : Texts) (alias_only : Bool) (text : Patte
   pub error : ErrorValue
   pub is : IsCompileError MayRefuse (expansion_of definitions alias_only (string_bytes text.text)) error
   pub not_memory : error ≢ errors.Memory
+
+-- A pattern that was measured has no structural fault, and its expanded text has more than `most` bytes.
+abbrev pub IsMoreThan : ℕ → Measured → Type 0
+IsMoreThan most (Faulty fault) = ⊥
+IsMoreThan most (Sized length groups nesting) = most < length
+IsMoreThan most TooLong = ⊤
+
+-- The expanded text of the pattern, with these definitions and in this mode, has more than `most` bytes.
+abbrev pub IsTooLong : Texts → Bool → ℕ → PatternText → Type 0
+IsTooLong definitions alias_only most text = IsMoreThan most (measured_tree alias_only (tree_of definitions (string_bytes text.text)))
+
+-- `found` says whether it has.
+abbrev pub IsTooLongOrNot : Texts → Bool → ℕ → PatternText → Bool → Type 0
+IsTooLongOrNot definitions alias_only most text true = IsTooLong definitions alias_only most text
+IsTooLongOrNot definitions alias_only most text false = IsTooLong definitions alias_only most text → ⊥
+
+-- The pattern is faulty, or its expanded text has more than `most` bytes.
+abbrev pub IsRefused : Texts → Bool → ℕ → PatternText → Type 0
+IsRefused definitions alias_only most text =
+    IsRefusedText definitions alias_only text ⊎ IsTooLong definitions alias_only most text
 
 -- It is a fault of a pattern, and `is_refused` holds, or an allocation failed.
 abbrev pub IsCompileFault : Type 0 → Fault → Type 0

@@ -1,20 +1,22 @@
 //! Compiles the patterns of a run.
-ghost use Rattle.std.specs.Prelude.{Any, IfOk, IfErr};
+ghost use Rattle.std.specs.Prelude.{Any, IfOk, IfErr, OnOk};
 ghost use Rattle.std.specs.List.{AllZip};
-ghost use Rattle.groklog_patterns.specs.Compiled.{IsCompiledFrom, IsRefusedText, IsCompileFault};
+ghost use Rattle.groklog_patterns.specs.Compiled.{IsCompiledFrom, IsTooLong, IsRefused, IsCompileFault};
 
 use crate::diagnosis::report_of;
+use crate::expansions::{is_too_long, too_long_report};
 use crate::library::Library;
 use crate::pattern_text::PatternText;
 use grok::{Error, Pattern};
 use groklog_input::Fault;
 use std::alloc::Global;
 
-/// Compiles one pattern.
+/// Compiles one pattern, unless its expanded text is longer than the library takes. That is known before any
+/// of the text is written.
 ///
 /// # Errors
 ///
-/// Returns its fault if it can't be compiled, or an error if an allocation fails.
+/// Returns its fault if it can't be compiled or is too long, or an error if an allocation fails.
 pub fn compile(
     alloc: Global,
     library: &Library<'_>,
@@ -22,12 +24,17 @@ pub fn compile(
     with_alias_only: bool,
 ) -> Result<Pattern, Fault>
     ensures pattern { IfOk result (IsCompiledFrom library.now.grok with_alias_only pattern.now) }
-    ensures fault { IfErr result (IsCompileFault (IsRefusedText library.now.grok with_alias_only pattern.now)) }
+    ensures limit { OnOk result (IsTooLong library.now.grok with_alias_only library.now.most_bytes pattern.now → ⊥) }
+    ensures fault { IfErr result (IsCompileFault
+        (IsRefused library.now.grok with_alias_only library.now.most_bytes pattern.now)) }
 {
+    if is_too_long(library, pattern, with_alias_only)? {
+        let report = too_long_report(alloc, library, pattern, with_alias_only)?;
+        return Err(Fault::Pattern(report));
+    }
     match library.grok.compile(pattern.text.as_str(), with_alias_only) {
         Ok(compiled) => Ok(compiled),
-        // own error: the library reported that an allocation failed, or that the text of the pattern
-        // is too long for any.
+        // own error: the library reported that an allocation failed.
         Err(Error::Memory) => Err(Fault::Memory),
         Err(_) => {
             let report = report_of(alloc, library, pattern, with_alias_only)?;
@@ -51,7 +58,8 @@ pub fn compile_all(
 ) -> Result<Vec<Pattern>, Fault>
     ensures patterns { IfOk result (λ all. AllZip (IsCompiledFrom library.now.grok with_alias_only)
         patterns.now all.items) }
-    ensures fault { IfErr result (IsCompileFault (Any (IsRefusedText library.now.grok with_alias_only) patterns.now)) }
+    ensures fault { IfErr result (IsCompileFault
+        (Any (IsRefused library.now.grok with_alias_only library.now.most_bytes) patterns.now)) }
 {
     let mut all = Vec::new(alloc);
     'patterns: for pattern in patterns {

@@ -49,10 +49,15 @@ fn is_skipped(line: &str) -> bool {
     line.is_empty() || line.starts_with('#')
 }
 
+/// Returns the text of a file without the byte order mark at its start, which some editors on Windows
+/// write.
+pub fn without_mark(text: &str) -> &str {
+    text.strip_prefix('\u{feff}').unwrap_or(text)
+}
+
 /// Appends the definitions in the text of a file to `found`. If a line is neither a definition nor
 /// skipped, stops there, and returns where the line is, and the line without the blanks that it
-/// begins with. A byte order mark at the start of the text, which some editors on Windows write, is
-/// skipped too.
+/// begins with.
 ///
 /// # Errors
 ///
@@ -62,7 +67,7 @@ pub fn read_file<'a>(
     file: &'a str,
     text: &'a str,
 ) -> Result<Option<(Origin<'a>, &'a str)>, AllocError> {
-    let text = text.strip_prefix('\u{feff}').unwrap_or(text);
+    let text = without_mark(text);
     let mut number = 0u64;
     for line in text.split('\n') {
         number = number.saturating_add(1);

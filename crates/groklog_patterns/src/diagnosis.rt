@@ -25,6 +25,14 @@ const PLACEHOLDERS: &str =
 const FROM_LOGSTASH: &str =
     "use --from-logstash, which rewrites what was made for Logstash, and reports what changes";
 
+/// The advice for an `@` in a placeholder. Logstash takes it there, and the crate `grok` doesn't.
+const NO_AT_SIGN: &str =
+    "leave out the @, as in %{NAME:timestamp}: the grok crate takes none in a placeholder, though Logstash does";
+
+/// The advice for `%%{`, in which the first `%` makes the second one a literal.
+const DOUBLED_PERCENT: &str =
+    "write [%]%{NAME} for a % before a placeholder: %% is a literal %%, and so %%{ begins no placeholder";
+
 /// Returns a name with its ASCII letters in upper case.
 fn in_upper_case(alloc: Global, name: &str) -> Result<String, AllocError> {
     let mut upper = String::new(alloc);
@@ -79,7 +87,11 @@ fn advice_for_name(alloc: Global, grok: &Grok, name: &str) -> Result<String, All
 /// Returns the words that describe where a fault is: in the pattern, or in the definition of the
 /// last of these names. For a definition they say where it was given, and which definitions lead to
 /// it.
-fn describe_location(
+///
+/// # Errors
+///
+/// If an allocation fails.
+pub fn describe_location(
     alloc: Global,
     library: &Library<'_>,
     pattern: &PatternText,
@@ -157,10 +169,18 @@ fn malformed_words(alloc: Global, reason: MalformedReason) -> Result<String, All
     String::from_str(alloc, words)
 }
 
+/// Returns the advice for a placeholder that is malformed for this reason.
+fn advice_for_malformed(reason: MalformedReason) -> &'static str {
+    match reason {
+        MalformedReason::InvalidCharacter('@') => NO_AT_SIGN,
+        _ => PLACEHOLDERS,
+    }
+}
+
 /// Returns the report that a placeholder is malformed for this reason. It doesn't say yet where.
 fn malformed_report(alloc: Global, reason: MalformedReason) -> Result<Report, AllocError> {
     let what = malformed_words(alloc, reason)?;
-    Report::new(alloc, what.as_str(), PLACEHOLDERS)
+    Report::new(alloc, what.as_str(), advice_for_malformed(reason))
 }
 
 /// Returns the location of what is wrong with the malformed placeholder at `location`: the character
@@ -245,6 +265,8 @@ fn clash_report(
 fn advice_for_refusal(alloc: Global, text: &str) -> Result<&'static str, AllocError> {
     Ok(if has_own_forms(alloc, text)? {
         FROM_LOGSTASH
+    } else if text.contains("%%{") {
+        DOUBLED_PERCENT
     } else {
         "write it in the syntax of Rust's regex crate, which https://docs.rs/regex/#syntax shows"
     })

@@ -157,12 +157,7 @@ pub fn adapt_all(
     for source in &used_sources(alloc, library, patterns)? {
         if let Some(text) = library.grok.definition(source.name) {
             let rewritten = adapt_definition(alloc, &mut notes, *source, text, wish)?;
-            let is_rewritten = true;
-            let source = Source {
-                is_rewritten,
-                ..*source
-            };
-            library.store(source, rewritten.as_str())?;
+            library.store(*source, rewritten.as_str())?;
         }
     }
     let mut texts = Vec::new(alloc);
@@ -181,54 +176,4 @@ pub fn adapt_all(
         }
     }
     Ok(Adapted { texts, notes })
-}
-
-/// Returns a definition as a line of a file of definitions.
-fn line_of(alloc: Global, name: &str, text: &str) -> Result<String, AllocError> {
-    if text.contains('\n') {
-        return format!(in alloc; "# {name} has a line feed\n");
-    }
-    format!(in alloc; "{name}={text}\n")
-}
-
-/// Returns a definition as a line of a file of definitions, rewritten if `wish` is given.
-fn rewritten_line(
-    alloc: Global,
-    name: &str,
-    text: &str,
-    wish: Option<Wish>,
-) -> Result<String, AllocError> {
-    let Some(wish) = wish else {
-        return line_of(alloc, name, text);
-    };
-    match rewrite(alloc, text, wish)? {
-        Outcome::Rewritten(rewritten) => line_of(alloc, name, rewritten.text.as_str()),
-        Outcome::Refused(refused) => {
-            format!(in alloc; "# {name} can't be rewritten: {}\n", refused.reason)
-        }
-    }
-}
-
-/// Returns the user's definitions as the lines of a file of definitions, in the byte order of their names.
-/// Those that no pattern uses aren't rewritten yet: they are rewritten if `wish` is given.
-///
-/// # Errors
-///
-/// If an allocation fails.
-pub fn definition_lines(
-    alloc: Global,
-    library: &Library<'_>,
-    wish: Option<Wish>,
-) -> Result<String, AllocError> {
-    let mut lines = String::new(alloc);
-    for source in library.sources() {
-        if is_own(source.origin)
-            && let Some(text) = library.grok.definition(source.name)
-        {
-            let wish = if source.is_rewritten { None } else { wish };
-            let line = rewritten_line(alloc, source.name, text, wish)?;
-            lines.push_str(line.as_str())?;
-        }
-    }
-    Ok(lines)
 }

@@ -11,7 +11,6 @@ use grok::{Grok, patterns};
 use groklog_input::{Fault, Report};
 use std::alloc::{AllocError, Global};
 use std::collections::BTreeMap;
-use std::collections::btree_map::Values;
 
 /// The name and the text of a file of definitions.
 #[derive(Drop)]
@@ -25,14 +24,14 @@ pub struct DefinitionFile {
 pub struct Source<'a> {
     pub name: &'a str,
     pub origin: Origin<'a>,
-    /// Whether it is no longer as it was given, because it was made for Logstash.
-    pub is_rewritten: bool,
 }
 
 /// Definitions, which `grok` has, and where each of them was given.
 #[derive(Drop)]
 pub struct Library<'a> {
     pub grok: Grok,
+    /// How many bytes the expanded text of a pattern may have.
+    pub most_bytes: usize,
     sources: BTreeMap<&'a str, Source<'a>>,
 }
 
@@ -104,25 +103,27 @@ fn collect<'a>(
 
 impl<'a> Library<'a> {
     /// Makes a library of the default definitions.
-    fn with_default_definitions(alloc: Global) -> Result<Library<'a>, AllocError> {
+    fn with_default_definitions(
+        alloc: Global,
+        most_bytes: usize,
+    ) -> Result<Library<'a>, AllocError> {
         let mut sources = BTreeMap::new(alloc);
         for (name, _) in patterns() {
-            let source = Source {
-                name,
-                origin: Origin::Default,
-                is_rewritten: false,
-            };
+            let origin = Origin::Default;
+            let source = Source { name, origin };
             sources.insert(*name, source)?;
         }
         Ok(Library {
             grok: Grok::default(alloc)?,
+            most_bytes,
             sources,
         })
     }
 
     /// Makes the library with the default definitions, the common definitions if `with_common` is
     /// set, those of the files, and those of the words.
-    /// A later definition of a name replaces an earlier one.
+    /// A later definition of a name replaces an earlier one. Patterns whose expanded text is longer than
+    /// `most_bytes` are refused.
     ///
     /// # Errors
     ///
@@ -132,16 +133,12 @@ impl<'a> Library<'a> {
         with_common: bool,
         files: &'a [DefinitionFile],
         words: &[&'a str],
+        most_bytes: usize,
     ) -> Result<Library<'a>, Fault> {
-        let mut library = Library::with_default_definitions(alloc)?;
+        let mut library = Library::with_default_definitions(alloc, most_bytes)?;
         for definition in &collect(alloc, with_common, files, words)? {
             let Definition { name, text, origin } = *definition;
-            let source = Source {
-                name,
-                origin,
-                is_rewritten: false,
-            };
-            library.store(source, text)?;
+            library.store(Source { name, origin }, text)?;
         }
         Ok(library)
     }
@@ -157,11 +154,6 @@ impl<'a> Library<'a> {
     {
         self.sources.insert(source.name, source)?;
         self.grok.add_pattern(source.name, text)
-    }
-
-    /// Returns an iterator over where the definitions were given, in the byte order of their names.
-    pub fn sources(&self) -> Values<'_, &'a str, Source<'a>> {
-        self.sources.values()
     }
 
     /// Returns where the definition of a name was given, or `None` if the name has no definition.

@@ -11,7 +11,7 @@ use Rattle.oniguruma_syntax.specs.declared.token.Node.{Node}
 use Rattle.oniguruma_syntax.specs.declared.token.Opening.{Opening}
 use Rattle.oniguruma_syntax.specs.declared.token.Opening.TheVariants as opening
 use Rattle.oniguruma_syntax.specs.declared.token.Token.{Token}
-use Rattle.oniguruma_syntax.specs.declared.token.Token.TheVariants.{Placeholder, Char, Symbol, Blank, LineComment, Escape, Code, Enclosed, Open, Flags, Quantifier, Interval, Class, Posix, Malformed, Unread}
+use Rattle.oniguruma_syntax.specs.declared.token.Token.TheVariants.{Placeholder, Char, Symbol, Blank, LineComment, Escape, Edge, Code, Enclosed, Open, Flags, Quantifier, Interval, Class, Posix, Malformed, Unread}
 
 -- ---- names of groups
 
@@ -67,6 +67,7 @@ is_own_form (Symbol c) = false
 is_own_form (Blank c) = false
 is_own_form (LineComment text) = false
 is_own_form (Escape c) = is_own_escape c
+is_own_form (Edge spelling) = false
 is_own_form (Code start radix digits) = false
 is_own_form (Enclosed which start inside end) = is_own_enclosed which inside.now
 is_own_form (Open how spelling) = is_own_opening how

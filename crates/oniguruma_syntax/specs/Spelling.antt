@@ -4,7 +4,7 @@ use Rattle.std.specs.Char.{encode_utf8}
 use Rattle.std.specs.List.{flat_map}
 use Rattle.oniguruma_syntax.specs.declared.token.Node.{Node}
 use Rattle.oniguruma_syntax.specs.declared.token.Token.{Token}
-use Rattle.oniguruma_syntax.specs.declared.token.Token.TheVariants.{Placeholder, Char, Symbol, Blank, LineComment, Escape, Code, Enclosed, Open, Flags, Quantifier, Interval, Class, Posix, Malformed, Unread}
+use Rattle.oniguruma_syntax.specs.declared.token.Token.TheVariants.{Placeholder, Char, Symbol, Blank, LineComment, Escape, Edge, Code, Enclosed, Open, Flags, Quantifier, Interval, Class, Posix, Malformed, Unread}
 
 -- How a token is spelled.
 abbrev pub spelled : Token → List ℕ
@@ -14,6 +14,7 @@ spelled (Symbol c) = encode_utf8 c
 spelled (Blank c) = encode_utf8 c
 spelled (LineComment text) = text.now
 spelled (Escape c) = 92 ∷ encode_utf8 c
+spelled (Edge spelling) = spelling.now
 spelled (Code start radix digits) = start.now ++ digits.now
 spelled (Enclosed which start inside end) = start.now ++ (inside.now ++ end.now)
 spelled (Open how spelling) = spelling.now

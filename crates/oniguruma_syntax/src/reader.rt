@@ -24,9 +24,22 @@ struct Placeholders<'a> {
     malformed: Option<usize>,
 }
 
+/// Returns whether `%%` begins at a byte of a text, and a placeholder with its second `%`. The library of grok
+/// patterns reads no placeholder in `%%{INT}`, but in Logstash it is a `%` and one.
+fn is_doubled(text: &str, at: usize) -> bool {
+    let (_, rest) = split_after(text, at);
+    match rest.strip_prefix('%') {
+        Some(rest) => matches!(
+            grok_split(rest).next(),
+            Some(GrokComponent::GrokPattern { .. })
+        ),
+        None => false,
+    }
+}
+
 /// Appends the placeholders of a text that begins at the byte `start` of the whole, as the library of
-/// grok patterns reads it. Returns the byte of the whole where a malformed one begins, if there is
-/// one.
+/// grok patterns reads it. Returns the byte of the whole where one begins that the library reads in another
+/// way than Logstash, or a malformed one, if there is one.
 fn add_placeholders<'a>(
     found: &mut Vec<Placed<'a>>,
     start: usize,
@@ -36,6 +49,9 @@ fn add_placeholders<'a>(
     for piece in grok_split(text) {
         match piece {
             GrokComponent::RegularExpression { range, .. } => {
+                if is_doubled(text, range.start) {
+                    return Ok(Some(start.saturating_add(range.start).saturating_add(1)));
+                }
                 end = start.saturating_add(range.end);
             }
             GrokComponent::GrokPattern {
@@ -98,6 +114,30 @@ fn read_trimmed<'a>(alloc: Global, text: &'a str) -> Result<Option<Placeholder<'
     }
 }
 
+/// Returns the placeholder with which a text begins in Logstash, or `None` if there is none.
+fn read_first<'a>(alloc: Global, text: &'a str) -> Result<Option<Placeholder<'a>>, AllocError> {
+    match grok_split(text).next() {
+        Some(
+            GrokComponent::GrokPattern {
+                pattern,
+                name,
+                alias,
+                extract,
+                definition,
+                ..
+            },
+        ) => Ok(Some(Placeholder {
+            text: pattern,
+            name,
+            alias,
+            extract,
+            definition,
+            is_trimmed: false,
+        })),
+        _ => read_trimmed(alloc, text),
+    }
+}
+
 /// Finds the placeholders of a text.
 fn find_placeholders<'a>(alloc: Global, text: &'a str) -> Result<Placeholders<'a>, AllocError> {
     let mut found = Vec::new(alloc);
@@ -109,7 +149,7 @@ fn find_placeholders<'a>(alloc: Global, text: &'a str) -> Result<Placeholders<'a
             break;
         };
         let (_, rest) = split_after(text, malformed);
-        let Some(placeholder) = read_trimmed(alloc, rest)? else {
+        let Some(placeholder) = read_first(alloc, rest)? else {
             let malformed = Some(malformed);
             return Ok(Placeholders { found, malformed });
         };

@@ -59,6 +59,9 @@ const QUANTIFIERS: [(Greed, &str); 9] = [
 /// them there are at most.
 const CODES: [(&str, u32, usize); 3] = [("\\x", 16, 2), ("\\u", 16, 4), ("\\0", 8, 2)];
 
+/// The starts and ends of words that are written for lookarounds.
+const EDGES: [&str; 3] = ["\\b{start}", "\\b{start-half}", "\\b{end-half}"];
+
 /// The marks of a class. If a spelling begins with another one, it comes before that one.
 const MARKS: [(Mark, &str); 4] = [
     (Mark::NotOpen, "[^"),
@@ -228,6 +231,18 @@ fn strip_escape(text: &str) -> Option<(Token<'_>, &str)>
     Some((Token::Escape(escaped), characters.as_str()))
 }
 
+/// Returns the start or the end of a word that a text begins with, and the text after it.
+fn strip_edge(text: &str) -> Option<(Token<'_>, &str)>
+    ensures { IfSome result (λ found. text.now ≡ spelled found.0 ++ found.1.now) }
+{
+    for spelling in EDGES {
+        if let Some(rest) = text.strip_prefix(spelling) {
+            return Some((Token::Edge(spelling), rest));
+        }
+    }
+    None
+}
+
 /// Returns the first character of a text as a token, and the text after it.
 fn strip_character(text: &str) -> Option<(Token<'_>, &str)>
     ensures { IfSome result (λ found. text.now ≡ spelled found.0 ++ found.1.now) }
@@ -323,6 +338,9 @@ fn strip_blank(text: &str) -> Option<(Token<'_>, &str)>
 fn strip_plain(text: &str) -> Option<(Token<'_>, &str)>
     ensures { IfSome result (λ found. text.now ≡ spelled found.0 ++ found.1.now) }
 {
+    if let Some(found) = strip_edge(text) {
+        return Some(found);
+    }
     let found = match text.chars().next()? {
         '\\' => strip_escape(text),
         '(' => strip_group(text),

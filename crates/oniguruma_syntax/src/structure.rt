@@ -182,7 +182,7 @@ impl Linker {
             }
             _ if node.is_blank() => {}
             Token::Flags(_, _) | Token::Symbol('^' | '$') => self.set_atom(None),
-            Token::Escape('A' | 'z' | 'Z' | 'b' | 'B') => self.set_atom(None),
+            Token::Escape('A' | 'z' | 'Z' | 'b' | 'B') | Token::Edge(_) => self.set_atom(None),
             _ => self.set_atom(Some(index)),
         }
         Ok(())

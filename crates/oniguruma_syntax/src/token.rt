@@ -95,6 +95,9 @@ pub enum Token<'a> {
     LineComment(&'a str),
     /// A backslash and a character.
     Escape(char),
+    /// The start or the end of a word as `regex` spells it, such as `\b{start}`. It is in texts that were
+    /// rewritten before.
+    Edge(&'static str),
     /// A character by its number: the start, such as `\x`, the radix of its digits, and the digits.
     Code(&'static str, u32, &'a str),
     /// A form, its start, what is in it, and its end.

@@ -78,6 +78,7 @@ struct Writer<'w, 'a> {
 fn begins_alternative(node: &Node<'_>) -> bool {
     match node.token {
         Token::Open(_, _) | Token::Flags(_, _) | Token::Enclosed(Form::Name, _, _, _) => true,
+        Token::Edge(_) => true,
         Token::Symbol(c) => matches!(c, '|' | '^'),
         Token::Escape(c) => matches!(c, 'b' | 'B' | 'A'),
         _ => false,
@@ -88,6 +89,7 @@ fn begins_alternative(node: &Node<'_>) -> bool {
 fn ends_alternative(node: &Node<'_>) -> bool {
     match node.token {
         Token::Symbol(c) => matches!(c, ')' | '|' | '$'),
+        Token::Edge(_) => true,
         Token::Escape(c) => matches!(c, 'b' | 'B' | 'z' | 'Z'),
         _ => false,
     }
@@ -111,16 +113,23 @@ fn push_flags(text: &mut String, letters: &str) -> Result<(), AllocError> {
     if letters.contains('i') {
         text.push('i')?;
     }
-    // In Ruby's syntax, `m` lets a `.` match a line feed.
-    if letters.contains('m') {
+    if has_dot_all(letters) {
         text.push('s')?;
     }
     Ok(())
 }
 
+/// Returns whether these letters let a `.` match a line feed. In Ruby's syntax that is `m`, and in texts that
+/// were rewritten before it is `s`, which Ruby's syntax doesn't have.
+fn has_dot_all(letters: &str) -> bool {
+    letters.contains('m') || letters.contains('s')
+}
+
 /// Returns whether letters are flags that are known.
 fn are_known(letters: &str) -> bool {
-    letters.bytes().all(|b| matches!(b, b'i' | b'm' | b'x'))
+    letters
+        .bytes()
+        .all(|b| matches!(b, b'i' | b'm' | b'x' | b's'))
 }
 
 /// Returns whether a text has a brace.
@@ -298,7 +307,7 @@ impl<'a> Writer<'_, 'a> {
         }
         self.text.push_str("(?")?;
         push_flags(&mut self.text, on)?;
-        if off.contains('i') || off.contains('m') {
+        if off.contains('i') || has_dot_all(off) {
             self.text.push('-')?;
             push_flags(&mut self.text, off)?;
         }
@@ -628,6 +637,7 @@ impl<'a> Writer<'_, 'a> {
             Token::Symbol(c) => Ok(self.text.push(c)?),
             Token::Blank(_) | Token::LineComment(_) => Ok(()),
             Token::Escape(letter) => self.write_letter(index, node, letter),
+            Token::Edge(spelling) => Ok(self.text.push_str(spelling)?),
             Token::Code(_, _, _) => self.write_one(index, node),
             Token::Enclosed(form, _, inside, _) => self.write_enclosed(index, node, form, inside),
             Token::Open(opening, _) => self.write_opening(index, node, opening),
