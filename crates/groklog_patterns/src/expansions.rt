@@ -20,6 +20,7 @@ use std::ops::Range;
 /// # Errors
 ///
 /// If an allocation fails.
+#[tactic(auto, using(crate::proofs::MeasuresDecide::measures_decide))]
 pub fn is_too_long(
     library: &Library<'_>,
     pattern: &PatternText,
@@ -30,11 +31,11 @@ pub fn is_too_long(
     let measure = library
         .grok
         .measure(pattern.text.as_str(), with_alias_only)?;
-    Ok(match measure {
-        Measure::Size { length, .. } => length > library.most_bytes,
-        Measure::TooLong => true,
-        Measure::Fault(_) => false,
-    })
+    match measure {
+        Measure::Size { length, .. } if length > library.most_bytes => Ok(true),
+        Measure::TooLong => Ok(true),
+        Measure::Size { .. } | Measure::Fault(_) => Ok(false),
+    }
 }
 
 /// A placeholder for a stored definition.
