@@ -88,7 +88,7 @@ fn answer_files<'p, A: LogLines<'p>>(
         if answers.answers.has_enough() {
             break;
         }
-        answers.answers.log_answers().begin_file(file);
+        answers.answers.begin_file(file);
         let answered = answer_file(rt, answers, file, shows);
         if let Some(hint) = hints.of_input(rt.alloc(), shown_name(file), answers.signs)? {
             show_note(rt, hint.as_str())?;
@@ -105,7 +105,7 @@ fn answer_files<'p, A: LogLines<'p>>(
             Err(fault) => return Err(fault),
         }
     }
-    let matched = answers.answers.log_answers().matched()?;
+    let matched = answers.answers.searches().matched(rt.alloc())?;
     if let Some(hint) = hints.at_end(matched.iter().any(|count| *count > 0)) {
         show_note(rt, hint)?;
     }

@@ -5,61 +5,56 @@ use crate::page::Page;
 use crate::show::Show;
 use crate::why::Why;
 use grok_lines::{EventAnswers, EventStarts, LineHandler, SkipLines};
-use groklog_answers::LogAnswers;
+use groklog_answers::{LogAnswers, Searches};
 use groklog_views::KeyCounts;
 
 /// Answers to the lines or events of several files.
 pub trait LogLines<'p>: LineHandler {
-    /// Returns what matches and counts the lines or events.
-    fn log_answers(&mut self) -> &mut LogAnswers<'p>;
+    /// Returns what finds the matches, and counts the lines or events.
+    fn searches(&self) -> &Searches<'p>;
+
+    /// Says that the next lines are those of the file with this name.
+    fn begin_file(&mut self, name: &'p str) {
+        let _ = name;
+    }
 
     /// Returns whether no more lines are wanted. If an answer fails then, that is no fault.
-    fn has_enough(&self) -> bool;
+    fn has_enough(&self) -> bool {
+        false
+    }
 }
 
 impl<'p> LogLines<'p> for LogAnswers<'p> {
-    fn log_answers(&mut self) -> &mut LogAnswers<'p> {
-        self
+    fn searches(&self) -> &Searches<'p> {
+        &self.searches
     }
 
-    fn has_enough(&self) -> bool {
-        false
+    fn begin_file(&mut self, name: &'p str) {
+        LogAnswers::begin_file(self, name);
     }
 }
 
 impl<'a> LogLines<'a> for KeyCounts<'a> {
-    fn log_answers(&mut self) -> &mut LogAnswers<'a> {
-        &mut self.answers
-    }
-
-    fn has_enough(&self) -> bool {
-        false
+    fn searches(&self) -> &Searches<'a> {
+        &self.searches
     }
 }
 
 impl<'a> LogLines<'a> for Why<'_, 'a, '_, '_> {
-    fn log_answers(&mut self) -> &mut LogAnswers<'a> {
-        &mut self.answers
-    }
-
-    fn has_enough(&self) -> bool {
-        false
+    fn searches(&self) -> &Searches<'a> {
+        &self.searches
     }
 }
 
 impl<'a> LogLines<'a> for Show<'_, 'a> {
-    fn log_answers(&mut self) -> &mut LogAnswers<'a> {
-        &mut self.located.answers
-    }
-
-    fn has_enough(&self) -> bool {
-        false
+    fn searches(&self) -> &Searches<'a> {
+        &self.located.searches
     }
 }
 
 impl<'a> LogLines<'a> for Page<'a, '_, '_> {
-    fn log_answers(&mut self) -> &mut LogAnswers<'a> {
-        &mut self.located.answers
+    fn searches(&self) -> &Searches<'a> {
+        &self.located.searches
     }
 
     fn has_enough(&self) -> bool {
@@ -68,8 +63,12 @@ impl<'a> LogLines<'a> for Page<'a, '_, '_> {
 }
 
 impl<'a, A: LogLines<'a> + SkipLines, S: EventStarts> LogLines<'a> for EventAnswers<A, S> {
-    fn log_answers(&mut self) -> &mut LogAnswers<'a> {
-        self.answers.log_answers()
+    fn searches(&self) -> &Searches<'a> {
+        self.answers.searches()
+    }
+
+    fn begin_file(&mut self, name: &'a str) {
+        self.answers.begin_file(name);
     }
 
     fn has_enough(&self) -> bool {

@@ -31,15 +31,15 @@ impl<'a, 'p, 'd> Page<'a, 'p, 'd> {
         }
     }
 
-    /// Returns where the pattern stops in a line that doesn't match. It is empty if enough lines were
+    /// Returns where the pattern stops in the line with this number, which doesn't match. It is empty if enough lines were
     /// explained.
-    fn explanation(&mut self, line: &str) -> Result<String, AllocError> {
+    fn explanation(&mut self, number: u64, line: &str) -> Result<String, AllocError> {
         let alloc = self.content.alloc;
         if self.explained_left == 0 {
             return Ok(String::new(alloc));
         }
         self.explained_left = self.explained_left.saturating_sub(1);
-        let place = self.content.scope.unit.at(alloc, self.content.number)?;
+        let place = self.content.scope.unit.at(alloc, number)?;
         self.explainer.report(place.as_str(), line)
     }
 }
@@ -49,27 +49,29 @@ impl LineAnswers for Page<'_, '_, '_> {
 
     fn answer_str(&mut self, text: &mut Vec<u8>, line: &str) -> Result<(), AllocError> {
         let _ = text;
-        let pattern = self.located.pattern_of(line)?;
+        let number = self.located.searches.next_number();
+        let fields = self.located.find(line)?;
         self.content.count_item();
-        if let Some(pattern) = pattern {
-            let fields = self.located.fields(pattern, line)?;
-            self.content.add_matched(line, &fields)?;
+        if let Some(fields) = fields {
+            self.content.add_matched(number, line, &fields)?;
         } else if self.content.lists_unmatched() {
-            let report = self.explanation(line)?;
-            self.content.add_unmatched(line, report.as_str())?;
+            let report = self.explanation(number, line)?;
+            self.content.add_unmatched(number, line, report.as_str())?;
         }
         self.content.end_if_full()
     }
 
     fn answer_broken(&mut self, text: &mut Vec<u8>, line: &[u8]) -> Result<(), AllocError> {
         let _ = text;
-        self.located.note_broken(line)?;
+        let number = self.located.searches.next_number();
+        self.located.searches.note_broken()?;
         self.content.count_item();
         if self.content.lists_unmatched() {
             let alloc = self.content.alloc;
             let line = String::from_utf8_lossy(alloc, line)?;
             let report = format!(in alloc; "this {} isn't UTF-8", self.content.scope.unit.word(1))?;
-            self.content.add_unmatched(line.as_str(), report.as_str())?;
+            self.content
+                .add_unmatched(number, line.as_str(), report.as_str())?;
         }
         self.content.end_if_full()
     }
@@ -77,8 +79,6 @@ impl LineAnswers for Page<'_, '_, '_> {
 
 impl SkipLines for Page<'_, '_, '_> {
     fn skip_lines(&mut self, count: u64) -> Result<(), AllocError> {
-        self.located.answers.skip_lines(count)?;
-        self.content.skip_lines(count);
-        Ok(())
+        self.located.searches.skip_lines(count)
     }
 }

@@ -14,9 +14,9 @@ use crate::terminal::is_coloured;
 use crate::whole_file::WholeFile;
 use crate::why::Why;
 use grok::Pattern;
-use groklog_answers::{LogAnswers, OutputFormat, Plan, header_of};
+use groklog_answers::{LogAnswers, OutputFormat, Plan, Searches, header_of};
 use groklog_input::{Fault, FormedAnswers, Report, write_fault};
-use groklog_options::{Options, check_keys, chosen_fields, layout_of, layout_of_count, with_tags};
+use groklog_options::{Options, check_keys, chosen_fields, layout_of, with_tags};
 use groklog_patterns::{
     Adapted, Explainer, Library, PatternText, adapt_all, compile, compile_all, definition_lines,
     explain, list_common_definitions, patterns_of, start_pattern, titles_of,
@@ -33,9 +33,9 @@ const DEFINITIONS: &str = "--write-definitions";
 fn show_summary(
     rt: &HostRuntime,
     options: &Options<'_>,
-    answers: &LogAnswers<'_>,
+    searches: &Searches<'_>,
 ) -> Result<(), AllocError> {
-    let line = summary_of(rt.alloc(), answers, &options.names, options.unit())?;
+    let line = summary_of(rt.alloc(), searches, &options.names, options.unit())?;
     // The run goes on if the line can't be written.
     let _ = eprintln!(rt; "groklog: {line}");
     Ok(())
@@ -51,7 +51,7 @@ fn run_answers<'p>(
     let (answers, outcome) = answer_each(rt, options, start, answers)?;
     let outcome = outcome?;
     if options.has_summary {
-        show_summary(rt, options, &answers)?;
+        show_summary(rt, options, &answers.searches)?;
     }
     Ok(outcome)
 }
@@ -77,7 +77,7 @@ fn run_count<'a>(
         show_note(rt, note.as_str())?;
     }
     if options.has_summary {
-        show_summary(rt, options, &counts.answers)?;
+        show_summary(rt, options, &counts.searches)?;
     }
     Ok(outcome)
 }
@@ -113,7 +113,7 @@ fn run_why<'a>(
     let rest = why.rest(rt.alloc())?;
     write_output(rt, rest.as_str())?;
     if options.has_summary {
-        show_summary(rt, options, &why.answers)?;
+        show_summary(rt, options, &why.searches)?;
     }
     Ok(outcome)
 }
@@ -133,7 +133,7 @@ fn run_show<'a>(
     let (show, answered) = answer_each(rt, options, start, show)?;
     let outcome = outcome_of(rt, &show.output, answered)?;
     if options.has_summary && show.output.failure.is_none() {
-        show_summary(rt, options, &show.located.answers)?;
+        show_summary(rt, options, &show.located.searches)?;
     }
     Ok(outcome)
 }
@@ -154,7 +154,7 @@ fn run_page<'a>(
     let html = page_html(alloc, &options.files, &tags, &page.located, &page.content)?;
     file.write(rt, outcome, html.as_str())?;
     if options.has_summary {
-        show_summary(rt, options, &page.located.answers)?;
+        show_summary(rt, options, &page.located.searches)?;
     }
     Ok(outcome)
 }
@@ -300,45 +300,43 @@ fn answer_by_plans<'a>(
 ) -> Result<Outcome, Fault> {
     let alloc = rt.alloc();
     let fields = chosen_fields(alloc, options, &sources.patterns)?;
+    let fields = fields.as_deref();
     let named = with_tags(alloc, options, &sources.patterns, plans)?;
+    let start = sources.start.as_ref();
     if let Some(key) = options.count {
-        let fields = [key];
-        let answers = LogAnswers::new(alloc, &named, layout_of_count(&fields))?;
-        let counts = KeyCounts::new(alloc, answers, key, options.most_values());
-        return run_count(rt, options, sources.start.as_ref(), counts);
+        let searches = Searches::new(alloc, &named)?;
+        let counts = KeyCounts::new(alloc, searches, key, options.most_values());
+        return run_count(rt, options, start, counts);
     }
-    let layout = layout_of(options, fields.as_deref());
-    let answers = LogAnswers::new(alloc, &named, layout)?;
     if options.is_shown {
-        let located = LocatedFields::new(alloc, answers, &sources.patterns, fields.as_deref())?;
-        return run_show(rt, options, sources.start.as_ref(), located);
+        let searches = Searches::new(alloc, &named)?;
+        let located = LocatedFields::new(alloc, searches, &sources.patterns, fields)?;
+        return run_show(rt, options, start, located);
     }
     if let Some(name) = options.page {
-        let located = LocatedFields::new(alloc, answers, &sources.patterns, fields.as_deref())?;
+        let searches = Searches::new(alloc, &named)?;
+        let located = LocatedFields::new(alloc, searches, &sources.patterns, fields)?;
         let page = page_of(alloc, options, library, sources, located)?;
         let file = WholeFile {
             option: PAGE,
             name,
             read: sources.read,
         };
-        return run_page(rt, options, sources.start.as_ref(), page, file);
+        return run_page(rt, options, start, page, file);
     }
-    let Some(most) = options.why else {
-        if options.are_records {
-            write_bytes(rt, &header_of(alloc, &layout)?)?;
-        }
-        return run_answers(rt, options, sources.start.as_ref(), answers);
-    };
-    let with_alias_only = !options.is_all;
-    let explainer = Explainer::new(
-        alloc,
-        library,
-        &sources.texts,
-        &sources.patterns,
-        with_alias_only,
-    )?;
-    let why = Why::new(rt, answers, explainer, options.unit(), most);
-    run_why(rt, options, sources.start.as_ref(), why)
+    if let Some(most) = options.why {
+        let (texts, patterns) = (&sources.texts, &sources.patterns);
+        let explainer = Explainer::new(alloc, library, texts, patterns, !options.is_all)?;
+        let searches = Searches::new(alloc, &named)?;
+        let why = Why::new(rt, searches, explainer, options.unit(), most);
+        return run_why(rt, options, start, why);
+    }
+    let layout = layout_of(options, fields);
+    if options.are_records {
+        write_bytes(rt, &header_of(alloc, &layout)?)?;
+    }
+    let answers = LogAnswers::new(alloc, &named, layout)?;
+    run_answers(rt, options, start, answers)
 }
 
 /// Checks the keys, and explains the patterns, or answers or explains the lines.

@@ -5,6 +5,7 @@ use crate::output::DirectOutput;
 use grok_lines::{LineAnswers, SkipLines};
 use groklog_answers::Lines;
 use groklog_views::{LocatedFields, legend_of, shown_line, shown_unmatched};
+use marked_lines::Field;
 use std::alloc::{AllocError, Global};
 
 /// Writes each line to standard output with its fields marked: in colours, or by letters under them. It
@@ -54,13 +55,12 @@ impl<'r, 'a> Show<'r, 'a> {
         self.output.write(shown.as_str())
     }
 
-    /// Writes a line that the pattern with this index matches.
-    fn write_matched(&mut self, pattern: usize, line: &str) -> Result<(), AllocError> {
+    /// Writes a line whose match has these fields.
+    fn write_matched(&mut self, line: &str, fields: &[Field]) -> Result<(), AllocError> {
         if matches!(self.lines, Lines::Unmatched) {
             return Ok(());
         }
-        let fields = self.located.fields(pattern, line)?;
-        let shown = shown_line(self.alloc, line, &fields, self.is_coloured)?;
+        let shown = shown_line(self.alloc, line, fields, self.is_coloured)?;
         self.output.write(shown.as_str())
     }
 }
@@ -70,15 +70,15 @@ impl LineAnswers for Show<'_, '_> {
 
     fn answer_str(&mut self, text: &mut Vec<u8>, line: &str) -> Result<(), AllocError> {
         let _ = text;
-        match self.located.pattern_of(line)? {
-            Some(pattern) => self.write_matched(pattern, line),
+        match self.located.find(line)? {
+            Some(fields) => self.write_matched(line, &fields),
             None => self.write_unmatched(line),
         }
     }
 
     fn answer_broken(&mut self, text: &mut Vec<u8>, line: &[u8]) -> Result<(), AllocError> {
         let _ = text;
-        self.located.note_broken(line)?;
+        self.located.searches.note_broken()?;
         let line = String::from_utf8_lossy(self.alloc, line)?;
         self.write_unmatched(line.as_str())
     }
@@ -86,6 +86,6 @@ impl LineAnswers for Show<'_, '_> {
 
 impl SkipLines for Show<'_, '_> {
     fn skip_lines(&mut self, count: u64) -> Result<(), AllocError> {
-        self.located.answers.skip_lines(count)
+        self.located.searches.skip_lines(count)
     }
 }

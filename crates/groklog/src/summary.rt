@@ -1,6 +1,6 @@
 //! Counts for `--summary`.
 
-use groklog_answers::LogAnswers;
+use groklog_answers::Searches;
 use groklog_input::visible;
 use groklog_patterns::ordinal;
 use groklog_views::Unit;
@@ -14,12 +14,12 @@ use std::alloc::{AllocError, Global};
 /// If an allocation fails.
 pub fn summary_of(
     alloc: Global,
-    answers: &LogAnswers<'_>,
+    searches: &Searches<'_>,
     names: &[Option<&str>],
     unit: Unit,
 ) -> Result<String, AllocError> {
-    let (unmatched, broken) = (answers.unmatched(), answers.broken());
-    let matched = answers.matched()?;
+    let (unmatched, broken) = (searches.unmatched(), searches.broken());
+    let matched = searches.matched(alloc)?;
     let mut lines = unmatched.saturating_add(broken);
     let mut parts = String::new(alloc);
     for (number, count) in (1usize..).zip(&matched) {

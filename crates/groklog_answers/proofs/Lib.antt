@@ -1,6 +1,7 @@
 mod NumbersAreJson
 mod NumeralsAreJson
 mod FirstMatchIsOfFirstPattern
+mod FirstMatchIsFound
 mod TokensOfMembers
 mod FirstBytes
 mod PlannedTokens

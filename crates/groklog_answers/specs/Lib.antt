@@ -9,6 +9,7 @@ pub mod PairTexts
 pub mod Records
 pub mod LogAnswers
 pub mod Views
+pub mod Searches
 pub mod AnswerLaws
 pub mod ValueCounts
 pub mod steps
@@ -19,5 +20,6 @@ pub use Rattle.groklog_answers.specs.PlanViews.{shared_text, plan_text}
 pub use Rattle.groklog_answers.specs.Patterns.{PatternText, MatchText, match_of, first_match, is_found}
 pub use Rattle.groklog_answers.specs.Records.{values_of, header_record}
 pub use Rattle.groklog_answers.specs.LogAnswers.{log_answer, log_answers_from}
-pub use Rattle.groklog_answers.specs.Views.{pattern_text, patterns_of, layout_of, next_number_of, matched_of, unmatched_of, broken_of, finds_of, starts_of}
+pub use Rattle.groklog_answers.specs.Views.{pattern_text, found_text_of, patterns_of, layout_of, next_number_of, finds_of, starts_of}
+pub use Rattle.groklog_answers.specs.Searches.{patterns_in, next_number_in, matched_in, unmatched_in, broken_in, HasNumbered}
 pub use Rattle.groklog_answers.specs.ValueCounts.{count_of, value_count, most_of, others_of, one_more, IsUnchanged, SetsCount, SkipsValue, counted_values, counted_pair, AreByCount, counts_text}

@@ -12,9 +12,10 @@ use Rattle.groklog_answers.specs.PlanViews.{plan_text}
 use Rattle.groklog_answers.specs.Patterns.{PatternText, MatchText, is_found}
 use Rattle.groklog_answers.specs.Records.{no_value}
 use Rattle.groklog_answers.specs.declared.found.Found.{Found}
-use Rattle.groklog_answers.specs.declared.log_answers.NamedPattern.{NamedPattern}
-use Rattle.groklog_answers.specs.declared.log_answers.Search.{Search}
 use Rattle.groklog_answers.specs.declared.log_answers.LogAnswers.{LogAnswers}
+use Rattle.groklog_answers.specs.declared.searches.LineMatch.{LineMatch}
+use Rattle.groklog_answers.specs.declared.searches.NamedPattern.{NamedPattern}
+use Rattle.groklog_answers.specs.declared.searches.Search.{Search}
 use Rattle.groklog_answers.specs.declared.start_pattern.StartPattern.{StartPattern}
 
 -- What `regex` captures in each line.
@@ -59,19 +60,23 @@ found_layout found = layout_value found.layout.now
 abbrev pub found_text : Found → MatchText
 found_text found = match_text_of found.named found.matches
 
--- The same of a pattern that is searched for by a matcher. The tag is the text that `--tag` writes.
+-- What contracts see of a match that was found.
+abbrev pub found_text_of : LineMatch → MatchText
+found_text_of found = match_text_of found.named found.matches
+
+-- The same of a pattern that is searched for in lines. The tag is the text that `--tag` writes.
 abbrev pub searched : Search → PatternText
 searched search = record {
   tag = search.named.tag.now;
-  finds = finds_of search.matcher.engine;
-  keys = search.matcher.keys;
+  finds = finds_of search.search.pattern.engine;
+  keys = search.search.pattern.keys;
   extracts = search.named.pattern.now.extracts;
   plan = named_plan search.named;
 }
 
 -- The patterns of a `LogAnswers`, in the order in which they are tried.
 abbrev pub patterns_of : LogAnswers → List PatternText
-patterns_of answers = map searched answers.searches.items
+patterns_of answers = map searched answers.searches.searches.items
 
 -- The layout of the answers.
 abbrev pub layout_of : LogAnswers → LayoutValue
@@ -79,19 +84,7 @@ layout_of answers = layout_value answers.writer.layout
 
 -- The number of the line that is answered next.
 abbrev pub next_number_of : LogAnswers → ℕ
-next_number_of answers = answers.next_number
-
--- For each pattern, in their order, how many lines it was the first to match.
-abbrev pub matched_of : LogAnswers → List ℕ
-matched_of answers = map (λ search. search.matched) answers.searches.items
-
--- How many lines no pattern matched, without those that aren't UTF-8.
-abbrev pub unmatched_of : LogAnswers → ℕ
-unmatched_of answers = answers.unmatched
-
--- How many lines weren't UTF-8.
-abbrev pub broken_of : LogAnswers → ℕ
-broken_of answers = answers.broken
+next_number_of answers = answers.searches.next_number
 
 -- Which lines are starts by a pattern: those in which it is found.
 abbrev pub starts_of : StartPattern → List ℕ → Bool

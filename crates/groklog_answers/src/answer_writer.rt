@@ -8,8 +8,9 @@ ghost use Rattle.groklog_answers.specs.LogAnswers.{match_answer, unmatched_answe
 
 use crate::found::Found;
 use crate::layout::{Failure, Layout, Lines, OutputFormat};
-use crate::log_answers::{NamedPattern, NumberedLine};
+use crate::log_answers::NumberedLine;
 use crate::object::{write_match, write_unmatched};
+use crate::searches::NamedPattern;
 use crate::{pairs, record};
 use grok::MatchesRef;
 use std::alloc::{AllocError, Global};

@@ -1,7 +1,7 @@
 //! Matches that are written.
 
 use crate::layout::Layout;
-use crate::log_answers::NamedPattern;
+use crate::searches::NamedPattern;
 use grok::MatchesRef;
 
 /// A match of a pattern, with the layout of its answer.

@@ -1,8 +1,9 @@
-//! Writes the answer to each line of a log.
+//! Finds in each line of a log the match of the first pattern that matches, and writes the answer to
+//! it.
 //!
-//! [`LogAnswers`] searches each line for its patterns, in order, and answers with the match of the
-//! first one that matches. A [`Layout`] says which lines are answered, and how. `grok_lines` reads
-//! the lines:
+//! [`Searches`] has the patterns. It numbers and counts the lines, and finds their matches. [`LogAnswers`]
+//! asks it, and writes what was found. A [`Layout`] says which lines are answered, and how. `grok_lines`
+//! reads the lines:
 //!
 //! ```text
 //! let patterns = [NamedPattern { tag: "%{IP:client}", pattern: &pattern, plan: None }];
@@ -21,14 +22,16 @@ mod pairs;
 mod plan;
 mod planned;
 mod record;
+mod searches;
 mod start_pattern;
 mod value_counts;
 mod values;
 
 pub use layout::{Failure, Layout, Lines, OutputFormat};
-pub use log_answers::{LogAnswers, NamedPattern};
+pub use log_answers::LogAnswers;
 pub use plan::{Clash, Plan, PlanError, SharedKey};
 pub use record::header_of;
+pub use searches::{LineMatch, NamedPattern, Searches};
 pub use start_pattern::StartPattern;
 pub use value_counts::{Counted, ValueCounts};
 pub use values::asks_for_numbers;

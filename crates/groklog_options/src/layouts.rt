@@ -1,9 +1,9 @@
 //! How the answers of a run are written, by its options.
-ghost use Rattle.std.specs.Prelude.{◌≡◌, Some, None, true};
+ghost use Rattle.std.specs.Prelude.{◌≡◌};
 
 use crate::options::Options;
 use grok::Pattern;
-use groklog_answers::{Layout, Lines, NamedPattern, OutputFormat, Plan};
+use groklog_answers::{Layout, NamedPattern, OutputFormat, Plan};
 use std::alloc::{AllocError, Global};
 
 /// Pairs each pattern with its tag, which is its name or else its text, and with its plan if there are
@@ -32,6 +32,7 @@ pub fn with_tags<'p>(
 
 /// Returns the layout that the options ask for, with these keys of patterns.
 pub fn layout_of<'a>(options: &Options<'a>, fields: Option<&'a [&'a str]>) -> Layout<'a>
+    ensures lines { result.lines ≡ options.now.lines }
     ensures keep { result.keep ≡ options.now.keep }
     ensures tag { result.tag ≡ options.now.tag }
     ensures number { result.number ≡ options.now.number }
@@ -43,12 +44,7 @@ pub fn layout_of<'a>(options: &Options<'a>, fields: Option<&'a [&'a str]>) -> La
     ensures tags_failures { result.tags_failures ≡ options.now.tags_failures }
 {
     Layout {
-        lines: if options.has_answers() {
-            options.lines
-        } else {
-            // No answer is written, so the shortest one will do.
-            Lines::Unmatched
-        },
+        lines: options.lines,
         format: if options.are_pairs {
             OutputFormat::Pairs
         } else if options.are_records {
@@ -66,28 +62,5 @@ pub fn layout_of<'a>(options: &Options<'a>, fields: Option<&'a [&'a str]>) -> La
         drops_empty: options.drops_empty,
         fields,
         tags_failures: options.tags_failures,
-    }
-}
-
-/// Returns the layout for counting the values of the one key in `fields`: its pair in each line that
-/// matches.
-pub fn layout_of_count<'a>(fields: &'a [&'a str]) -> Layout<'a>
-    ensures lines { result.lines ≡ Lines.Matched }
-    ensures format { result.format ≡ OutputFormat.Pairs }
-    ensures fields { result.fields ≡ Some fields.entry }
-{
-    Layout {
-        lines: Lines::Matched,
-        format: OutputFormat::Pairs,
-        keep: None,
-        tag: None,
-        number: None,
-        file: None,
-        file_name: "",
-        failed: None,
-        typed: false,
-        drops_empty: false,
-        fields: Some(fields),
-        tags_failures: false,
     }
 }

@@ -19,5 +19,5 @@ mod options;
 
 pub use fields::chosen_fields;
 pub use keys::check_keys;
-pub use layouts::{layout_of, layout_of_count, with_tags};
+pub use layouts::{layout_of, with_tags};
 pub use options::{Colours, KeyOption, Options, is_answer, read_options, usage_fault};

@@ -131,11 +131,6 @@ impl<'a> Options<'a> {
         })
     }
 
-    /// Returns whether lines are answered, and nothing else is asked for in place of answers.
-    pub fn has_answers(&self) -> bool {
-        self.why.is_none() && !self.is_shown && self.page.is_none()
-    }
-
     /// Returns how many different values are counted at most.
     pub fn most_values(&self) -> usize
         ensures { result ≡ unwrap_or self.now.most VALUES }

@@ -1,37 +1,49 @@
 //! Counts the values of a key, for `--count`.
-ghost use Rattle.std.specs.Prelude.{[]};
+ghost use Rattle.std.specs.Prelude.{◌≡◌, [], OnOk};
+ghost use Rattle.groklog_answers.specs.{patterns_in, first_match};
+ghost use Rattle.groklog_views.specs.KeyCounts.{value_in, CountsValue};
 
 use crate::unit::Unit;
 use grok_lines::{LineAnswers, SkipLines};
-use groklog_answers::{LogAnswers, ValueCounts};
+use groklog_answers::{Searches, ValueCounts};
 use std::alloc::{AllocError, Global};
-use std::str;
 
 /// Counts the values of a key in the matches of lines. It has no answers.
 #[derive(Drop)]
 pub struct KeyCounts<'a> {
-    /// Answers each line that matches with the pair of the key, if it has a value, and an empty line.
-    pub answers: LogAnswers<'a>,
-    key: &'a str,
-    /// The buffer for the answer to one line.
-    answer: Vec<u8>,
+    pub searches: Searches<'a>,
+    pub key: &'a str,
     pub counts: ValueCounts,
 }
 
-/// Returns the value in an answer, which has a line `KEY=VALUE` and an empty line.
-fn value_in<'t>(answer: &'t str, key: &str) -> Option<&'t str> {
-    let value = answer.strip_prefix(key)?.strip_prefix('=')?;
-    value.strip_suffix("\n\n")
-}
-
 impl<'a> KeyCounts<'a> {
-    /// Counts at most `most` different values of a key. `answers` writes the pair of this key alone.
-    pub fn new(alloc: Global, answers: LogAnswers<'a>, key: &'a str, most: usize) -> KeyCounts<'a> {
+    /// Counts at most `most` different values of a key.
+    pub fn new(alloc: Global, searches: Searches<'a>, key: &'a str, most: usize) -> KeyCounts<'a>
+        ensures searches { result.searches ≡ searches.entry }
+        ensures key { result.key.now ≡ key.now }
+    {
         KeyCounts {
-            answers,
+            searches,
             key,
-            answer: Vec::new(alloc),
             counts: ValueCounts::new(alloc, most),
+        }
+    }
+
+    /// Counts a line, and the value that the key has in its match, if it has one.
+    ///
+    /// # Errors
+    ///
+    /// If an allocation fails.
+    pub fn count(&mut self, line: &str) -> Result<(), AllocError>
+        ensures { OnOk result (CountsValue self.old.counts self.new.counts
+            (value_in (first_match (patterns_in self.old.searches) line.now) self.old.key.now)) }
+    {
+        let Some(found) = self.searches.find(line)? else {
+            return Ok(());
+        };
+        match found.matches.get(self.key) {
+            Some(value) => self.counts.note(value),
+            None => Ok(()),
         }
     }
 
@@ -60,25 +72,18 @@ impl LineAnswers for KeyCounts<'_> {
 
     fn answer_str(&mut self, text: &mut Vec<u8>, line: &str) -> Result<(), AllocError> {
         let _ = text;
-        self.answer.clear();
-        self.answers.answer_str(&mut self.answer, line)?;
-        if let Ok(answer) = str::from_utf8(&self.answer)
-            && let Some(value) = value_in(answer, self.key)
-        {
-            self.counts.note(value)?;
-        }
-        Ok(())
+        self.count(line)
     }
 
     fn answer_broken(&mut self, text: &mut Vec<u8>, line: &[u8]) -> Result<(), AllocError> {
         let _ = text;
-        self.answer.clear();
-        self.answers.answer_broken(&mut self.answer, line)
+        let _ = line;
+        self.searches.note_broken()
     }
 }
 
 impl SkipLines for KeyCounts<'_> {
     fn skip_lines(&mut self, count: u64) -> Result<(), AllocError> {
-        self.answers.skip_lines(count)
+        self.searches.skip_lines(count)
     }
 }

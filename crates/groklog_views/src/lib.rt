@@ -1,14 +1,13 @@
 //! What `groklog` shows of the lines or events of a log in place of answers: how often the values of a key
 //! come, lines with their fields marked, and a page of HTML. It reads and writes no files.
 //!
-//! [`LocatedFields`] finds the pattern that matches a line, and where the values of its keys are. A line is then
-//! shown on a terminal, or added to the content of a page:
+//! [`LocatedFields`] finds the match of a line, and where the values of its keys are. A line is then shown on a
+//! terminal, or added to the content of a page:
 //!
 //! ```text
-//! if let Some(pattern) = located.pattern_of(line)? {
-//!     let fields = located.fields(pattern, line)?;
+//! if let Some(fields) = located.find(line)? {
 //!     let shown = shown_line(alloc, line, &fields, true)?; // in colours
-//!     content.add_matched(line, &fields)?;
+//!     content.add_matched(number, line, &fields)?;
 //! }
 //! ```
 #![tactic(auto)]

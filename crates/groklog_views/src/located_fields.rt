@@ -1,8 +1,10 @@
 //! Finds where in a line the values of keys are.
+ghost use Rattle.std.specs.Prelude.{◌≡◌, IfOk};
+ghost use Rattle.std.specs.Option.{is_some};
+ghost use Rattle.groklog_answers.specs.{patterns_in, first_match};
 
-use grok::Pattern;
-use grok_lines::LineAnswers;
-use groklog_answers::LogAnswers;
+use grok::{MatchesRef, Pattern};
+use groklog_answers::Searches;
 use marked_lines::Field;
 use std::alloc::{AllocError, Global};
 use std::ops::Range;
@@ -14,26 +16,17 @@ struct NumberedKey<'p> {
     key: &'p str,
 }
 
-/// A pattern, which is searched for once more in a line that it matches.
-#[derive(Drop)]
-struct Finder<'p> {
-    pattern: &'p Pattern,
-    /// Its keys, in the order of their groups. So a key comes after those whose groups are around its own.
-    keys: Vec<NumberedKey<'p>>,
-}
-
-/// Finds the pattern that matches a line, and where in the line the values of its keys are.
+/// Finds the matches of lines, and where in the line the values of the keys are.
 #[derive(Drop)]
 pub struct LocatedFields<'a> {
     alloc: Global,
-    /// What matches and counts the lines.
-    pub answers: LogAnswers<'a>,
-    /// The buffer for an answer, which isn't written.
-    answer: Vec<u8>,
+    pub searches: Searches<'a>,
     /// The keys of all patterns, each once. The keys of the first pattern come first, and those of one
     /// pattern in the order of their groups.
     pub keys: Vec<&'a str>,
-    finders: Vec<Finder<'a>>,
+    /// The keys of each pattern, in the order of their groups. So a key comes after those whose groups
+    /// are around its own.
+    keys_of: Vec<Vec<NumberedKey<'a>>>,
 }
 
 /// Returns the keys of a pattern with their groups, in the order of the groups.
@@ -61,14 +54,14 @@ fn number_of<'p>(keys: &mut Vec<&'p str>, key: &'p str) -> Result<usize, AllocEr
     Ok(number)
 }
 
-/// Returns what finds the fields of a pattern, and adds its keys to `keys`. If `fields` is given, only
+/// Returns the keys of a pattern with their numbers, and adds them to `keys`. If `fields` is given, only
 /// these keys count.
-fn finder_of<'p>(
+fn numbered_keys<'p>(
     alloc: Global,
     keys: &mut Vec<&'p str>,
     pattern: &'p Pattern,
     fields: Option<&[&str]>,
-) -> Result<Finder<'p>, AllocError> {
+) -> Result<Vec<NumberedKey<'p>>, AllocError> {
     let mut numbered = Vec::new(alloc);
     for (_, key) in &keys_by_group(alloc, pattern)? {
         let is_chosen = match fields {
@@ -80,30 +73,27 @@ fn finder_of<'p>(
             numbered.push(NumberedKey { number, key })?;
         }
     }
-    let keys = numbered;
-    Ok(Finder { pattern, keys })
+    Ok(numbered)
 }
 
-impl Finder<'_> {
-    /// Returns the fields of the match in a line.
-    fn fields(&self, alloc: Global, line: &str) -> Result<Vec<Field>, AllocError> {
-        let mut fields = Vec::new(alloc);
-        let mut matcher = self.pattern.matcher()?;
-        let Some(matches) = matcher.find(line)? else {
-            return Ok(fields);
-        };
-        for NumberedKey { number, key } in &self.keys {
-            if let Some(Range { start, end }) = matches.range(key) {
-                let key = *number;
-                fields.push(Field { key, start, end })?;
-            }
+/// Returns the fields of a match that have these keys.
+fn fields_in(
+    alloc: Global,
+    matches: MatchesRef<'_>,
+    keys: &[NumberedKey<'_>],
+) -> Result<Vec<Field>, AllocError> {
+    let mut fields = Vec::new(alloc);
+    for NumberedKey { number, key } in keys {
+        if let Some(Range { start, end }) = matches.range(key) {
+            let key = *number;
+            fields.push(Field { key, start, end })?;
         }
-        Ok(fields)
     }
+    Ok(fields)
 }
 
 impl<'a> LocatedFields<'a> {
-    /// Takes the patterns that `answers` has, in their order. If `fields` is given, only these keys
+    /// Takes the patterns that `searches` has, in their order. If `fields` is given, only these keys
     /// count.
     ///
     /// # Errors
@@ -111,61 +101,37 @@ impl<'a> LocatedFields<'a> {
     /// If an allocation fails.
     pub fn new(
         alloc: Global,
-        answers: LogAnswers<'a>,
+        searches: Searches<'a>,
         patterns: &'a [Pattern],
         fields: Option<&[&str]>,
     ) -> Result<LocatedFields<'a>, AllocError> {
-        let (mut keys, mut finders) = (Vec::new(alloc), Vec::new(alloc));
+        let (mut keys, mut keys_of) = (Vec::new(alloc), Vec::new(alloc));
         for pattern in patterns {
-            finders.push(finder_of(alloc, &mut keys, pattern, fields)?)?;
+            keys_of.push(numbered_keys(alloc, &mut keys, pattern, fields)?)?;
         }
         Ok(LocatedFields {
             alloc,
-            answers,
-            answer: Vec::new(alloc),
+            searches,
             keys,
-            finders,
+            keys_of,
         })
     }
 
-    /// Counts a line, and returns the index of the pattern that matches it, or `None` if none does.
+    /// Numbers and counts a line, and returns the fields of its match, or `None` if no pattern matches it. A
+    /// field comes after those around it.
     ///
     /// # Errors
     ///
     /// If an allocation fails.
-    pub fn pattern_of(&mut self, line: &str) -> Result<Option<usize>, AllocError> {
-        let before = self.answers.matched()?;
-        self.answer.clear();
-        self.answers.answer_line(&mut self.answer, line.as_bytes())?;
-        let after = self.answers.matched()?;
-        Ok(
-            before
-                .iter()
-                .zip(&after)
-                .position(|(before, after)| *before != *after),
-        )
-    }
-
-    /// Counts a line that isn't UTF-8.
-    ///
-    /// # Errors
-    ///
-    /// If an allocation fails.
-    pub fn note_broken(&mut self, line: &[u8]) -> Result<(), AllocError> {
-        self.answer.clear();
-        self.answers.answer_line(&mut self.answer, line)
-    }
-
-    /// Returns the fields of the pattern with this index in a line that it matches. A field comes after
-    /// those around it.
-    ///
-    /// # Errors
-    ///
-    /// If an allocation fails.
-    pub fn fields(&self, pattern: usize, line: &str) -> Result<Vec<Field>, AllocError> {
-        match self.finders.get(pattern) {
-            Some(finder) => finder.fields(self.alloc, line),
-            None => Ok(Vec::new(self.alloc)),
+    pub fn find(&mut self, line: &str) -> Result<Option<Vec<Field>>, AllocError>
+        ensures { IfOk result (λ fields. is_some fields ≡ is_some (first_match (patterns_in self.old.searches) line.now)) }
+    {
+        let Some(found) = self.searches.find(line)? else {
+            return Ok(None);
+        };
+        match self.keys_of.get(found.index) {
+            Some(keys) => Ok(Some(fields_in(self.alloc, found.matches, keys)?)),
+            None => Ok(Some(Vec::new(self.alloc))),
         }
     }
 }

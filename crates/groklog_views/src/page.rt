@@ -3,7 +3,7 @@
 use crate::located_fields::LocatedFields;
 use crate::page_content::{EXPLAINED, PageContent};
 use crate::unit::Unit;
-use groklog_answers::{Counted, LogAnswers, ValueCounts};
+use groklog_answers::{Counted, Searches, ValueCounts};
 use marked_lines::Html;
 use std::alloc::{AllocError, Global};
 
@@ -68,10 +68,10 @@ struct Share<'w> {
 fn shares_of<'o>(
     alloc: Global,
     tags: &[&'o str],
-    answers: &LogAnswers<'_>,
+    searches: &Searches<'_>,
 ) -> Result<Vec<Share<'o>>, AllocError> {
     let mut shares = Vec::new(alloc);
-    for (tag, count) in tags.iter().zip(&answers.matched()?) {
+    for (tag, count) in tags.iter().zip(&searches.matched(alloc)?) {
         let (count, words, is_pattern) = (*count, *tag, true);
         shares.push(Share {
             count,
@@ -80,8 +80,8 @@ fn shares_of<'o>(
         })?;
     }
     let others = [
-        (answers.unmatched(), "no match"),
-        (answers.broken(), "not UTF-8"),
+        (searches.unmatched(), "no match"),
+        (searches.broken(), "not UTF-8"),
     ];
     for (number, (count, words)) in others.iter().enumerate() {
         if number == 0 || *count > 0 {
@@ -268,7 +268,7 @@ pub fn page_html(
     located: &LocatedFields<'_>,
     content: &PageContent,
 ) -> Result<Html, AllocError> {
-    let shares = shares_of(alloc, tags, &located.answers)?;
+    let shares = shares_of(alloc, tags, &located.searches)?;
     let mut html = Html::new(alloc);
     push_head(alloc, &mut html, files)?;
     let words = read_lines_in_words(alloc, content)?;

@@ -34,8 +34,6 @@ pub struct PageContent {
     pub items: Html,
     /// How many lines or events were answered.
     pub count: u64,
-    /// The number of the line, or of the first line of the event, that was answered last.
-    pub number: u64,
     /// Whether there are enough lines. Then an answer fails, so that no more are read.
     pub is_full: bool,
 }
@@ -62,26 +60,15 @@ impl PageContent {
             values,
             items: Html::new(alloc),
             count: 0,
-            number: 0,
             is_full: scope.most == 0,
         })
     }
 
     /// Counts a line or an event.
     pub fn count_item(&mut self)
-        ensures count { self.old.count + 1 < 2 ^ 64 → self.new.count ≡ self.old.count + 1 }
-        ensures number { self.old.number + 1 < 2 ^ 64 → self.new.number ≡ self.old.number + 1 }
+        ensures { self.old.count + 1 < 2 ^ 64 → self.new.count ≡ self.old.count + 1 }
     {
         self.count = self.count.saturating_add(1);
-        self.number = self.number.saturating_add(1);
-    }
-
-    /// Counts lines that weren't answered.
-    pub fn skip_lines(&mut self, count: u64)
-        ensures count { self.new.count ≡ self.old.count }
-        ensures number { self.old.number + count < 2 ^ 64 → self.new.number ≡ self.old.number + count }
-    {
-        self.number = self.number.saturating_add(count);
     }
 
     /// Looks whether there are enough lines or events, once the last one was added.
@@ -104,9 +91,9 @@ impl PageContent {
         Err(AllocError)
     }
 
-    /// Begins the item of the line or event that was answered last.
-    fn begin_item(&mut self) -> Result<(), AllocError> {
-        let number = format!(in self.alloc; "{}", self.number)?;
+    /// Begins the item of the line with this number, or of the event whose first line has it.
+    fn begin_item(&mut self, number: u64) -> Result<(), AllocError> {
+        let number = format!(in self.alloc; "{number}")?;
         self.items.push_markup("<li value=\"")?;
         self.items.push_text(number.as_str())?;
         self.items.push_markup("\">")
@@ -119,12 +106,17 @@ impl PageContent {
         !matches!(self.scope.lines, Lines::Matched)
     }
 
-    /// Adds a line or an event that a pattern matches, with the fields of the match.
+    /// Adds a line or an event with this number that a pattern matches, with the fields of the match.
     ///
     /// # Errors
     ///
     /// If an allocation fails.
-    pub fn add_matched(&mut self, line: &str, fields: &[Field]) -> Result<(), AllocError> {
+    pub fn add_matched(
+        &mut self,
+        number: u64,
+        line: &str,
+        fields: &[Field],
+    ) -> Result<(), AllocError> {
         for field in fields {
             if let Some(values) = self.values.get_mut(field.key) {
                 values.note(line.get(field.start..field.end).unwrap_or(""))?;
@@ -134,26 +126,32 @@ impl PageContent {
             return Ok(());
         }
         let runs = runs_of(self.alloc, line, fields)?;
-        self.begin_item()?;
+        self.begin_item(number)?;
         self.items.push_markup("<code>")?;
         self.items.push_runs(&runs, &self.titles)?;
         self.items.push_markup("</code></li>\n")
     }
 
-    /// Adds a line or an event that no pattern matches, with a report on it, which may be empty.
+    /// Adds a line or an event with this number that no pattern matches, with a report on it, which may be
+    /// empty.
     ///
     /// # Errors
     ///
     /// If an allocation fails.
-    pub fn add_unmatched(&mut self, line: &str, report: &str) -> Result<(), AllocError> {
-        self.begin_item()?;
+    pub fn add_unmatched(
+        &mut self,
+        number: u64,
+        line: &str,
+        report: &str,
+    ) -> Result<(), AllocError> {
+        self.begin_item(number)?;
         self.items.push_markup("<code class=\"unmatched\">")?;
         self.items.push_text(line)?;
         self.items.push_markup("</code>")?;
         if !report.is_empty() {
             self.items.push_markup("<pre>")?;
-            for (number, row) in report.trim_end().split('\n').enumerate() {
-                self.items.push_markup(if number > 0 { "\n" } else { "" })?;
+            for (i, row) in report.trim_end().split('\n').enumerate() {
+                self.items.push_markup(if i > 0 { "\n" } else { "" })?;
                 self.items.push_text(row)?;
             }
             self.items.push_markup("</pre>")?;

@@ -1,6 +1,6 @@
 use Rattle.std.proofs.Common.{◌≡◌, ◌++◌, map, drop}
 use Rattle.groklog_answers.specs.Views.{pattern_text, searched}
-use Rattle.groklog_answers.proofs.log_answers.LogAnswers.new.Given as goal
+use Rattle.groklog_answers.proofs.searches.Searches.new.Given as goal
 
 abbrev pub invariant-patterns : goal.invariant-patterns
 invariant-patterns l = map searched l.searches.items ++ map pattern_text (drop l.named-index l.patterns)
