@@ -27,6 +27,10 @@ echo '## Memory over long logs'
 echo
 "$here/flat.sh"
 echo
+echo '## Tasks of groklog'
+echo
+"$here/tasks.sh"
+echo
 echo '## Splitting'
 echo
 "$here/split.sh"

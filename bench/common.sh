@@ -27,6 +27,15 @@ time_once() {
     took=$((end - start))
 }
 
+# The milliseconds of the processor that a command takes, into `took`: `processor_time INPUT WORD..`.
+processor_time() {
+    local input=$1 user system TIMEFORMAT='%3U %3S'
+    shift
+    { time "$@" <"$input" >"$room/out" 2>"$room/complaint"; } 2>"$room/times"
+    read -r user system <"$room/times"
+    took=$((10#${user/./} + 10#${system/./}))
+}
+
 # Prints the microseconds that grok_calls reported for a step of its last run: `step_time STEP`.
 step_time() {
     sed -n "s/^$1 \([0-9]*\) us\$/\1/p" "$room/complaint"

@@ -13,15 +13,6 @@ fi
 lines=${1:-100000}
 rounds=30
 
-# The milliseconds of the processor that a command takes, into `took`: `processor_time INPUT WORD..`.
-processor_time() {
-    local input=$1 user system TIMEFORMAT='%3U %3S'
-    shift
-    { time "$@" <"$input" >"$room/out" 2>"$room/complaint"; } 2>"$room/times"
-    read -r user system <"$room/times"
-    took=$((10#${user/./} + 10#${system/./}))
-}
-
 # The milliseconds of the fastest run of a command, by program and command.
 declare -A best=()
 
