@@ -1,5 +1,5 @@
 -- What was measured decides whether an expanded text is too long.
-use Rattle.std.proofs.Common.{◌≡◌, ℕ, ◌<◌, Bool, subst, sym, tt}
+use Rattle.std.proofs.Common.{◌≡◌, ℕ, ◌<◌, Bool, subst, sym}
 use Rattle.grok.specs.Tree.{Fault}
 use Rattle.grok.specs.Measured.{Measured, Faulty, Sized, TooLong}
 use Rattle.groklog_patterns.specs.Compiled.{IsMoreThan}
