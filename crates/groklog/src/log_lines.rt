@@ -13,15 +13,11 @@ pub trait LogLines<'p>: LineHandler {
     /// Returns what finds the matches, and counts the lines or events.
     fn searches(&self) -> &Searches<'p>;
 
-    /// Says that the next lines are those of the file with this name.
-    fn begin_file(&mut self, name: &'p str) {
-        let _ = name;
-    }
+    /// Takes the name of the file that the next lines are from. Only answers have it.
+    fn begin_file(&mut self, name: &'p str);
 
     /// Returns whether no more lines are wanted. If an answer fails then, that is no fault.
-    fn has_enough(&self) -> bool {
-        false
-    }
+    fn has_enough(&self) -> bool;
 }
 
 impl<'p> LogLines<'p> for LogAnswers<'p> {
@@ -32,11 +28,21 @@ impl<'p> LogLines<'p> for LogAnswers<'p> {
     fn begin_file(&mut self, name: &'p str) {
         LogAnswers::begin_file(self, name);
     }
+
+    fn has_enough(&self) -> bool {
+        false
+    }
 }
 
 impl<'a> LogLines<'a> for KeyCounts<'a> {
     fn searches(&self) -> &Searches<'a> {
         &self.searches
+    }
+
+    fn begin_file(&mut self, _name: &'a str) {}
+
+    fn has_enough(&self) -> bool {
+        false
     }
 }
 
@@ -44,11 +50,23 @@ impl<'a> LogLines<'a> for Why<'_, 'a, '_, '_> {
     fn searches(&self) -> &Searches<'a> {
         &self.searches
     }
+
+    fn begin_file(&mut self, _name: &'a str) {}
+
+    fn has_enough(&self) -> bool {
+        false
+    }
 }
 
 impl<'a> LogLines<'a> for Show<'_, 'a> {
     fn searches(&self) -> &Searches<'a> {
         &self.located.searches
+    }
+
+    fn begin_file(&mut self, _name: &'a str) {}
+
+    fn has_enough(&self) -> bool {
+        false
     }
 }
 
@@ -56,6 +74,8 @@ impl<'a> LogLines<'a> for Page<'a, '_, '_> {
     fn searches(&self) -> &Searches<'a> {
         &self.located.searches
     }
+
+    fn begin_file(&mut self, _name: &'a str) {}
 
     fn has_enough(&self) -> bool {
         self.content.is_full
