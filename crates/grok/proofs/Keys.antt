@@ -16,3 +16,4 @@ pub mod OneMoreAssignedKey
 pub mod KeysAreAssigned
 pub mod UsesArePassed
 pub mod ClashIsLocated
+pub mod PlaceholdersHaveTheirKeys

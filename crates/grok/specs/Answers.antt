@@ -7,9 +7,11 @@ use Rattle.grok.specs.KeyTable.{Entries, group_in}
 
 -- ---- patterns
 
--- a pattern: its engine, its keys and its extracts
+-- a pattern: its engine, its placeholders, its keys and its extracts
 pub record PatternValue (E : Type 0) : Type 0 where
   pub engine : E
+  -- the key of each placeholder that captures, with its number, in reading order
+  pub placeholders : List (List ℕ × ℕ)
   -- the key table: each key with its group, in byte order
   pub keys : Entries
   -- the extract of each key that has one
@@ -18,9 +20,11 @@ pub record PatternValue (E : Type 0) : Type 0 where
 -- How a pattern's value is coded, which contracts with a generic engine need.
 abbrev pub pattern_code : {E : Type 0} → Coded E → Coded (PatternValue E)
 pattern_code {E} engine =
-    code_by (E × (Entries × Texts))
-    (coded× engine (coded× (coded_list (coded× (coded_list coded_ℕ) coded_ℕ)) texts_code))
-    (λ p. (p.engine, (p.keys, p.extracts))) (λ t. record { engine = t.0; keys = t.1.0; extracts = t.1.1 }) (λ _. refl)
+    let keys = coded_list (coded× (coded_list coded_ℕ) coded_ℕ) in
+    code_by (E × (List (List ℕ × ℕ) × (Entries × Texts)))
+    (coded× engine (coded× keys (coded× keys texts_code)))
+    (λ p. (p.engine, (p.placeholders, (p.keys, p.extracts))))
+    (λ t. record { engine = t.0; placeholders = t.1.0; keys = t.1.1.0; extracts = t.1.1.1 }) (λ _. refl)
 
 -- the map that has these entries, as contracts see it: each key with its text
 abbrev pub extract_texts : {A : Type 0} → List (String A × String A) → Texts

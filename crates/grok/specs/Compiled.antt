@@ -1,10 +1,11 @@
 -- What compiling a pattern returns.
-use Rattle.std.specs.Prelude.{◌≡◌, ◌≢◌, ℕ, ◌<◌, ◌^◌, Bool, List, [], ◌++◌, length, codes, Option, Some, None, Result, MatchResult}
+use Rattle.std.specs.Prelude.{◌≡◌, ◌≢◌, ℕ, ◌<◌, ◌^◌, Bool, List, [], ◌++◌, length, map, codes, Option, Some, None, Result, MatchResult}
 use Rattle.std.specs.FinMap as finite
 use Rattle.grok.specs.Texts.{IsFaultText}
 use Rattle.grok.specs.Maps.{Texts}
 use Rattle.grok.specs.Tree.{Fault, MalformedPiece, Missing, TooDeep, Event, tree, first_structural}
 use Rattle.grok.specs.Keys.{TreeFault, Structural, Clash, first_fault, keys, capturing, extract_of}
+use Rattle.grok.specs.KeyNumbers.{numbers}
 use Rattle.grok.specs.Expanded.{expanded}
 use Rattle.grok.specs.KeyTable.{IsKeyTable}
 use Rattle.grok.specs.Answers.{PatternValue}
@@ -48,12 +49,15 @@ pub record IsFirstError (alias_only : Bool) (tree : List Event) (error : ErrorVa
 
 -- ---- patterns
 
--- The engine of `pattern` was built from the text `source`. The key table of `pattern` (each key with its group) is
--- the one for the keys `given` and the engine's group names, and `extract` returns the extract of each key.
+-- The engine of `pattern` was built from the text `source`. Its placeholders have the keys `given` with the numbers
+-- `numbers`. The key table of `pattern` (each key with its group) is the one for these keys and the engine's group names,
+-- and `extract` returns the extract of each key.
 pub record IsBuilt {E : Type 0} (source_of : E → List ℕ) (group_names : E
-    → List (Option (List ℕ))) (source : List ℕ) (given : List (List ℕ)) (extract : List ℕ
+    → List (Option (List ℕ))) (source : List ℕ) (given : List (List ℕ)) (numbers : List ℕ) (extract : List ℕ
     → Option (List ℕ)) (pattern : PatternValue E) : Type 0 where
   pub text : source_of pattern.engine ≡ source
+  pub given_keys : map (λ placeholder. placeholder.0) pattern.placeholders ≡ given
+  pub given_numbers : map (λ placeholder. placeholder.1) pattern.placeholders ≡ numbers
   pub keys : IsKeyTable given (group_names pattern.engine) pattern.keys
   pub extracts : (key : List ℕ) → finite.get pattern.extracts key ≡ extract key
 
@@ -105,13 +109,14 @@ abbrev pub IsExpansionError : Expansion → Error → Type 0
 IsExpansionError e error = IsCompileError NeverRefuses e (error_value error)
 
 -- THE COMPILED PATTERN. It is built from the expanded text of a pattern without a fault, and has the keys of
--- its capturing placeholders and their extracts.
+-- its capturing placeholders, with their numbers and their extracts.
 pub record IsPatternOf {E : Type 0} (source_of : E → List ℕ) (group_names : E → List (Option (List ℕ)))
     (e : Expansion) (pattern : PatternValue E) : Type 0 where
   pub some : e.pattern ≢ []
   pub can : CanBuild e
   pub built : IsBuilt source_of group_names (expanded e.alias_only e.tree)
       (keys (capturing e.alias_only e.tree))
+      (numbers (capturing e.alias_only e.tree))
       (extract_of e.alias_only e.tree) pattern
 
 -- THE RESULT OF COMPILING: the compiled pattern, or one of the errors above.

@@ -12,6 +12,10 @@ key_text key = string_bytes key.key
 abbrev pub key_number : PlaceholderKey → ℕ
 key_number key = key.number
 
+-- the key of a placeholder, with its number
+abbrev pub key_and_number : PlaceholderKey → List ℕ × ℕ
+key_and_number key = (key_text key, key_number key)
+
 -- The numbers of these capturing placeholders, if those in `before` were read before them. In `before` the latest
 -- placeholder stands first.
 abbrev pub numbers_after : List Label → List Label → List ℕ

@@ -5,6 +5,7 @@ use Rattle.std.specs.Map.{lookup, keys_of}
 use Rattle.std.specs.Str.{bytes_eq}
 use Rattle.std.specs.Cmp.Lexicographic.{slice_cmp}
 use Rattle.std.specs.Ordering.{nat_cmp}
+use Rattle.std.specs.Borrow.{Bor}
 use Rattle.grok.specs.GeneratedNames.{generated}
 
 -- ---- names
@@ -44,6 +45,10 @@ group_of keys names key = last_or None (groups_from keys key 0 names)
 -- a list of keys with their groups
 abbrev pub Entries : Type 0
 Entries = List (List ℕ × ℕ)
+
+-- the entry of a group and its key
+abbrev pub entry_of_group : ℕ × Bor (List ℕ) → List ℕ × ℕ
+entry_of_group pair = (pair.1.now, pair.0)
 
 -- the group of a key in a table
 abbrev pub group_in : Entries → List ℕ → Option ℕ

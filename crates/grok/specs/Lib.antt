@@ -75,7 +75,7 @@ pub use Rattle.grok.specs.Items.{fault_view}
 pub use Rattle.grok.specs.Errors.{ErrorValue, error_value, error_text}
 pub use Rattle.grok.specs.Compiled.{Expansion, expansion_of, Compiles, IsPatternOf, IsCompileError, IsFaultError, IsExpansionError}
 -- the keys of the placeholders of a pattern
-pub use Rattle.grok.specs.KeyNumbers.{key_text, key_number, numbers}
+pub use Rattle.grok.specs.KeyNumbers.{key_text, key_number, key_and_number, numbers}
 pub use Rattle.grok.specs.PlaceholderKeys.{AreKeysOf}
 -- whether a text was accepted, or why it was refused
 pub use Rattle.grok.specs.Refusals.{IsAccepted, IsReasonFor, IsOfSyntax, IsOfBrackets}

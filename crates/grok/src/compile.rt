@@ -8,7 +8,7 @@ ghost use Rattle.std.specs.BTreeMap.{get_by_text};
 ghost use Rattle.grok.specs.Tree.{tree as tree_of, first_structural};
 ghost use Rattle.grok.specs.Keys.{Structural, first_fault};
 ghost use Rattle.grok.specs.Expanded.{expanded};
-ghost use Rattle.grok.specs.KeyNumbers.{key_text};
+ghost use Rattle.grok.specs.KeyNumbers.{key_text, key_number};
 ghost use Rattle.grok.specs.PlaceholderKeys.{AreKeysOf};
 ghost use Rattle.grok.specs.Errors.{error_value, Memory as memory};
 ghost use Rattle.grok.specs.Compiled.{IsExpansionError, IsFirstError, IsBuilt, IsRefusal, Compiles, expansion_of};
@@ -38,9 +38,10 @@ use crate::write::{ExpandedPattern, write};
 use std::alloc::{AllocError, Global};
 
 /// Builds an engine from `text`, and returns the pattern with the keys and extracts in `given`.
+#[tactic(auto, using(crate::proofs::Keys::PlaceholdersHaveTheirKeys::have_keys, crate::proofs::Keys::PlaceholdersHaveTheirKeys::have_numbers))]
 fn build<E: Engine>(alloc: Global, text: &str, given: KeyAssigner) -> Result<PatternOf<E>, Error>
     ensures { MatchResult result
-        (IsBuilt E.source_of E.group_names text.now (map key_text given.keys.items)
+        (IsBuilt E.source_of E.group_names text.now (map key_text given.keys.items) (map key_number given.keys.items)
         (λ key. option_map string_bytes (get_by_text given.extracts key)))
         (λ error. (error_value error ≡ memory) ⊎ IsRefusal E.may_refuse text.now
         (error_value error)) }
@@ -50,7 +51,7 @@ fn build<E: Engine>(alloc: Global, text: &str, given: KeyAssigner) -> Result<Pat
         Err(refusal) => return Err(refusal.to_error(alloc, text)?),
     };
     let keys = KeyTable::for_names(alloc, engine.names(), given.keys.as_slice())?;
-    Ok(PatternOf::new(alloc, engine, keys, given.extracts))
+    Ok(PatternOf::new(alloc, engine, given.keys, keys, given.extracts))
 }
 
 /// Returns the error of the first clash of a pattern, given what measuring it `found`. Returns `None`

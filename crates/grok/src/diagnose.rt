@@ -105,17 +105,17 @@ fn origin_in(piece: &Range<usize>, begin: WrittenByte, length: usize) -> Range<u
 /// Returns where this part of the expanded text of a pattern comes from. Returns `None` if it is at
 /// the end of the expanded text.
 fn origin_of_part<'a>(
-    measurer: Measurer<'a>,
+    measurer: &Measurer<'a>,
     pattern: &'a str,
     part: &Range<usize>,
 ) -> Result<Option<Location<'a>>, AllocError>
-    requires cache { HasCorrectCache measurer }
-    requires clean { first_structural (tree_of (finite.get measurer.settings.grok.now) pattern.now) ≡ None }
+    requires cache { HasCorrectCache measurer.now }
+    requires clean { first_structural (tree_of (finite.get measurer.now.settings.grok.now) pattern.now) ≡ None }
     ensures { IfOk result (λ found. MatchOption found
-        (HasByte measurer.entry.settings.with_alias_only
-        (tree_of (finite.get measurer.entry.settings.grok.now) pattern.now) part.now.start → ⊥)
-        (IsOriginOf (finite.get measurer.entry.settings.grok.now)
-        measurer.entry.settings.with_alias_only pattern.now part.now.start part.now.end)) }
+        (HasByte measurer.now.settings.with_alias_only
+        (tree_of (finite.get measurer.now.settings.grok.now) pattern.now) part.now.start → ⊥)
+        (IsOriginOf (finite.get measurer.now.settings.grok.now)
+        measurer.now.settings.with_alias_only pattern.now part.now.start part.now.end)) }
 {
     let Some(found) = locate_written(measurer, pattern, part.start)? else {
         return Ok(None);
@@ -131,14 +131,14 @@ fn origin_of_part<'a>(
 
 /// Returns where the reason of a refusal stands.
 fn locate_reason<'a>(
-    measurer: Measurer<'a>,
+    measurer: &Measurer<'a>,
     pattern: &'a str,
     reason: RefusalReason,
 ) -> Result<Option<Location<'a>>, AllocError>
-    requires cache { HasCorrectCache measurer }
-    requires clean { first_structural (tree_of (finite.get measurer.settings.grok.now) pattern.now) ≡ None }
-    ensures { IfOk result (LocatesReason (finite.get measurer.entry.settings.grok.now)
-        measurer.entry.settings.with_alias_only pattern.now reason) }
+    requires cache { HasCorrectCache measurer.now }
+    requires clean { first_structural (tree_of (finite.get measurer.now.settings.grok.now) pattern.now) ≡ None }
+    ensures { IfOk result (LocatesReason (finite.get measurer.now.settings.grok.now)
+        measurer.now.settings.with_alias_only pattern.now reason) }
 {
     match reason {
         RefusalReason::TooBig => Ok(None),
@@ -151,18 +151,18 @@ fn locate_reason<'a>(
 
 /// Returns the diagnosis of a pattern without a fault, whose expanded text has `length` bytes.
 fn diagnose_refusal<'a, B: BuildFromText>(
-    measurer: Measurer<'a>,
+    measurer: &Measurer<'a>,
     pattern: &'a str,
     length: usize,
 ) -> Result<Option<Diagnosis<'a>>, AllocError>
-    requires cache { HasCorrectCache measurer }
+    requires cache { HasCorrectCache measurer.now }
     requires some { pattern.now ≢ [] }
-    requires clean { first_fault measurer.settings.with_alias_only
-        (tree_of (finite.get measurer.settings.grok.now) pattern.now) ≡ None }
-    requires long { length ≡ len (expanded measurer.settings.with_alias_only
-        (tree_of (finite.get measurer.settings.grok.now) pattern.now)) }
+    requires clean { first_fault measurer.now.settings.with_alias_only
+        (tree_of (finite.get measurer.now.settings.grok.now) pattern.now) ≡ None }
+    requires long { length ≡ len (expanded measurer.now.settings.with_alias_only
+        (tree_of (finite.get measurer.now.settings.grok.now) pattern.now)) }
     ensures found { IfOk result (FindsDiagnosis B.is_built_from B.refuses
-        measurer.entry.settings.grok.now measurer.entry.settings.with_alias_only pattern.now) }
+        measurer.now.settings.grok.now measurer.now.settings.with_alias_only pattern.now) }
     ensures whole { IfOk result (λ found. IfSome found (IfRefused (IsWhole pattern.now))) }
 {
     let settings = measurer.settings;
@@ -233,7 +233,7 @@ fn diagnose_whole<'a, B: BuildFromText>(
         },
         Measure::Size { length, .. } => match locate_clash(settings, pattern, &found)? {
             Some(clash) => Ok(Some(Diagnosis::Clash(clash))),
-            None => diagnose_refusal::<B>(found.measurer, pattern, length),
+            None => diagnose_refusal::<B>(&found.measurer, pattern, length),
         },
     }
 }

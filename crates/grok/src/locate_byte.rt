@@ -1,11 +1,13 @@
-//! Finds the piece that writes a byte of an expanded text, without expanding the pattern.
+//! Finds the pieces that write bytes of an expanded text, without expanding the pattern.
 ghost use Rattle.std.specs.Prelude.{◌≡◌, ◌<◌, ◌+◌, List, [], ◌∷◌, IfOk, IsTrue, IsFalse};
 ghost use Rattle.std.specs.FinMap as finite;
 ghost use Rattle.grok.specs.Tree.{Event as EventView, first_structural, tree};
 ghost use Rattle.grok.specs.Items.{item_view};
 ghost use Rattle.grok.specs.steps.Events.{event_view};
 ghost use Rattle.grok.specs.Expanded.{expanded};
+ghost use Rattle.std.specs.List.{AllZip};
 ghost use Rattle.grok.specs.steps.MeasureCache.{HasCorrectCache};
+ghost use Rattle.grok.specs.steps.FullMeasures.{IsFullMeasure};
 ghost use Rattle.grok.specs.ByteLocations.{LocatesByte};
 ghost use Rattle.grok.specs.steps.Searches.{PassesMore, StopsAt};
 ghost use Rattle.grok.specs.steps.ByteSearches.{IsSizeOf, IsPartOfItem, HasPassedBytes, WritesByte};
@@ -38,7 +40,7 @@ pub enum WrittenByte {
 }
 
 /// Where a byte of an expanded text comes from: the piece that stands for it, and what part of the
-/// piece's text it is. [`Grok::locate_byte`] returns it.
+/// piece's text it is. [`Grok::locate_byte`] and [`Grok::locate_bytes`] return it.
 #[derive(Clone, PartialEq, Eq, Debug, Drop)]
 pub struct ByteLocation<'a> {
     /// Where the piece stands.
@@ -48,19 +50,19 @@ pub struct ByteLocation<'a> {
 }
 
 /// The search for the event that writes the byte at position `byte`. It passes over each definition
-/// that ends at or before it.
+/// that ends at or before it and whose size is remembered.
 #[derive(Drop)]
-struct ByteSearch<'a> {
-    measurer: Measurer<'a>,
+struct ByteSearch<'m, 'a> {
+    measurer: &'m Measurer<'a>,
     byte: usize,
     /// The size of all that is written by the events that were passed over.
     before: PartialSize,
 }
 
-impl<'a> ByteSearch<'a> {
+impl<'m, 'a> ByteSearch<'m, 'a> {
     /// Returns the size of what an event writes.
     fn size_of_event(&self, event: Event<'a>) -> PartialSize
-        ensures { IsSizeOf self.now.measurer.settings.with_alias_only result (event_view event.entry ∷ []) }
+        ensures { IsSizeOf self.now.measurer.now.settings.with_alias_only result (event_view event.entry ∷ []) }
     {
         match event {
             Event::Text(text) => size_of_text(text),
@@ -74,10 +76,10 @@ impl<'a> ByteSearch<'a> {
     /// it passed over them.
     fn pass_size(&mut self, size: PartialSize) -> bool
         ensures passed { IsTrue result → (es : List EventView) →
-            IsSizeOf self.old.measurer.settings.with_alias_only size es →
+            IsSizeOf self.old.measurer.now.settings.with_alias_only size es →
             PassesMore HasPassedBytes self.old es self.new }
         ensures stopped { IsFalse result → (event : EventView) →
-            IsSizeOf self.old.measurer.settings.with_alias_only size (event ∷ []) →
+            IsSizeOf self.old.measurer.now.settings.with_alias_only size (event ∷ []) →
             StopsAt HasPassedBytes WritesByte self.old event }
         ensures same { IsFalse result → self.new ≡ self.old }
         ensures measurer { self.new.measurer ≡ self.old.measurer }
@@ -91,10 +93,10 @@ impl<'a> ByteSearch<'a> {
     }
 }
 
-impl<'a> Search<'a> for ByteSearch<'a> {
-    ghost definitions = { λ search. finite.get search.measurer.settings.grok.now };
+impl<'m, 'a> Search<'a> for ByteSearch<'m, 'a> {
+    ghost definitions = { λ search. finite.get search.measurer.now.settings.grok.now };
 
-    ghost IsReady = { λ search es. HasCorrectCache search.measurer };
+    ghost IsReady = { λ search es. HasCorrectCache search.measurer.now };
 
     ghost HasPassed = { HasPassedBytes };
 
@@ -108,15 +110,12 @@ impl<'a> Search<'a> for ByteSearch<'a> {
     fn pass_definition(
         &mut self,
         name: &'a str,
-        definition: &'a Definition,
+        _definition: &'a Definition,
         levels: usize,
     ) -> Result<bool, AllocError> {
-        match self
-            .measurer
-            .size_of_definition(name, definition, levels + 1)?
-        {
-            Ok(size) => Ok(self.pass_size(size)),
-            Err(_) => Ok(false),
+        match self.measurer.remembered_size(name, levels + 1) {
+            Some(size) => Ok(self.pass_size(size)),
+            None => Ok(false),
         }
     }
 }
@@ -135,21 +134,21 @@ fn part_of_item(item: Item<'_>, offset: usize) -> WrittenByte
 /// Finds the piece that writes a byte of the expanded text of a pattern without a structural fault.
 /// Returns `None` if the text has no byte at this position.
 ///
-/// Each definition that `measurer` doesn't remember is measured once. Then only the definitions on
-/// the path are read again, at most `MAX_NESTING` of them.
+/// A definition whose size `measurer` remembers is read again only if it is on the path. If it
+/// remembers all, these are at most `MAX_NESTING` of them.
 ///
 /// # Errors
 ///
 /// If an allocation fails.
 pub(crate) fn locate_written<'a>(
-    measurer: Measurer<'a>,
+    measurer: &Measurer<'a>,
     pattern: &'a str,
     byte: usize,
 ) -> Result<Option<ByteLocation<'a>>, AllocError>
-    requires cache { HasCorrectCache measurer }
-    requires clean { first_structural (tree (finite.get measurer.settings.grok.now) pattern.now) ≡ None }
-    ensures { IfOk result (LocatesByte (finite.get measurer.entry.settings.grok.now)
-        measurer.entry.settings.with_alias_only pattern.now byte) }
+    requires cache { HasCorrectCache measurer.now }
+    requires clean { first_structural (tree (finite.get measurer.now.settings.grok.now) pattern.now) ≡ None }
+    ensures { IfOk result (LocatesByte (finite.get measurer.now.settings.grok.now)
+        measurer.now.settings.with_alias_only pattern.now byte) }
 {
     let grok = measurer.settings.grok;
     let mut search = ByteSearch {
@@ -164,6 +163,23 @@ pub(crate) fn locate_written<'a>(
             location: place.location,
         })),
     }
+}
+
+/// Finds the piece that writes a byte of the expanded text of a pattern that was measured, as
+/// [`Grok::locate_byte`] does.
+fn locate_measured<'a>(
+    found: &FullMeasure<'a>,
+    pattern: &'a str,
+    byte: usize,
+) -> Result<Option<ByteLocation<'a>>, AllocError>
+    requires { IsFullMeasure found.now.measurer.settings pattern.now found.now }
+    ensures { IfOk result (LocatesByte (finite.get found.now.measurer.settings.grok.now)
+        found.now.measurer.settings.with_alias_only pattern.now byte) }
+{
+    if let Measure::Fault(_) = found.measure {
+        return Ok(None);
+    }
+    locate_written(&found.measurer, pattern, byte)
 }
 
 impl Grok {
@@ -189,10 +205,38 @@ impl Grok {
             grok: self,
             with_alias_only,
         };
-        let found = FullMeasure::of_pattern(settings, pattern)?;
-        if let Measure::Fault(_) = found.measure {
-            return Ok(None);
+        let measured = FullMeasure::of_pattern(settings, pattern)?;
+        locate_measured(&measured, pattern, byte)
+    }
+
+    /// Finds the pieces that write several bytes of the expanded text of a pattern. Returns for each
+    /// byte, in their order, what [`Grok::locate_byte`] returns for it.
+    ///
+    /// Each definition is measured once for all of the bytes. Then for each byte only the pattern and
+    /// the definitions on the path are read again, up to the piece.
+    ///
+    /// # Errors
+    ///
+    /// If an allocation fails.
+    pub fn locate_bytes<'a>(
+        &'a self,
+        pattern: &'a str,
+        with_alias_only: bool,
+        bytes: &[usize],
+    ) -> Result<Vec<Option<ByteLocation<'a>>>, AllocError>
+        ensures { IfOk result (λ locations.
+            AllZip (LocatesByte (finite.get self.now) with_alias_only pattern.now) bytes.now locations.items) }
+    {
+        let settings = Settings {
+            grok: self,
+            with_alias_only,
+        };
+        let measured = FullMeasure::of_pattern(settings, pattern)?;
+        let mut locations = Vec::new(self.alloc());
+        'bytes: for &byte in bytes {
+            let location = locate_measured(&measured, pattern, byte)?;
+            locations.push(location)?;
         }
-        locate_written(found.measurer, pattern, byte)
+        Ok(locations)
     }
 }

@@ -3,7 +3,7 @@ ghost use Rattle.std.specs.Prelude.{◌≡◌, ℕ, List, Option, length, map, o
 ghost use Rattle.std.specs.BTreeMap.{get_by_text};
 ghost use Rattle.std.specs.FinMap as finite;
 ghost use Rattle.std.specs.String.{string_bytes};
-ghost use Rattle.std.specs.List.Sorted.{IsStrictlySortedBy};
+ghost use Rattle.std.specs.List.Sorted.{IsStrictlySortedBy, IsPermutation, IsNonDecreasingBy};
 ghost use Rattle.std.specs.Map.{keys_of};
 ghost use Rattle.std.specs.Cmp.Lexicographic.{slice_cmp};
 ghost use Rattle.std.specs.Ordering.{nat_cmp};
@@ -11,7 +11,8 @@ ghost use Rattle.grok.specs.Captures.{text_of, name_texts, capture_texts, IsMatc
 ghost use Rattle.std.specs.Fmt.{DisplaysOnOk};
 ghost use Rattle.grok.specs.Maps.{pair_texts};
 ghost use Rattle.grok.specs.Debugs.{debug_pairs};
-ghost use Rattle.grok.specs.KeyTable.{group_in};
+ghost use Rattle.grok.specs.KeyNumbers.{key_and_number};
+ghost use Rattle.grok.specs.KeyTable.{entry_of_group, group_in};
 ghost use Rattle.grok.specs.Answers.{extract_texts, value_of, walk};
 
 pub(crate) mod borrowed;
@@ -22,6 +23,7 @@ pub(crate) mod matcher;
 use crate::debug_map::{write_entry, write_map};
 use crate::engine::Engine;
 use crate::engine::matcher::HasMatcher;
+use crate::expand::placeholder_key::PlaceholderKey;
 use crate::key_table::{KeyEntries, KeyTable};
 use crate::matches::groups::{GroupTexts, capture_of};
 use crate::matches::line_search::LineSearchOf;
@@ -37,13 +39,18 @@ use std::marker::Model;
 pub struct PatternOf<E> {
     alloc: Global,
     engine: E,
+    /// The keys of the placeholders that capture, in reading order.
+    placeholders: Vec<PlaceholderKey>,
     keys: KeyTable,
     extracts: BTreeMap<String, String>,
 }
 
-// Contracts see the engine's value, the key table and the extracts.
+// Contracts see the engine's value, the keys of the placeholders with their numbers, the key table and the
+// extracts.
 impl<E> Model for PatternOf<E> {
+    ghost use Rattle.std.specs.Prelude.{map};
     ghost use Rattle.grok.specs.Answers.{PatternValue, pattern_code, extract_texts};
+    ghost use Rattle.grok.specs.KeyNumbers.{key_and_number};
 
     ghost Value = { PatternValue E };
 
@@ -51,6 +58,7 @@ impl<E> Model for PatternOf<E> {
 
     ghost view = { λ pattern. record {
       engine = pattern.engine;
+      placeholders = map key_and_number pattern.placeholders.items;
       keys = pattern.keys;
       extracts = extract_texts pattern.extracts.entries;
     } };
@@ -79,15 +87,18 @@ impl<'a, E> Model for MatchesOf<'a, E> {
 }
 
 impl<E: Engine> PatternOf<E> {
-    /// Makes a pattern from its engine, the table of its keys, and the extracts by key.
+    /// Makes a pattern from its engine, the keys of its placeholders, the table of its keys, and the
+    /// extracts by key.
     #[tactic(auto, using(crate::proofs::KeyTables::WalksAreSorted::extract_found))]
     pub(crate) fn new(
         alloc: Global,
         engine: E,
+        placeholders: Vec<PlaceholderKey>,
         keys: KeyTable,
         extracts: BTreeMap<String, String>,
     ) -> PatternOf<E>
         ensures engine { result.engine ≡ engine }
+        ensures placeholders { result.placeholders ≡ map key_and_number placeholders.items }
         ensures keys { result.keys ≡ keys }
         ensures extracts { (name : List ℕ) → finite.get result.extracts name
             ≡ option_map string_bytes (get_by_text extracts name) }
@@ -95,6 +106,7 @@ impl<E: Engine> PatternOf<E> {
         PatternOf {
             alloc,
             engine,
+            placeholders,
             keys,
             extracts,
         }
@@ -164,6 +176,41 @@ impl<E: Engine> PatternOf<E> {
         CaptureNames {
             entries: self.keys.entries(),
         }
+    }
+
+    /// Returns the keys of the placeholders that capture, in reading order: what [`Grok::keys`](crate::Grok::keys)
+    /// returns for the text that was compiled.
+    pub fn placeholder_keys(&self) -> &[PlaceholderKey]
+        ensures { map key_and_number result.now ≡ self.now.placeholders }
+    {
+        self.placeholders.as_slice()
+    }
+
+    /// Returns each key of `capture_names` after the number of the engine's group that it has its values from, in
+    /// the order of `capture_names`.
+    fn keys_with_groups(&self) -> Result<Vec<(usize, &str)>, AllocError>
+        ensures { IfOk result (λ keys. map entry_of_group keys.items ≡ self.now.keys) }
+    {
+        let mut keys = Vec::new(self.alloc);
+        'keys: for (key, group) in self.keys.entries() {
+            keys.push((group, key))?;
+        }
+        Ok(keys)
+    }
+
+    /// Returns each key of `capture_names` after the number of the engine's group that it has its values from,
+    /// in the order of the groups. So a key comes after those whose groups are around its own.
+    ///
+    /// # Errors
+    ///
+    /// If an allocation fails.
+    pub fn keys_by_group(&self) -> Result<Vec<(usize, &str)>, AllocError>
+        ensures all { IfOk result (λ keys. IsPermutation self.now.keys (map entry_of_group keys.items)) }
+        ensures sorted { IfOk result (λ keys. IsNonDecreasingBy (λ pair. pair.0) keys.items) }
+    {
+        let mut keys = self.keys_with_groups()?;
+        keys.sort()?;
+        Ok(keys)
     }
 
     /// Returns the number of the engine's group that a key has its values from, or `None` if the

@@ -1,4 +1,5 @@
-//! Calls of `diagnose`, one for each kind of fault that it measures or searches for, and a call of `locate_byte`.
+//! Calls of `diagnose`, one for each kind of fault that it measures or searches for, and calls of `locate_byte`
+//! and `locate_bytes`.
 use crate::twice;
 use anyhow::{Result, bail};
 use grok::Grok;
@@ -6,6 +7,7 @@ use grok::Grok;
 pub(crate) fn call(rt: &HostRuntime, name: &str) -> Result<()> {
     match name {
         "byte" => locate_byte(rt),
+        "bytes" => locate_bytes(rt),
         "nothing" => diagnose(rt, &[("A", "a"), ("B", "%{A}%{A}")], "%{B:key}"),
         "missing" => diagnose(rt, &[("A", "a"), ("B", "%{A}%{MISSING}")], "%{A}%{B:key}"),
         "malformed" => diagnose(rt, &[("A", "a%{b c}")], "%{A}"),
@@ -25,4 +27,13 @@ fn diagnose(rt: &HostRuntime, definitions: &[(&str, &str)], pattern: &str) -> Re
 fn locate_byte(rt: &HostRuntime) -> Result<()> {
     let grok = Grok::from_iter(rt.alloc(), &[("A", "a"), ("B", "%{A}%{A}")])?;
     twice(rt, || grok.locate_byte("%{A}%{B:key}", false, 36))
+}
+
+/// Locates the byte that the second placeholder of a definition writes, one of a group of the pattern, and one
+/// after the end.
+fn locate_bytes(rt: &HostRuntime) -> Result<()> {
+    let grok = Grok::from_iter(rt.alloc(), &[("A", "a"), ("B", "%{A}%{A}")])?;
+    twice(rt, || {
+        grok.locate_bytes("%{A}%{B:key}", false, &[36, 10, 100])
+    })
 }

@@ -78,6 +78,8 @@ fn call_on_keys(rt: &HostRuntime, name: &str, pattern: &Pattern) -> Result<()> {
             (pattern.group_of("COMMONMAC"), pattern.group_of("nobody"))
         }),
         "group_names" => twice(rt, || pattern.group_names()),
+        "placeholder_keys" => twice(rt, || pattern.placeholder_keys()),
+        "keys_by_group" => twice(rt, || pattern.keys_by_group()),
         _ => call_on_match(rt, name, &pattern.match_against(LINE)?),
     }
 }

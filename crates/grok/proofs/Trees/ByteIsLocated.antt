@@ -1,5 +1,5 @@
 -- The sizes of what events write add up. So the event at which the search for a byte stops writes that byte.
-use Rattle.std.proofs.Common.{◌≡◌, ℕ, ◌+◌, ◌<◌, ◌≤◌, Bool, true, false, List, [], ◌∷◌, ◌++◌, length, Option, Result, Some, None, Ok, Err, refl, sym, ◌∙◌, ap, subst, arith, length-append, append-nil, suc}
+use Rattle.std.proofs.Common.{◌≡◌, ℕ, ◌+◌, ◌<◌, ◌≤◌, Bool, true, false, List, Bor, [], ◌∷◌, ◌++◌, length, Option, Result, Some, None, Ok, Err, refl, sym, ◌∙◌, ap, subst, arith, length-append, append-nil, suc}
 use Rattle.std.proofs.lemmas.Bool.{ltb-true, ltb-false}
 use Rattle.std.specs.Prelude.{nat_lt, IsTrue, IsFalse, if◌then◌else◌}
 use Rattle.grok.specs.Tree.{deepest, Definitions, Fault, Item, events, inside, tree, first_structural, Event, FaultEvent}
@@ -11,7 +11,7 @@ use Rattle.grok.specs.Measured.{measure_view, Measured, Sized, TooLong, size_wit
 use Rattle.grok.specs.FaultLocations.{Step}
 use Rattle.grok.specs.ByteLocations.{IsOwnEvent, Regular, Opening, Closing, Broken, Deep, IsEventAt, IsPartOf, IsByteLocation}
 use Rattle.grok.specs.steps.Searches.{PassesMore}
-use Rattle.grok.specs.declared.settings.Settings.{Settings}
+use Rattle.grok.specs.declared.measure.measurer.Measurer.{Measurer}
 use Rattle.grok.specs.steps.ByteSearches.{IsSizeOf, IsLater, IsPartOfItem, HasPassedBytes, WritesByte}
 use Rattle.grok.specs.declared.measure.partial_size.PartialSize.{PartialSize}
 use Rattle.grok.specs.declared.errors.fault.Fault.{Fault as CodeFault}
@@ -88,17 +88,17 @@ nothing_written alias_only byte sum shows = record { size = record { size = size
 
 -- nothing was passed over yet
 pub nothing_passed : (start : ByteSearch) → start.before ≡ shown (size_of_bytes []) → HasPassedBytes start [] start
-nothing_passed start shows = record { settings = refl; byte = refl; later = nothing_written start.measurer.settings.with_alias_only start.byte start.before shows }
+nothing_passed start shows = record { measurer = refl; byte = refl; later = nothing_written start.measurer.now.settings.with_alias_only start.byte start.before shows }
 
 -- ---- steps of the search
 
-module _ (old : ByteSearch) (size after : PartialSize) (es : List Event) (s : IsSizeOf old.measurer.settings.with_alias_only size es) (adds : (x y : Size) → old.before ≡ shown x → size ≡ shown y → after ≡ shown (plus x y))
+module _ (old : ByteSearch) (size after : PartialSize) (es : List Event) (s : IsSizeOf old.measurer.now.settings.with_alias_only size es) (adds : (x y : Size) → old.before ≡ shown x → size ≡ shown y → after ≡ shown (plus x y))
     (is : Bool) (tests : (z : Size) → after ≡ shown z → is ≡ nat_lt old.byte (length_of z)) (start : ByteSearch) (before : List Event) (p : HasPassedBytes start before old) where
   abbrev alias_only : Bool
-  alias_only = start.measurer.settings.with_alias_only
+  alias_only = start.measurer.now.settings.with_alias_only
 
   abbrev size_now : IsSizeOf alias_only size es
-  size_now = subst (λ (settings : Settings). IsSizeOf settings.with_alias_only size es) p.settings s
+  size_now = subst (λ (measurer : Bor Measurer). IsSizeOf measurer.now.settings.with_alias_only size es) p.measurer s
 
   abbrev shows_now : after ≡ shown (plus p.later.size.size size_now.size)
   shows_now = adds p.later.size.size size_now.size p.later.size.shows size_now.shows
@@ -109,23 +109,16 @@ module _ (old : ByteSearch) (size after : PartialSize) (es : List Event) (s : Is
   tests_now : is ≡ nat_lt start.byte (length_of (plus p.later.size.size size_now.size))
   tests_now = subst (λ byte. is ≡ nat_lt byte (length_of (plus p.later.size.size size_now.size))) p.byte (tests (plus p.later.size.size size_now.size) shows_now)
 
-  pub size_stops : is ≡ true → start.byte < length (expanded start.measurer.settings.with_alias_only (before ++ es))
+  pub size_stops : is ≡ true → start.byte < length (expanded start.measurer.now.settings.with_alias_only (before ++ es))
   size_stops ends = is_within alias_only after (before ++ es) start.byte size_after (sym tests_now ∙ ends)
 
   pub size_passed : is ≡ false → HasPassedBytes start (before ++ es) (record old { before = after })
-  size_passed later = record { settings = p.settings; byte = p.byte; later = is_past alias_only after (before ++ es) start.byte size_after (sym tests_now ∙ later) }
+  size_passed later = record { measurer = p.measurer; byte = p.byte; later = is_past alias_only after (before ++ es) start.byte size_after (sym tests_now ∙ later) }
 
 -- a definition is passed over at once, or not at all
-pub passed_if : (old mid new : ByteSearch) (is_passed : Bool) (es : List Event) → mid.measurer.settings ≡ old.measurer.settings → mid.byte ≡ old.byte → mid.before ≡ old.before
-    → (IsTrue is_passed → PassesMore HasPassedBytes mid es new) → (IsFalse is_passed → new ≡ mid) → PassesMore HasPassedBytes old (if is_passed then es else []) new
-passed_if old mid new is_passed es settings byte before passed same start xs p = go is_passed passed same
-  where
-    here : HasPassedBytes start xs mid
-    here = record { settings = settings ∙ p.settings; byte = byte ∙ p.byte; later = rw before p.later }
-
-    go : (b : Bool) → (IsTrue b → PassesMore HasPassedBytes mid es new) → (IsFalse b → new ≡ mid) → HasPassedBytes start (xs ++ (if b then es else [])) new
-    go true passed same = passed refl start xs here
-    go false passed same = subst (λ es. HasPassedBytes start es new) (sym (append-nil xs)) (subst (HasPassedBytes start xs) (sym (same refl)) here)
+pub passed_if : (old new : ByteSearch) (is_passed : Bool) (es : List Event) → (IsTrue is_passed → PassesMore HasPassedBytes old es new) → (IsFalse is_passed → new ≡ old) → PassesMore HasPassedBytes old (if is_passed then es else []) new
+passed_if old new true es passed same start before p = passed refl start before p
+passed_if old new false es passed same start before p = subst (λ es. HasPassedBytes start es new) (sym (append-nil before)) (subst (HasPassedBytes start before) (sym (same refl)) p)
 
 pub definition_size : (alias_only : Bool) (resolve : List ℕ → List Item) (levels : ℕ) (text : List ℕ) (sum : PartialSize) (r : Result Size Fault) → size_or_fault alias_only resolve (suc levels) text ≡ r
     → Ok sum ≡ shown_result r → IsSizeOf alias_only sum (events (inside resolve levels) (resolve text))
@@ -140,7 +133,7 @@ definition_size alias_only resolve levels text sum (Ok z) is same =
 pub byte_found : (stored : Definitions) (pattern : List ℕ) (path : List Step) (text : List ℕ) (from to : ℕ) (item : Item) (before : List Event) (event : Event) (after : List Event) (old new : ByteSearch) (offset : ℕ) (part : WrittenByte)
     → first_structural (tree stored pattern) ≡ None → tree stored pattern ≡ before ++ event ∷ after → IsEventAt stored deepest pattern path text from to item before event → HasPassedBytes old before new → WritesByte old before event
     → ((z : Size) → new.before ≡ shown z → length_of z ≤ old.byte → old.byte ≡ length_of z + offset) → IsPartOfItem offset item part
-    → IsByteLocation stored old.measurer.settings.with_alias_only pattern old.byte path text from to part
+    → IsByteLocation stored old.measurer.now.settings.with_alias_only pattern old.byte path text from to part
 byte_found stored pattern path text from to item before event after old new offset part clean cut stands passed sought after_is is =
     let size = passed.later.size in
     let low : length_of size.size ≤ old.byte = omega (arith, size.bytes, passed.later.passed) in

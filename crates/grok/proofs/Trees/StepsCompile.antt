@@ -8,7 +8,7 @@ use Rattle.std.proofs.lemmas.Bool.{true≢false, ne_eqb, ltb-true}
 use Rattle.grok.specs.Tree.{Label, Fault, Event, Text, Open, Close, FaultEvent, first_structural}
 use Rattle.grok.specs.Keys.{is_capturing, key_after, is_among, first_fault_after, first_fault, TreeFault, Structural, Clash, keys, capturing, extract_of}
 use Rattle.grok.specs.Expanded.{expanded, groups, nesting}
-use Rattle.grok.specs.KeyNumbers.{key_text}
+use Rattle.grok.specs.KeyNumbers.{key_text, key_number, numbers}
 use Rattle.grok.specs.Measured.{Faulty, Sized, TooLong, fault_or, size_within, measured_tree}
 use Rattle.grok.specs.Answers.{PatternValue}
 use Rattle.grok.specs.KeyTable.{IsKeyTable}
@@ -90,10 +90,12 @@ no_structural alias_only es none = none_structural alias_only [] [] es none
 
 pub built_as : {E : Type 0} (source_of : E → List ℕ) (group_names : E → List (Option (List ℕ))) (alias_only : Bool) (es : List Event) (given : KeyAssigner) (text : List ℕ) (pattern : PatternValue E)
     → HasKeys alias_only es given → text ≡ expanded alias_only es
-    → IsBuilt source_of group_names text (map key_text given.keys.items) (λ key. option_map string_bytes (get_by_text given.extracts key)) pattern
-    → IsBuilt source_of group_names (expanded alias_only es) (keys (capturing alias_only es)) (extract_of alias_only es) pattern
+    → IsBuilt source_of group_names text (map key_text given.keys.items) (map key_number given.keys.items) (λ key. option_map string_bytes (get_by_text given.extracts key)) pattern
+    → IsBuilt source_of group_names (expanded alias_only es) (keys (capturing alias_only es)) (numbers (capturing alias_only es)) (extract_of alias_only es) pattern
 built_as source_of group_names alias_only es given text pattern has is built = record {
   text = built.text ∙ is;
+  given_keys = built.given_keys ∙ has.keys;
+  given_numbers = built.given_numbers ∙ has.numbers;
   keys = subst (λ ks. IsKeyTable ks (group_names pattern.engine) pattern.keys) has.keys built.keys;
   extracts = λ key. built.extracts key ∙ has.extracts key;
 }
@@ -139,7 +141,7 @@ module _ {E : Type 0} (source_of : E → List ℕ) (group_names : E → List (Op
   unexpanded_answer (Err same) error h is = expansion_error may_refuse e same (subst (IsExpansionError e) (sym h) is)
 
   pub built_answer : (found : ExpandedPattern) (text : List ℕ) (r : Result (PatternValue E) Error) → IsExpansionOf e found → text ≡ string_bytes found.text
-      → MatchResult r (IsBuilt source_of group_names text (map key_text found.keys.keys.items) (λ key. option_map string_bytes (get_by_text found.keys.extracts key))) (λ error. (error_value error ≡ Memory) ⊎ IsRefusal may_refuse text (error_value error))
+      → MatchResult r (IsBuilt source_of group_names text (map key_text found.keys.keys.items) (map key_number found.keys.keys.items) (λ key. option_map string_bytes (get_by_text found.keys.extracts key))) (λ error. (error_value error ≡ Memory) ⊎ IsRefusal may_refuse text (error_value error))
       → Compiles source_of group_names may_refuse e r
   built_answer found text (Ok p) is same built = record { some = is.some; can = is.can; built = built_as source_of group_names e.alias_only e.tree found.keys text p is.keys (same ∙ is.text) built }
   built_answer found text (Err error) is same (inl memory) = subst (λ value. IsCompileError may_refuse e value) (sym memory) (NoMemory is.some)

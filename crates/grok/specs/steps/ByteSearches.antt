@@ -23,13 +23,13 @@ pub record IsLater (alias_only : Bool) (before : List Event) (byte : ℕ) (sum :
 
 -- the byte comes after all that the events `es` write
 pub record HasPassedBytes (start : ByteSearch) (es : List Event) (now : ByteSearch) : Type 0 where
-  pub settings : now.measurer.settings ≡ start.measurer.settings
+  pub measurer : now.measurer ≡ start.measurer
   pub byte : now.byte ≡ start.byte
-  pub later : IsLater start.measurer.settings.with_alias_only es start.byte now.before
+  pub later : IsLater start.measurer.now.settings.with_alias_only es start.byte now.before
 
 -- all that is written up to the end of this event, after the events `es`, goes beyond the byte
 abbrev pub WritesByte : ByteSearch → List Event → Event → Type 0
-WritesByte start es event = start.byte < length (expanded start.measurer.settings.with_alias_only (es ++ event ∷ []))
+WritesByte start es event = start.byte < length (expanded start.measurer.now.settings.with_alias_only (es ++ event ∷ []))
 
 -- What is reported of an item that has an event that writes a byte. A malformed piece has none.
 abbrev pub IsPartOfItem : ℕ → Item → WrittenByte → Type 0

@@ -1,6 +1,6 @@
 //! Measures texts. If a text uses a definition that isn't measured yet, a frame keeps the rest of
 //! the text until it is.
-ghost use Rattle.std.specs.Prelude.{◌≡◌, ◌+◌, ◌<◌, ◌≤◌, ◌^◌, [], ◌∷◌, Option, Result, OnOk, IfOk, IfErr, MatchOption, length, Some, option_map};
+ghost use Rattle.std.specs.Prelude.{◌≡◌, ◌+◌, ◌<◌, ◌≤◌, ◌^◌, ℕ, List, [], ◌∷◌, Option, Result, OnOk, IfOk, IfErr, IfSome, MatchOption, length, Some, Ok, option_map};
 ghost use Rattle.std.specs.FinMap as finite;
 ghost use Rattle.grok.specs.Tree.{first_structural, inside};
 ghost use Rattle.grok.specs.steps.Sizes.{size_or_fault};
@@ -221,6 +221,21 @@ impl<'a> Measurer<'a> {
     {
         let answer = self.measure_within(pattern, MAX_NESTING)?;
         Ok(measure_of_result(answer))
+    }
+
+    /// Returns the size of a stored definition if `levels` levels are left, its own among them.
+    /// Returns `None` if it has a fault, or if its size isn't remembered.
+    pub fn remembered_size(&self, name: &'a str, levels: usize) -> Option<PartialSize>
+        ensures { IfSome result (λ size. (text : List ℕ) →
+            HasCorrectCache self.now →
+            finite.get self.now.settings.grok.now name.now ≡ Some text →
+            Ok size ≡ shown_result (size_or_fault self.now.settings.with_alias_only
+            (items_in self.now.settings.grok.now) levels text)) }
+    {
+        match self.cache.known(name, levels) {
+            Some(Ok(size)) => Some(size),
+            Some(Err(_)) | None => None,
+        }
     }
 
     /// Returns the size or the first structural fault of a stored definition, if `levels` levels are

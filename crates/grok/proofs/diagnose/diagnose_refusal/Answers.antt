@@ -17,7 +17,7 @@ returns g c =
         whole = c.in-Some.reason;
         refusal = subst (λ text. IsReasonFor g.B.BuildFromText.refuses text c.in-Some.reason) c.in_ok-text.ensures.text reason;
         blamed = subst (λ path. IsBlamed (path_view path) c.in-Some.reason c.in-Some.reason) (sym c.new.ensures.items) refl;
-        leads = subst (λ path. LeadsTo (finite.get c.args.measurer.settings.grok.now) c.args.pattern.now path c.args.pattern.now) (sym (ap path_view c.new.ensures.items)) Here;
+        leads = subst (λ path. LeadsTo (finite.get c.args.measurer.now.settings.grok.now) c.args.pattern.now path c.args.pattern.now) (sym (ap path_view c.new.ensures.items)) Here;
         part = record {
           some = c.requires.some;
           can = c.in_ok-text.ensures.can;
@@ -30,4 +30,4 @@ returns g c =
     }
 
 pub locate_reason-requires-clause-clean : goal.locate_reason-requires-clause-clean
-locate_reason-requires-clause-clean g c = no_structural c.args.measurer.settings.with_alias_only (tree (finite.get c.args.measurer.settings.grok.now) c.args.pattern.now) c.requires.clean
+locate_reason-requires-clause-clean g c = no_structural c.args.measurer.now.settings.with_alias_only (tree (finite.get c.args.measurer.now.settings.grok.now) c.args.pattern.now) c.requires.clean

@@ -15,15 +15,15 @@ descend-requires c κs =
 
 pub returns-in-None : goal.returns-in-None
 returns-in-None c has =
-    let whole = tree (finite.get c.args.measurer.settings.grok.now) c.args.pattern.now in
+    let whole = tree (finite.get c.args.measurer.now.settings.grok.now) c.args.pattern.now in
     let passed = rw c.in-None.is at c.in_ok-descend.ensures.found in
-    let past : length (expanded c.args.measurer.settings.with_alias_only whole) ≤ c.args.byte = passed.later.passed in
-    let within : c.args.byte < length (expanded c.args.measurer.settings.with_alias_only whole) = has.within in
+    let past : length (expanded c.args.measurer.now.settings.with_alias_only whole) ≤ c.args.byte = passed.later.passed in
+    let within : c.args.byte < length (expanded c.args.measurer.now.settings.with_alias_only whole) = has.within in
     absurd (omega (arith, past, within))
 
-pub returns : goal.returns
-returns c =
-    let stored = finite.get c.args.measurer.settings.grok.now in
+pub returns-in-Some : goal.returns-in-Some
+returns-in-Some c =
+    let stored = finite.get c.args.measurer.now.settings.grok.now in
     let start : ByteSearch = record { measurer = c.args.measurer; byte = c.args.byte; before = c.size_of_text.result } in
     let place = c.in-Some.place in
     let f = rw c.in-Some.is at c.in_ok-descend.ensures.found in

@@ -10,13 +10,13 @@ use Rattle.grok.proofs.locate_byte.ByteSearch.size_of_event.Goals as goal
 
 pub returns-in-Text : goal.returns-in-Text
 returns-in-Text c =
-    let alias_only = c.args.self.now.measurer.settings.with_alias_only in
+    let alias_only = c.args.self.now.measurer.now.settings.with_alias_only in
     let text = c.in-Text.text.now in
     rw c.in-Text.is (size_known alias_only c.size_of_text.result (Text text ∷ []) (size_of_bytes text) c.size_of_text.ensures.shown (omega arith) refl)
 
 pub returns-in-Open : goal.returns-in-Open
 returns-in-Open c =
-    let alias_only = c.args.self.now.measurer.settings.with_alias_only in
+    let alias_only = c.args.self.now.measurer.now.settings.with_alias_only in
     let label = label_view c.in-Open.label in
     let opens : c.size_of_head.result ≡ shown (head_size (is_capturing alias_only label)) = c.size_of_head.ensures ∙ ap (λ b. shown (head_size b)) c.is_capturing.ensures in
     rw c.in-Open.is (size_known alias_only c.size_of_head.result (Open label (meaning_view c.in-Open.field-1) ∷ []) (head_size (is_capturing alias_only label)) opens
@@ -25,8 +25,8 @@ returns-in-Open c =
 
 pub returns-in-Close : goal.returns-in-Close
 returns-in-Close c =
-    rw c.in-Close.is (size_known c.args.self.now.measurer.settings.with_alias_only c.size_of_text-in-Close.result (Close ∷ []) (size_of_bytes (codes ")")) c.size_of_text-in-Close.ensures.shown refl refl)
+    rw c.in-Close.is (size_known c.args.self.now.measurer.now.settings.with_alias_only c.size_of_text-in-Close.result (Close ∷ []) (size_of_bytes (codes ")")) c.size_of_text-in-Close.ensures.shown refl refl)
 
 pub returns-in-Fault : goal.returns-in-Fault
 returns-in-Fault c =
-    rw c.in-Fault.is (size_known c.args.self.now.measurer.settings.with_alias_only c.size_of_text-in-Fault.result (FaultEvent (fault_view c.in-Fault.field-0) ∷ []) (size_of_bytes []) c.size_of_text-in-Fault.ensures.shown refl refl)
+    rw c.in-Fault.is (size_known c.args.self.now.measurer.now.settings.with_alias_only c.size_of_text-in-Fault.result (FaultEvent (fault_view c.in-Fault.field-0) ∷ []) (size_of_bytes []) c.size_of_text-in-Fault.ensures.shown refl refl)
