@@ -40,4 +40,17 @@ GUNICORNLOG=\[%{TIMESTAMP_ISO8601:timestamp}\] \[%{NONNEGINT:pid:int}\] \[%{LOGL
 # Ruby's Logger (Logger::Formatter).
 RUBY_LOGLEVEL=(?:DEBUG|INFO|WARN|ERROR|FATAL|ANY|UNKNOWN)
 RUBY_LOGGER=[DIWEFAU], \[%{TIMESTAMP_ISO8601:timestamp} #%{NONNEGINT:pid:int}\] +%{RUBY_LOGLEVEL:loglevel} -- +%{DATA:progname}: %{GREEDYDATA:message}
+
+# Rails 3 ("Action Controller Overview", and its class ActionController::LogSubscriber): the parts of an event of several lines, and
+# the event, which begins at each line that begins with `Started`.
+RUUID=[0-9a-f]{32}
+RCONTROLLERNAME=[0-9A-Za-z_:]+
+RCONTROLLER=%{RCONTROLLERNAME:controller}#%{WORD:action}
+RPARAMETERS=\{%{DATA:params}\}
+RPROCESSING=\s*Processing by %{RCONTROLLER} as %{NOTSPACE:format}(?:\s+Parameters: %{RPARAMETERS}\s)?
+RAILS3HEAD=Started %{WORD:verb} "%{URIPATHPARAM:request}" for %{IPORHOST:clientip} at %{TIMESTAMP_ISO8601:timestamp}
+RAILS3PROFILE=\((?:Views: %{NUMBER:viewms:float}ms)?(?: \| )?(?:ActiveRecord: %{NUMBER:activerecordms:float}ms)?
+RAILS3FOOT=Completed %{NONNEGINT:response:int}.*? in %{NUMBER:totalms:float}ms(?: %{RAILS3PROFILE}.*)?
+RAILS3LINES=(?:.*\n)*
+RAILS3=%{RAILS3HEAD}%{RPROCESSING}?%{RAILS3LINES:context}%{RAILS3FOOT}?
 "##;

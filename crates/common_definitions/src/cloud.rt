@@ -11,12 +11,18 @@ S3_SECURITY=(?:-|%{NOTSPACE:host_id}) (?:-|%{NOTSPACE:signature_version}) (?:-|%
 S3_ACCESS_LOG=%{NOTSPACE:owner} %{NOTSPACE:bucket} \[%{HTTPDATE:timestamp}\] (?:-|%{IP:clientip}) %{S3_REQUESTER} %{S3_RESULT} %{S3_CLIENT}(?: %{S3_SECURITY})?
 
 # Access logs of Elastic Load Balancing: of Classic Load Balancers, and of Application Load Balancers, which write the kind of
-# the request before these fields and further ones after them ("Access logs for your Application Load Balancer").
-ELB_REQUEST_LINE=%{HTTPREQUEST}
+# the request before these fields and further ones after them ("Access logs for your Application Load Balancer"). The status 0 is
+# that of a target that wasn't asked.
+ELB_URIHOST=(?:\[%{IPV6}\]|%{IPV4}|%{HOSTNAME})(?::%{PORT:port:int})?
+ELB_URIPATHPARAM=%{URIPATH:path}%{URIQUERY:params}?
+ELB_URI=%{URIPROTO:proto}://(?:[^\s?#@"]+@)?%{ELB_URIHOST:urihost}%{ELB_URIPATHPARAM}?
+ELB_REQUEST=(?:%{ELB_URI}|%{NOTSPACE})
+ELB_REQUEST_LINE=(?:%{HTTPMETHOD:verb} %{ELB_REQUEST:request}(?: HTTP/%{HTTPVERSION:httpversion})?|%{INQUOTES:rawrequest})
 ELB_ADDRESS=[0-9A-Fa-f.:]+
 ELB_PEERS=%{ELB_ADDRESS:clientip}:%{PORT:clientport:int} (?:-|%{ELB_ADDRESS:backendip}:%{PORT:backendport:int})
 ELB_TIMES=%{NUMBER:request_processing_time:float} %{NUMBER:backend_processing_time:float} %{NUMBER:response_processing_time:float}
-ELB_RESULT=(?:-|%{HTTPSTATUS:response:int}) (?:-|%{HTTPSTATUS:backend_response:int}) %{NONNEGINT:received_bytes:int} %{NONNEGINT:bytes:int}
+ELB_STATUS=(?:%{HTTPSTATUS}|0)
+ELB_RESULT=(?:-|%{ELB_STATUS:response:int}) (?:-|%{ELB_STATUS:backend_response:int}) %{NONNEGINT:received_bytes:int} %{NONNEGINT:bytes:int}
 ELB_CLIENT="%{INQUOTES:agent}" (?:-|%{NOTSPACE:ssl_cipher}) (?:-|%{NOTSPACE:ssl_protocol})
 ELB_ACCESS_LOG=%{TIMESTAMP_ISO8601:timestamp} %{NOTSPACE:elb} %{ELB_PEERS} %{ELB_TIMES} %{ELB_RESULT} "%{ELB_REQUEST_LINE}"(?: %{ELB_CLIENT})?
 ALB_TYPE=(?:https?|h2|grpcs|wss?)

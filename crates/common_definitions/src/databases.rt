@@ -25,6 +25,12 @@ REDISLOG=\[?%{NONNEGINT:pid:int}(?:\]|:%{REDISROLE:role}) %{REDISTIMESTAMP:times
 REDISMONLOG=%{NUMBER:timestamp:float} \[%{NONNEGINT:database:int} (?:lua|unix:%{REDISSOCKET:socket}|\[?%{IP:client}\]?:%{PORT:port:int})\] "%{INQUOTES:command}"(?: %{GREEDYDATA:params})?
 REDISSOCKET=[^\s\]]+
 
+# The log of MongoDB 2 (its manual of that version, "Process Logging" and "Database Profiler"), and its slow queries.
+MONGO_WORDDASH=\b[\w-]+\b
+MONGO_LOG=(?:%{DAY} )?%{SYSLOGTIMESTAMP:timestamp} \[%{MONGO_WORDDASH:component}\] %{GREEDYDATA:message}
+MONGO_QUERY=\{.*\}
+MONGO_SLOWQUERY=%{WORD} %{MONGO_WORDDASH:database}\.%{MONGO_WORDDASH:collection} query: %{MONGO_QUERY:query} ntoreturn:%{NONNEGINT:ntoreturn:int} ntoskip:%{NONNEGINT:ntoskip:int} nscanned:%{NONNEGINT:nscanned:int} .*?nreturned:%{NONNEGINT:nreturned:int} .*?%{NONNEGINT:duration:int}ms
+
 # The log of MongoDB 3.0 to 4.2 (its manual, "Log Messages"). Later versions write JSON.
 MONGO3_SEVERITY=(?:[FEWI]|D[1-5]?)
 MONGO3_COMPONENT=(?:-|[A-Z_]+)

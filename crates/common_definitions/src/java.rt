@@ -17,6 +17,9 @@ JAVALOGMESSAGE=.*
 CATALINALOG=%{CATALINA_DATESTAMP:timestamp} (?:%{LOGLEVEL:level} \[%{JAVATHREAD:thread}\] )?%{JAVACLASS:class} %{JAVALOGMESSAGE:logmessage}
 TOMCATLOG=%{TOMCAT_DATESTAMP:timestamp} \| %{LOGLEVEL:level} +\| %{JAVACLASS:class} - %{JAVALOGMESSAGE:logmessage}
 
+# Versions of Maven ("POM Reference", "Version Order Specification").
+MAVEN_VERSION=[0-9]+(?:\.[0-9]+)*(?:[.-](?:RELEASE|SNAPSHOT))?
+
 # Usual layouts: '%d [%t] %-5p %c - %m' of log4j, '%d %-5level [%thread] %logger - %msg' of Logback (both manuals, chapter
 # "Layouts"), and Spring Boot's own ("Logging" in its reference).
 JAVALOGGER=[0-9A-Za-z_$.\[\]/-]+

@@ -12,8 +12,11 @@
 mod applications;
 mod cloud;
 mod databases;
+mod firewalls;
+mod formats;
 mod java;
 mod network;
+mod services;
 mod sshd;
 mod syslog;
 mod times;
@@ -23,8 +26,11 @@ mod web;
 use crate::applications::APPLICATIONS;
 use crate::cloud::CLOUD;
 use crate::databases::DATABASES;
+use crate::firewalls::FIREWALLS;
+pub use crate::formats::{LineFormat, line_formats};
 use crate::java::JAVA;
 use crate::network::NETWORK;
+use crate::services::SERVICES;
 use crate::sshd::SSHD;
 use crate::syslog::SYSLOG;
 use crate::times::TIMES;
@@ -32,7 +38,7 @@ use crate::values::VALUES;
 use crate::web::WEB;
 
 /// The groups of definitions. No name is defined twice.
-pub const COMMON_DEFINITIONS: [&str; 10] = [
+static GROUPS: [&str; 12] = [
     VALUES,
     NETWORK,
     TIMES,
@@ -40,7 +46,14 @@ pub const COMMON_DEFINITIONS: [&str; 10] = [
     SSHD,
     WEB,
     CLOUD,
+    FIREWALLS,
+    SERVICES,
     DATABASES,
     JAVA,
     APPLICATIONS,
 ];
+
+/// Returns the groups of definitions. No name is defined twice.
+pub fn definition_groups() -> &'static [&'static str] {
+    &GROUPS
+}

@@ -17,14 +17,15 @@ SYSLOGBASE=%{SYSLOGTIME:timestamp} (?:%{SYSLOGFACILITY} )?%{SYSLOGHOST:logsource
 SYSLOGBASE2=(?:<%{SYSLOGPRIORITY:syslog_pri:int}>)?%{SYSLOGTIME:timestamp} (?:%{SYSLOGFACILITY} )?%{SYSLOGHOST:logsource}(?: %{SYSLOGPROG}:)?
 SYSLOGLINE=%{SYSLOGBASE2}(?: %{GREEDYDATA:message})?
 
-# The lines of RFC 5424 (6). A part that is `-`, for none, has no key.
+# The lines of RFC 5424 (6). A part that is `-`, for none, has no key. Some programs leave out the structured data, and write two
+# blanks where it would be.
 SYSLOG5424PRI=<%{SYSLOGPRIORITY:syslog5424_pri:int}>
 SYSLOG5424PRINTASCII=[!-~]+
 SYSLOG5424NAME=[!#-<>-\\^-~]{1,32}
 SYSLOG5424PARAM=%{SYSLOG5424NAME}="(?:[^"\\\]]|\\.)*"
 SYSLOG5424SD=(?:\[%{SYSLOG5424NAME}(?: %{SYSLOG5424PARAM})*\])+
 SYSLOG5424SOURCE=(?:-|%{SYSLOG5424PRINTASCII:syslog5424_host}) +(?:-|%{SYSLOG5424PRINTASCII:syslog5424_app}) +(?:-|%{SYSLOG5424PRINTASCII:syslog5424_proc}) +(?:-|%{SYSLOG5424PRINTASCII:syslog5424_msgid})
-SYSLOG5424BASE=%{SYSLOG5424PRI}%{NONNEGINT:syslog5424_ver:int} +(?:-|%{TIMESTAMP_ISO8601:syslog5424_ts}) +%{SYSLOG5424SOURCE} +(?:-|%{SYSLOG5424SD:syslog5424_sd})
+SYSLOG5424BASE=%{SYSLOG5424PRI}%{NONNEGINT:syslog5424_ver:int} +(?:-|%{TIMESTAMP_ISO8601:syslog5424_ts}) +%{SYSLOG5424SOURCE}(?: +(?:-|%{SYSLOG5424SD:syslog5424_sd})| )
 SYSLOG5424LINE=%{SYSLOG5424BASE}(?: +%{GREEDYDATA:syslog5424_msg})?
 
 # The output of journalctl in its formats short, short-precise, short-iso, short-iso-precise, short-full, short-monotonic

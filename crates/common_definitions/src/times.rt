@@ -28,8 +28,10 @@ DATE=(?:%{DATE_US}|%{DATE_EU})
 DATESTAMP=%{DATE}[ -]%{TIME}
 
 # ISO 8601 and RFC 3339, with a comma before the fraction as log4j and Python write it, and also with a blank before the
-# offset. TIMESTAMP_BASIC is the form without hyphens and colons.
+# offset. TIMESTAMP_BASIC is the form without hyphens and colons, and TIMESTAMP_RFC3339 that of rsyslog and the journal, with a
+# T and an offset.
 TIMESTAMP_BASIC=%{YEAR4}%{MONTHNUM2}%{MONTHDAY2}T%{HOUR2}%{MINUTE}%{SECOND}?%{ISO8601_TIMEZONE}?
+TIMESTAMP_RFC3339=%{DATE_ISO8601}T%{HOUR2}:%{MINUTE}:%{SECOND}%{ISO8601_TIMEZONE}
 TIMESTAMP_ISO8601=(?:%{DATE_ISO8601}[T ]%{HOUR}:%{MINUTE}(?::%{SECOND})?(?:%{ISO8601_TIMEZONE}| [+-]%{HOUR2}:?%{MINUTE}\b)?|%{TIMESTAMP_BASIC})
 
 # Go's log package and nginx (year/month/day), C's asctime, RFC 5322 (3.3), and the output of `date`.
@@ -39,6 +41,13 @@ TIMESTAMP_RFC2822=%{DAY}, %{MONTHDAY} %{MONTH} %{YEAR4} %{TIME} (?:[+-]%{HOUR2}%
 DATESTAMP_RFC822=%{DAY} %{MONTH} +%{MONTHDAY} %{YEAR4} %{TIME} %{TZ}
 DATESTAMP_RFC2822=%{TIMESTAMP_RFC2822}
 DATESTAMP_OTHER=%{DAY} %{MONTH} +%{MONTHDAY} %{TIME} %{TZ} %{YEAR4}
+
+# Dates with the name of the month and a time after them (Cisco, PHP, Django), dates with a time of twelve hours (Windows),
+# without a year, and without marks.
+TIMESTAMP_MONTHNAME=(?:%{MONTHDAY}[ /-]%{MONTH}[ /-]%{YEAR4}|%{MONTH} +%{MONTHDAY},? %{YEAR4}),?[ :]%{TIME}(?: %{TZ})?
+DATESTAMP_12H=%{DATE},? +%{TIME} ?[AaPp][Mm]\b
+DATESTAMP_SHORT=%{MONTHNUM2}-%{MONTHDAY2} %{TIME}
+DATESTAMP_COMPACT=%{YEAR4}%{MONTHNUM2}%{MONTHDAY2}[T_ -]%{TIME}
 
 # The times of WMI (CIM_DATETIME), of Apache Tomcat, of Unix (seconds or milliseconds since 1970), and of web servers (the
 # Common Log Format).

@@ -6,8 +6,8 @@ pub const VALUES: &str = r##"
 INT=[+-]?[0-9]+
 NONNEGINT=[0-9]+
 POSINT=[1-9][0-9]*
-NUMBER=[+-]?(?:[0-9]+(?:\.[0-9]+)?|\.[0-9]+)(?:[eE][+-]?[0-9]+)?
-BASE10NUM=%{NUMBER}
+BASE10NUM=[+-]?(?:[0-9]+(?:\.[0-9]+)?|\.[0-9]+)(?:[eE][+-]?[0-9]+)?
+NUMBER=%{BASE10NUM}
 BASE16NUM=[+-]?(?:0[xX])?[0-9A-Fa-f]+
 BASE16FLOAT=[+-]?(?:0[xX])?(?:[0-9A-Fa-f]+(?:\.[0-9A-Fa-f]+)?|\.[0-9A-Fa-f]+)(?:[pP][+-]?[0-9]+)?
 
@@ -23,6 +23,9 @@ DOUBLEQUOTED="%{INQUOTES}"
 SINGLEQUOTED='(?:[^'\\]|\\.)*'
 QUOTEDSTRING=(?:%{DOUBLEQUOTED}|%{SINGLEQUOTED})
 QS=%{QUOTEDSTRING}
+
+# A value between commas, which may be in double quotes (RFC 4180).
+CSVVALUE=(?:"(?:[^"]|"")*"|[^,"]*)
 
 # A JSON object (RFC 8259) up to the last brace of the line.
 JSONOBJECT=\{.*\}
