@@ -18,8 +18,12 @@ pub struct Beginnings<'a> {
     alloc: Global,
     pieces: Vec<Piece<'a>>,
     groups: Vec<Group>,
-    /// The beginnings that were needed so far, by their number of pieces.
+    /// Some of the beginnings that were needed so far, by their number of pieces: for each step of a search
+    /// for the longest one that which was compiled last. So at most about log2(N) of N beginnings take
+    /// memory, and lines that stop at the same piece one after another need no other.
     compiled: BTreeMap<usize, Compiled>,
+    /// For each step the number of pieces of that beginning.
+    kept: BTreeMap<usize, usize>,
 }
 
 impl Piece<'_> {
@@ -50,6 +54,7 @@ impl<'a> Beginnings<'a> {
             pieces,
             groups,
             compiled: BTreeMap::new(alloc),
+            kept: BTreeMap::new(alloc),
         })
     }
 
@@ -91,8 +96,21 @@ impl<'a> Beginnings<'a> {
         }
     }
 
-    /// Returns whether the beginning of `count` pieces finds something in the line.
-    fn finds(&mut self, count: usize, line: &str) -> Result<bool, AllocError>
+    /// Keeps a compiled beginning of `count` pieces in place of that which this step of a search needed
+    /// before.
+    fn keep(&mut self, step: usize, count: usize, compiled: Compiled) -> Result<(), AllocError>
+        ensures { pieces_of self.new ≡ pieces_of self.old }
+    {
+        if let Some(before) = self.kept.insert(step, count)? {
+            self.compiled.remove(&before);
+        }
+        self.compiled.insert(count, compiled)?;
+        Ok(())
+    }
+
+    /// Returns whether the beginning of `count` pieces finds something in the line. This step of a search
+    /// needs it.
+    fn finds(&mut self, step: usize, count: usize, line: &str) -> Result<bool, AllocError>
         ensures answer { IfOk result (IsAnswer (beginning_text (pieces_of self.old) count) line.now) }
         ensures same { pieces_of self.new ≡ pieces_of self.old }
     {
@@ -104,7 +122,7 @@ impl<'a> Beginnings<'a> {
             return Ok(false);
         };
         let finds = compiled.is_found(self.alloc, line)?;
-        self.compiled.insert(count, compiled)?;
+        self.keep(step, count, compiled)?;
         Ok(finds)
     }
 
@@ -139,9 +157,11 @@ impl<'a> Beginnings<'a> {
     {
         let mut count = 0;
         let mut too_many = self.pieces.len() + 1;
+        let mut step = 0usize;
         'halves: while too_many - count > 1 {
             let middle = count + (too_many - count) / 2;
-            if self.finds(middle, line)? {
+            step = step.saturating_add(1);
+            if self.finds(step, middle, line)? {
                 count = middle;
             } else {
                 too_many = middle;
