@@ -15,3 +15,4 @@ mod ObjectsAreLines
 mod ChosenKeys
 mod ValuesAreByCount
 mod EmptyObjects
+mod ValuesOfKeys

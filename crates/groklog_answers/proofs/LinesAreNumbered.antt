@@ -1,15 +1,20 @@
 -- Each line is answered with its number, counted from 1, and if numbers aren't written they change no answer.
-use Rattle.std.proofs.Common.{◌≡◌, ℕ, suc, ◌+◌, List, ◌∷◌, ◌++◌, length, Option, Some, None, Bool, true, false, if◌then◌else◌, refl, ap, ◌∙◌, arith}
-use Rattle.std.specs.Str.{is_utf8}
+use Rattle.std.proofs.Common.{◌≡◌, ◌≢◌, ℕ, suc, ◌+◌, List, [], ◌∷◌, ◌++◌, length, Result, Err, map, flat_map, refl, ap, ◌∙◌, arith}
+use Rattle.std.specs.List.{AllByRecursion}
+use Rattle.std.specs.Option.{ok_or}
 use Rattle.std.specs.Str.Lossy.{utf8_lossy}
 use Rattle.grok_lines.specs.Streams.{answers_of, AreAnswersAfter}
 use Rattle.grok_lines.proofs.AnswersAreNumberedOn.{answers_same, answers_append}
 use Rattle.groklog_answers.specs.Layouts.{LayoutValue}
 use Rattle.groklog_answers.specs.Patterns.{PatternText, MatchText, first_match}
-use Rattle.groklog_answers.specs.LogAnswers.{match_text, unmatched_text, match_answer, unmatched_answer, answer_by, log_answer, log_answers_from}
-use Rattle.groklog_answers.specs.AnswerLaws.{EachLineHasItsNumber, WithoutNumbersLinesStandAlone}
-use Rattle.groklog_answers.specs.declared.layout.Lines.{Lines}
-use Rattle.groklog_answers.specs.declared.layout.Lines.TheVariants.{All, Matched, Unmatched}
+use Rattle.groklog_answers.specs.AnsweredTexts.{line_of, added_text}
+use Rattle.groklog_answers.specs.Objects.{added_members}
+use Rattle.groklog_answers.specs.PairTexts.{added_line}
+use Rattle.groklog_answers.specs.Records.{added_value}
+use Rattle.groklog_answers.specs.LogAnswers.{answer_text, log_answer, log_answers_from}
+use Rattle.groklog_answers.specs.AnswerLaws.{EachLineHasItsNumber, IsNoNumber, WithoutNumbersLinesStandAlone}
+use Rattle.groklog_answers.specs.declared.layout.Addition.{Addition}
+use Rattle.groklog_answers.specs.declared.layout.Addition.TheVariants.{Number, File, Failed, Tag, Line}
 use Rattle.groklog_answers.specs.declared.layout.Failure.{Failure}
 use Rattle.groklog_answers.specs.declared.layout.Failure.TheVariants.{NoMatch, NotUtf8}
 use Rattle.groklog_answers.specs.declared.layout.OutputFormat.{OutputFormat}
@@ -33,43 +38,42 @@ each_line_has_its_number layout patterns before after line =
     ∙ ap (λ answers. answers_of (f 1) before ++ (log_answer layout patterns (length before + 1) line ++ answers))
     (answers_same (λ n. f (length before + 1) (suc n)) (f (length before + 2)) after (λ n. ap (log_answer layout patterns) (omega arith)))
 
--- ---- without a key for the number
+-- ---- without a number
 
-match_stands_alone : (format : OutputFormat) (layout : LayoutValue) (found : MatchText) (m n : ℕ) (line : List ℕ) → layout.number ≡ None
-    → match_text format layout found m line ≡ match_text format layout found n line
-match_stands_alone Json layout found m n line none = rw none refl
-match_stands_alone Pairs layout found m n line none = rw none refl
-match_stands_alone Csv layout found m n line none = rw none refl
+module _ (layout : LayoutValue) (found : Result MatchText Failure) (m n : ℕ) (line : List ℕ) where
+  -- Nothing else that is added depends on the number of the line.
+  text_same : (what : Addition) → what ≢ Number → added_text (line_of layout found m line) what ≡ added_text (line_of layout found n line) what
+  text_same Number none = absurd (none refl)
+  text_same File none = refl
+  text_same Failed none = refl
+  text_same Tag none = refl
+  text_same Line none = refl
 
-unmatched_stands_alone : (format : OutputFormat) (layout : LayoutValue) (m n : ℕ) (why : Failure) (line : List ℕ) → layout.number ≡ None
-    → unmatched_text format layout m why line ≡ unmatched_text format layout n why line
-unmatched_stands_alone Json layout m n why line none = rw none refl
-unmatched_stands_alone Pairs layout m n why line none = rw none refl
-unmatched_stands_alone Csv layout m n why line none = rw none refl
+  members_same : (additions : List (Addition × List ℕ)) → AllByRecursion IsNoNumber additions
+      → flat_map (added_members (line_of layout found m line)) additions ≡ flat_map (added_members (line_of layout found n line)) additions
+  members_same [] none = refl
+  members_same (added ∷ more) none = rw (text_same added.0 none.0, members_same more none.1) refl
 
-by_match : (lines : Lines) (layout : LayoutValue) (found : MatchText) (m n : ℕ) (line : List ℕ) → layout.number ≡ None
-    → match_answer lines layout found m line ≡ match_answer lines layout found n line
-by_match All layout found m n line none = match_stands_alone layout.format layout found m n line none
-by_match Matched layout found m n line none = match_stands_alone layout.format layout found m n line none
-by_match Unmatched layout found m n line none = refl
+  lines_same : (additions : List (Addition × List ℕ)) → AllByRecursion IsNoNumber additions
+      → flat_map (added_line (line_of layout found m line)) additions ≡ flat_map (added_line (line_of layout found n line)) additions
+  lines_same [] none = refl
+  lines_same (added ∷ more) none = rw (text_same added.0 none.0, lines_same more none.1) refl
 
-without_match : (lines : Lines) (layout : LayoutValue) (m n : ℕ) (why : Failure) (line : List ℕ) → layout.number ≡ None
-    → unmatched_answer lines layout m why line ≡ unmatched_answer lines layout n why line
-without_match All layout m n why line none = unmatched_stands_alone layout.format layout m n why line none
-without_match Matched layout m n why line none = refl
-without_match Unmatched layout m n why line none = unmatched_stands_alone layout.format layout m n why line none
+  values_same : (additions : List (Addition × List ℕ)) → AllByRecursion IsNoNumber additions
+      → map (added_value (line_of layout found m line)) additions ≡ map (added_value (line_of layout found n line)) additions
+  values_same [] none = refl
+  values_same (added ∷ more) none = rw (text_same added.0 none.0, values_same more none.1) refl
 
-by_any : (layout : LayoutValue) (found : Option MatchText) (m n : ℕ) (line : List ℕ) → layout.number ≡ None
-    → answer_by layout found m line ≡ answer_by layout found n line
-by_any layout None m n line none = without_match layout.lines layout m n NoMatch line none
-by_any layout (Some found) m n line none = by_match layout.lines layout found m n line none
-
-either_way : (b : Bool) (layout : LayoutValue) (found : Option MatchText) (m n : ℕ) (line lossy : List ℕ) → layout.number ≡ None
-    → (if b then answer_by layout found m line else unmatched_answer layout.lines layout m NotUtf8 lossy)
-    ≡ (if b then answer_by layout found n line else unmatched_answer layout.lines layout n NotUtf8 lossy)
-either_way true layout found m n line lossy none = by_any layout found m n line none
-either_way false layout found m n line lossy none = without_match layout.lines layout m n NotUtf8 lossy none
+  answer_same : (format : OutputFormat) → AllByRecursion IsNoNumber layout.before → AllByRecursion IsNoNumber layout.after
+      → answer_text format (line_of layout found m line) ≡ answer_text format (line_of layout found n line)
+  answer_same Json before after = rw (members_same layout.before before, members_same layout.after after) refl
+  answer_same Pairs before after = rw (lines_same layout.before before, lines_same layout.after after) refl
+  answer_same Csv before after = rw (values_same layout.before before, values_same layout.after after) refl
 
 pub without_numbers_lines_stand_alone : WithoutNumbersLinesStandAlone
-without_numbers_lines_stand_alone layout patterns m n line none =
-    either_way (is_utf8 line) layout (first_match patterns line) m n line (utf8_lossy line) none
+without_numbers_lines_stand_alone layout patterns m n line before after =
+    rw (
+      answer_same layout (ok_or (first_match patterns line) NoMatch) m n line layout.format before after,
+      answer_same layout (Err NotUtf8) m n (utf8_lossy line) layout.format before after,
+    )
+    refl

@@ -1,7 +1,8 @@
 -- The JSON object of a line of a log is itself one line.
-use Rattle.std.proofs.Common.{◌≡◌, ◌⊎◌, inl, inr, ℕ, zero, suc, ◌<◌, ◌≤◌, not, ◌&&◌, subst, Bool, true, false, ◌==◌, cond, List, [], ◌∷◌, ◌++◌, Option, Some, None, if◌then◌else◌, codes, refl, sym, arith}
+use Rattle.std.proofs.Common.{◌≡◌, ◌⊎◌, inl, inr, ℕ, zero, suc, ◌<◌, ◌≤◌, not, ◌&&◌, subst, Bool, true, false, ◌==◌, cond, List, [], ◌∷◌, ◌++◌, Err, if◌then◌else◌, codes, refl, sym, arith}
 use Rattle.std.proofs.lemmas.Bool.{cases_eq, cases_lt}
 use Rattle.std.proofs.lemmas.Bool.Decides.{nat_tests}
+use Rattle.std.specs.Option.{ok_or}
 use Rattle.std.specs.Str.{is_utf8}
 use Rattle.std.specs.Str.Lossy.{utf8_lossy}
 use Rattle.json.specs.Token.{Token, begin_object, end_object, begin_array, end_array, key, string, number, boolean, null, bad}
@@ -12,19 +13,16 @@ use Rattle.json.proofs.Printed.Strings.{escape_byte_plain}
 use Rattle.json.proofs.Printed.Trees.{ArePrintable-json_tokens}
 use Rattle.grok_lines.specs.Lines.{IsLine}
 use Rattle.grok_lines.proofs.LinesOfTwoParts.{line-append}
-use Rattle.groklog_answers.specs.Layouts.{LayoutValue}
-use Rattle.groklog_answers.specs.Patterns.{MatchText, first_match}
-use Rattle.groklog_answers.specs.Objects.{KeyValues, members_of, match_members, unmatched_members, object_text}
-use Rattle.groklog_answers.specs.LogAnswers.{match_text, unmatched_text, match_answer, unmatched_answer, answer_by}
+use Rattle.groklog_answers.specs.Patterns.{first_match}
+use Rattle.groklog_answers.specs.AnsweredTexts.{AnsweredText, line_of}
+use Rattle.groklog_answers.specs.Objects.{KeyValues, members_of, answer_members, object_text}
+use Rattle.groklog_answers.specs.LogAnswers.{is_answered, answer_text, answer_to}
 use Rattle.groklog_answers.specs.AnswerLaws.{ObjectsAreLines}
-use Rattle.groklog_answers.specs.declared.layout.Lines.{Lines}
-use Rattle.groklog_answers.specs.declared.layout.Lines.TheVariants.{All, Matched, Unmatched}
-use Rattle.groklog_answers.specs.declared.layout.Failure.{Failure}
 use Rattle.groklog_answers.specs.declared.layout.Failure.TheVariants.{NoMatch, NotUtf8}
 use Rattle.groklog_answers.specs.declared.layout.OutputFormat.{OutputFormat}
 use Rattle.groklog_answers.specs.declared.layout.OutputFormat.TheVariants.{Json, Pairs, Csv}
 use Rattle.groklog_answers.proofs.NumbersHoldNoLineFeed.{number_is_line}
-use Rattle.groklog_answers.proofs.ObjectsReadBack.{match_has_numbers, unmatched_has_numbers}
+use Rattle.groklog_answers.proofs.ObjectsReadBack.{answer_has_numbers}
 
 -- ---- the escape of a byte
 
@@ -119,34 +117,21 @@ object_line members numbers =
 abbrev IsLineOrNone : List ℕ → Type 0
 IsLineOrNone answer = (answer ≡ []) ⊎ ((object : List ℕ) × IsLine object × (answer ≡ object ++ codes "\n"))
 
-match_lines_up : (format : OutputFormat) (layout : LayoutValue) (found : MatchText) (n : ℕ) (line : List ℕ) → format ≡ Json → IsLineOrNone (match_text format layout found n line)
-match_lines_up Json layout found n line is = inr (object_text (match_members layout found n line), object_line _ (match_has_numbers layout found n line), refl)
-match_lines_up Pairs layout found n line is = cc
-match_lines_up Csv layout found n line is = cc
+either_way : (b : Bool) (x y : List ℕ) → IsLineOrNone x → IsLineOrNone y → IsLineOrNone (if b then x else y)
+either_way true x y h k = h
+either_way false x y h k = k
 
-unmatched_lines_up : (format : OutputFormat) (layout : LayoutValue) (n : ℕ) (why : Failure) (line : List ℕ) → format ≡ Json → IsLineOrNone (unmatched_text format layout n why line)
-unmatched_lines_up Json layout n why line is = inr (object_text (unmatched_members layout n why line), object_line _ (unmatched_has_numbers layout n why line), refl)
-unmatched_lines_up Pairs layout n why line is = cc
-unmatched_lines_up Csv layout n why line is = cc
+text_lines_up : (format : OutputFormat) (line : AnsweredText) → format ≡ Json → IsLineOrNone (answer_text format line)
+text_lines_up Json line is = inr (object_text (answer_members line), object_line _ (answer_has_numbers line), refl)
+text_lines_up Pairs line is = cc
+text_lines_up Csv line is = cc
 
-by_match : (lines : Lines) (layout : LayoutValue) (found : MatchText) (n : ℕ) (line : List ℕ) → layout.format ≡ Json → IsLineOrNone (match_answer lines layout found n line)
-by_match All layout found n line is = match_lines_up layout.format layout found n line is
-by_match Matched layout found n line is = match_lines_up layout.format layout found n line is
-by_match Unmatched layout found n line is = inl refl
-
-without_match : (lines : Lines) (layout : LayoutValue) (n : ℕ) (why : Failure) (line : List ℕ) → layout.format ≡ Json → IsLineOrNone (unmatched_answer lines layout n why line)
-without_match All layout n why line is = unmatched_lines_up layout.format layout n why line is
-without_match Matched layout n why line is = inl refl
-without_match Unmatched layout n why line is = unmatched_lines_up layout.format layout n why line is
-
-by_any : (layout : LayoutValue) (found : Option MatchText) (n : ℕ) (line : List ℕ) → layout.format ≡ Json → IsLineOrNone (answer_by layout found n line)
-by_any layout None n line is = without_match layout.lines layout n NoMatch line is
-by_any layout (Some found) n line is = by_match layout.lines layout found n line is
-
-either_way : (b : Bool) (layout : LayoutValue) (found : Option MatchText) (n : ℕ) (line lossy : List ℕ) → layout.format ≡ Json
-    → IsLineOrNone (if b then answer_by layout found n line else unmatched_answer layout.lines layout n NotUtf8 lossy)
-either_way true layout found n line lossy is = by_any layout found n line is
-either_way false layout found n line lossy is = without_match layout.lines layout n NotUtf8 lossy is
+answer_lines_up : (line : AnsweredText) → line.layout.format ≡ Json → IsLineOrNone (answer_to line)
+answer_lines_up line is =
+    either_way (is_answered line.layout.lines line.found) (answer_text line.layout.format line) []
+    (text_lines_up line.layout.format line is) (inl refl)
 
 pub objects_are_lines : ObjectsAreLines
-objects_are_lines layout patterns n line is = either_way (is_utf8 line) layout (first_match patterns line) n line (utf8_lossy line) is
+objects_are_lines layout patterns n line is =
+    either_way (is_utf8 line) _ _ (answer_lines_up (line_of layout (ok_or (first_match patterns line) NoMatch) n line) is)
+    (answer_lines_up (line_of layout (Err NotUtf8) n (utf8_lossy line)) is)

@@ -1,21 +1,25 @@
 -- The object of a line reads back as its members.
-use Rattle.std.proofs.Common.{◌≡◌, ℕ, zero, suc, ◌+◌, ◌≤◌, ◌==◌, List, [], ◌∷◌, ◌++◌, Bool, true, false, not, ◌&&◌, ◌||◌, Option, Some, None, if◌then◌else◌, refl, flat_map, length, arith}
+use Rattle.std.proofs.Common.{◌≡◌, ℕ, zero, suc, ◌+◌, ◌≤◌, ◌==◌, List, [], ◌∷◌, ◌++◌, Bool, true, false, not, ◌&&◌, ◌||◌, Option, Some, None, Result, Ok, Err, option_map, if◌then◌else◌, refl, flat_map, length, arith}
 use Rattle.std.specs.List.{AllByRecursion}
+use Rattle.std.specs.Option.{option_to_list}
 use Rattle.std.specs.Str.{bytes_eq}
 use Rattle.grok.specs.Maps.{Texts}
 use Rattle.grok.specs.Numeral.{numeral}
-use Rattle.json.specs.Json.{Json, null, boolean, number, string, array, object, Members, no_members, member, document}
+use Rattle.json.specs.Json.{Json, null, boolean, number, string, array, object, Members, no_members, member}
 use Rattle.json.specs.Print.{IsNumber}
 use Rattle.json.specs.Tree.{HasNumbers, ItemsHaveNumbers, MembersHaveNumbers, depth, items_depth, members_depth}
 use Rattle.json.proofs.Printed.Trees.{document-print}
-use Rattle.groklog_answers.specs.Layouts.{LayoutValue, is_chosen, failure_words}
+use Rattle.groklog_answers.specs.Layouts.{LayoutValue, is_chosen}
 use Rattle.groklog_answers.specs.Patterns.{MatchText}
 use Rattle.groklog_answers.specs.Plans.{FieldText, IsShallow}
+use Rattle.groklog_answers.specs.AnsweredTexts.{AnsweredText, added_text}
+use Rattle.groklog_answers.specs.declared.layout.Addition.{Addition}
+use Rattle.groklog_answers.specs.declared.layout.Addition.TheVariants.{Number, File, Failed, Tag, Line}
 use Rattle.groklog_answers.specs.declared.layout.Failure.{Failure}
 use Rattle.groklog_answers.specs.Values.{is_written_as_number, number_form, json_value}
 use Rattle.groklog_answers.specs.PlannedFields.{kept_value, written_value, key_values, extract_for, items_of, one_or_array, members_in, is_object, inside, after, put, put_field, planned_members}
-use Rattle.groklog_answers.specs.Objects.{KeyValues, members_of, pairs_of, typed_pair, field_members, fields_by, optional_member, number_member, failure_tag, place_members, match_members, unmatched_members, object_text}
-use Rattle.groklog_answers.specs.AnswerLaws.{HasShallowPlan, MatchesReadBack, UnmatchedLinesReadBack}
+use Rattle.groklog_answers.specs.Objects.{KeyValues, members_of, pairs_of, typed_pair, field_members, added_members, fields_by, fields_of, failure_tag, answer_members}
+use Rattle.groklog_answers.specs.AnswerLaws.{HasShallowPlan, IsShallowLine, AnswersReadBack}
 use Rattle.groklog_answers.proofs.NumbersAreJson.{written_is_number}
 use Rattle.groklog_answers.proofs.NumeralsAreJson.{numeral_is_number}
 
@@ -55,13 +59,24 @@ both_hold : (P : Json → Type 0) (a b : KeyValues) → AllValues P a → AllVal
 both_hold P [] b h k = k
 both_hold P (pair ∷ a) b h k = (h.0, both_hold P a b h.1 k)
 
-optional_holds : (P : Json → Type 0) → HoldsOfParts P → (name : Option (List ℕ)) (text : List ℕ) → AllValues P (optional_member name text)
-optional_holds P parts None text = tt
-optional_holds P parts (Some name) text = (parts.strings text, tt)
+optional_holds : (P : Json → Type 0) → HoldsOfParts P → (key : List ℕ) (text : Option (List ℕ))
+    → AllValues P (option_to_list (option_map (λ text. (key, string text)) text))
+optional_holds P parts key None = tt
+optional_holds P parts key (Some text) = (parts.strings text, tt)
 
-number_holds : (P : Json → Type 0) → HoldsOfParts P → (name : Option (List ℕ)) (n : ℕ) → AllValues P (number_member name n)
-number_holds P parts None n = tt
-number_holds P parts (Some name) n = (parts.numbers n, tt)
+added_holds : (P : Json → Type 0) → HoldsOfParts P → (line : AnsweredText) (what : Addition) (key : List ℕ)
+    → AllValues P (added_members line (what, key))
+added_holds P parts line Number key = (parts.numbers line.number, tt)
+added_holds P parts line File key = (parts.strings line.layout.file_name, tt)
+added_holds P parts line Failed key = optional_holds P parts key (added_text line Failed)
+added_holds P parts line Tag key = optional_holds P parts key (added_text line Tag)
+added_holds P parts line Line key = (parts.strings line.text, tt)
+
+additions_hold : (P : Json → Type 0) → HoldsOfParts P → (line : AnsweredText) (additions : List (Addition × List ℕ))
+    → AllValues P (flat_map (added_members line) additions)
+additions_hold P parts line [] = tt
+additions_hold P parts line (added ∷ more) =
+    both_hold P _ _ (added_holds P parts line added.0 added.1) (additions_hold P parts line more)
 
 tag_holds : (P : Json → Type 0) → HoldsOfParts P → (tags_failures : Bool) → AllValues P (failure_tag tags_failures)
 tag_holds P parts true = parts.tags
@@ -81,23 +96,11 @@ pairs_hold P parts layout extracts (pair ∷ pairs) =
     (parts.values (extract_for layout.typed extracts pair.0) pair.1))
     (pairs_hold P parts layout extracts pairs)
 
-place_holds : (P : Json → Type 0) → HoldsOfParts P → (layout : LayoutValue) (n : ℕ) → AllValues P (place_members layout n)
-place_holds P parts layout n =
-    both_hold P _ _ (number_holds P parts layout.number n) (optional_holds P parts layout.file layout.file_name)
-
-match_holds : (P : Json → Type 0) → HoldsOfParts P → (layout : LayoutValue) (found : MatchText) (n : ℕ) (line : List ℕ)
-    → AllValues P (fields_by layout found found.plan) → AllValues P (match_members layout found n line)
-match_holds P parts layout found n line fields =
-    both_hold P _ _ (place_holds P parts layout n)
-    (both_hold P _ _ (optional_holds P parts layout.tag found.tag)
-    (both_hold P _ _ fields (optional_holds P parts layout.keep line)))
-
-unmatched_holds : (P : Json → Type 0) → HoldsOfParts P → (layout : LayoutValue) (n : ℕ) (why : Failure) (line : List ℕ)
-    → AllValues P (unmatched_members layout n why line)
-unmatched_holds P parts layout n why line =
-    both_hold P _ _ (place_holds P parts layout n)
-    (both_hold P _ _ (optional_holds P parts layout.failed (failure_words why))
-    (both_hold P _ _ (tag_holds P parts layout.tags_failures) (optional_holds P parts layout.keep line)))
+answer_holds : (P : Json → Type 0) → HoldsOfParts P → (line : AnsweredText)
+    → AllValues P (fields_of line.layout line.found) → AllValues P (answer_members line)
+answer_holds P parts line fields =
+    both_hold P _ _ (additions_hold P parts line line.layout.before)
+    (both_hold P _ _ fields (additions_hold P parts line line.layout.after))
 
 -- ---- numbers
 
@@ -185,17 +188,14 @@ members_have_numbers : (members : KeyValues) → AllValues HasNumbers members �
 members_have_numbers [] h = tt
 members_have_numbers (pair ∷ members) h = (h.0, members_have_numbers members h.1)
 
--- The numbers in an answer with a match are JSON numbers.
-pub match_has_numbers : (layout : LayoutValue) (found : MatchText) (n : ℕ) (line : List ℕ)
-    → MembersHaveNumbers (members_of (match_members layout found n line))
-match_has_numbers layout found n line =
-    members_have_numbers _ (match_holds HasNumbers number_parts layout found n line (fields_have_numbers layout found found.plan))
+line_has_numbers : (layout : LayoutValue) (found : Result MatchText Failure) → AllValues HasNumbers (fields_of layout found)
+line_has_numbers layout (Ok found) = fields_have_numbers layout found found.plan
+line_has_numbers layout (Err why) = tag_holds HasNumbers number_parts layout.tags_failures
 
--- The numbers in an answer to a line without fields are JSON numbers.
-pub unmatched_has_numbers : (layout : LayoutValue) (n : ℕ) (why : Failure) (line : List ℕ)
-    → MembersHaveNumbers (members_of (unmatched_members layout n why line))
-unmatched_has_numbers layout n why line =
-    members_have_numbers _ (unmatched_holds HasNumbers number_parts layout n why line)
+-- The numbers in an answer are JSON numbers.
+pub answer_has_numbers : (line : AnsweredText) → MembersHaveNumbers (members_of (answer_members line))
+answer_has_numbers line =
+    members_have_numbers _ (answer_holds HasNumbers number_parts line (line_has_numbers line.layout line.found))
 
 -- ---- how deep objects are nested
 
@@ -291,24 +291,19 @@ fields_within : (layout : LayoutValue) (found : MatchText) (plan : Option (List 
 fields_within layout found None h = pairs_hold (IsWithin 101) (depth_parts 101 (omega arith)) layout found.extracts found.pairs
 fields_within layout found (Some fields) h = pairs_within _ 101 (plan_within layout found fields h)
 
+line_within : (layout : LayoutValue) (found : Result MatchText Failure) → IsShallowLine found
+    → AllValues (IsWithin 101) (fields_of layout found)
+line_within layout (Ok found) h = fields_within layout found found.plan h
+line_within layout (Err why) h = tag_holds (IsWithin 101) (depth_parts 101 (omega arith)) layout.tags_failures
+
 members_within : (members : KeyValues) (most : ℕ) → AllValues (IsWithin most) members → members_depth (members_of members) ≤ most
 members_within [] most h = omega arith
 members_within (pair ∷ members) most h = let rest = members_within members most h.1 in omega (arith, h.0, rest)
 
--- ---- the laws
+-- ---- the law
 
-reads_back : (members : KeyValues) → MembersHaveNumbers (members_of members) → AllValues (IsWithin 101) members
-    → document (object_text members) ≡ Some (object (members_of members))
-reads_back members numbers within =
-    let shallow = members_within members 101 within in
-    document-print (object (members_of members)) numbers (omega (arith, shallow))
-
-pub matches_read_back : MatchesReadBack
-matches_read_back layout found n line shallow =
-    reads_back _ (match_has_numbers layout found n line)
-    (match_holds (IsWithin 101) (depth_parts 101 (omega arith)) layout found n line (fields_within layout found found.plan shallow))
-
-pub unmatched_lines_read_back : UnmatchedLinesReadBack
-unmatched_lines_read_back layout n why line =
-    reads_back _ (unmatched_has_numbers layout n why line)
-    (unmatched_holds (IsWithin 101) (depth_parts 101 (omega arith)) layout n why line)
+pub answers_read_back : AnswersReadBack
+answers_read_back line shallow =
+    let within = members_within (answer_members line) 101
+    (answer_holds (IsWithin 101) (depth_parts 101 (omega arith)) line (line_within line.layout line.found shallow)) in
+    document-print (object (members_of (answer_members line))) (answer_has_numbers line) (omega (arith, within))

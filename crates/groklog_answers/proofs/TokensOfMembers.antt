@@ -11,7 +11,7 @@ members_are (pair ∷ more) =
     ap (λ ts. Token.key pair.0 ∷ (json_tokens pair.1 ++ ts)) (members_are more)
     ∙ sym (append_assoc (member_tokens pair) (flat_map member_tokens more) (Token.end_object ∷ []))
 
-object_is : (members : KeyValues)
+pub object_is : (members : KeyValues)
     → json_tokens (object (members_of members)) ≡ Token.begin_object ∷ (flat_map member_tokens members ++ Token.end_object ∷ [])
 object_is members = ap (λ ts. Token.begin_object ∷ ts) (members_are members)
 
@@ -21,19 +21,16 @@ tokens_append (pair ∷ more) b =
     ap (λ ts. member_tokens pair ++ ts) (tokens_append more b)
     ∙ sym (append_assoc (member_tokens pair) (flat_map member_tokens more) (flat_map member_tokens b))
 
--- The members are written in four parts: which line it is, the tag or why the line has no fields, the
--- fields or the tag of Logstash, and the line itself.
-pub object_in_four_parts : (a b c d : KeyValues)
-    → json_tokens (object (members_of (a ++ (b ++ (c ++ d)))))
-    ≡ Token.begin_object ∷ ((((flat_map member_tokens a ++ flat_map member_tokens b) ++ flat_map member_tokens c)
-    ++ flat_map member_tokens d) ++ Token.end_object ∷ [])
-object_in_four_parts a b c d =
-    object_is (a ++ (b ++ (c ++ d)))
+-- The members are written in three parts: what is added before the fields, the fields, and what is added
+-- after them.
+pub object_in_three_parts : (a b c : KeyValues)
+    → json_tokens (object (members_of (a ++ (b ++ c))))
+    ≡ Token.begin_object ∷ (((flat_map member_tokens a ++ flat_map member_tokens b) ++ flat_map member_tokens c) ++ Token.end_object ∷ [])
+object_in_three_parts a b c =
+    object_is (a ++ (b ++ c))
     ∙ ap (λ ts. Token.begin_object ∷ (ts ++ Token.end_object ∷ []))
-    (tokens_append a (b ++ (c ++ d)) ∙ ap (λ ts. flat_map member_tokens a ++ ts) (tokens_append b (c ++ d))
-    ∙ ap (λ ts. flat_map member_tokens a ++ (flat_map member_tokens b ++ ts)) (tokens_append c d)
-    ∙ sym (append_assoc (flat_map member_tokens a) (flat_map member_tokens b) (flat_map member_tokens c ++ flat_map member_tokens d))
-    ∙ sym (append_assoc (flat_map member_tokens a ++ flat_map member_tokens b) (flat_map member_tokens c) (flat_map member_tokens d)))
+    (tokens_append a (b ++ c) ∙ ap (λ ts. flat_map member_tokens a ++ ts) (tokens_append b c)
+    ∙ sym (append_assoc (flat_map member_tokens a) (flat_map member_tokens b) (flat_map member_tokens c)))
 
 pub four_tokens : (before : List Token) (a b c d : Token)
     → (((before ++ a ∷ []) ++ b ∷ []) ++ c ∷ []) ++ d ∷ [] ≡ before ++ (a ∷ (b ∷ (c ∷ (d ∷ []))))

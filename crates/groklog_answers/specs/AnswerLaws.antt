@@ -1,5 +1,5 @@
 -- THE LAWS of the answers.
-use Rattle.std.specs.Prelude.{◌≡◌, ◌≢◌, ◌⊎◌, ℕ, ◌+◌, List, [], ◌∷◌, ◌++◌, Option, Some, None, length, map, codes}
+use Rattle.std.specs.Prelude.{◌≡◌, ◌≢◌, ◌⊎◌, ℕ, ◌+◌, List, [], ◌∷◌, ◌++◌, Option, Some, None, Result, Ok, Err, length, map, codes}
 use Rattle.std.specs.List.{AllByRecursion}
 use Rattle.json.specs.Json.{Json as JsonValue, null, boolean, number, string, array, object, Members, no_members, member, document}
 use Rattle.grok_lines.specs.Lines.{IsLine}
@@ -8,8 +8,11 @@ use Rattle.groklog_answers.specs.Layouts.{LayoutValue}
 use Rattle.groklog_answers.specs.Plans.{FieldText, IsShallow}
 use Rattle.groklog_answers.specs.Patterns.{PatternText, MatchText, match_of, first_match}
 use Rattle.groklog_answers.specs.PlannedFields.{field_value, planned_members}
-use Rattle.groklog_answers.specs.Objects.{members_of, match_members, unmatched_members, object_text}
+use Rattle.groklog_answers.specs.AnsweredTexts.{AnsweredText}
+use Rattle.groklog_answers.specs.Objects.{members_of, answer_members, object_text}
 use Rattle.groklog_answers.specs.LogAnswers.{log_answer, log_answers_from}
+use Rattle.groklog_answers.specs.declared.layout.Addition.{Addition}
+use Rattle.groklog_answers.specs.declared.layout.Addition.TheVariants.{Number}
 use Rattle.groklog_answers.specs.declared.layout.Lines.{Lines}
 use Rattle.groklog_answers.specs.declared.layout.Lines.TheVariants.{All, Matched, Unmatched}
 use Rattle.groklog_answers.specs.declared.layout.OutputFormat.TheVariants.{Json}
@@ -40,12 +43,9 @@ abbrev pub with_lines : Lines → LayoutValue → LayoutValue
 with_lines lines layout = record {
   lines = lines;
   format = layout.format;
-  keep = layout.keep;
-  tag = layout.tag;
-  number = layout.number;
-  file = layout.file;
+  before = layout.before;
+  after = layout.after;
   file_name = layout.file_name;
-  failed = layout.failed;
   typed = layout.typed;
   drops_empty = layout.drops_empty;
   fields = layout.fields;
@@ -80,10 +80,15 @@ EachLineHasItsNumber = (layout : LayoutValue) (patterns : List PatternText) (bef
     ++ (log_answer layout patterns (length before + 1) line
     ++ answers_of (log_answers_from layout patterns (length before + 2)) after)
 
+-- What is added isn't a number.
+abbrev pub IsNoNumber : Addition × List ℕ → Type 0
+IsNoNumber added = added.0 ≢ Number
+
 -- If no number is written, the answer depends on the line alone.
 abbrev pub WithoutNumbersLinesStandAlone : Type 0
 WithoutNumbersLinesStandAlone = (layout : LayoutValue) (patterns : List PatternText) (m n : ℕ) (line : List ℕ)
-    → layout.number ≡ None → log_answer layout patterns m line ≡ log_answer layout patterns n line
+    → AllByRecursion IsNoNumber layout.before → AllByRecursion IsNoNumber layout.after
+    → log_answer layout patterns m line ≡ log_answer layout patterns n line
 
 -- ---- plans
 
@@ -134,18 +139,16 @@ abbrev pub HasShallowPlan : Option (List FieldText) → Type 0
 HasShallowPlan None = Unit {0}
 HasShallowPlan (Some fields) = IsShallow fields
 
--- If the object that is written for a match is read as JSON, it has the members that were written,
--- in the same order.
-abbrev pub MatchesReadBack : Type 0
-MatchesReadBack = (layout : LayoutValue) (found : MatchText) (n : ℕ) (line : List ℕ) → HasShallowPlan found.plan
-    → document (object_text (match_members layout found n line)) ≡ Some (object (members_of (match_members layout found n line)))
+-- The line has no match, or one whose plan is so.
+abbrev pub IsShallowLine : Result MatchText Failure → Type 0
+IsShallowLine (Ok found) = HasShallowPlan found.plan
+IsShallowLine (Err why) = Unit {0}
 
--- If the object that is written for a line that no pattern matches is read as JSON, it has the
--- members that were written, in the same order.
-abbrev pub UnmatchedLinesReadBack : Type 0
-UnmatchedLinesReadBack = (layout : LayoutValue) (n : ℕ) (why : Failure) (line : List ℕ)
-    → document (object_text (unmatched_members layout n why line))
-    ≡ Some (object (members_of (unmatched_members layout n why line)))
+-- If the object that is written for a line is read as JSON, it has the members that were written, in the
+-- same order.
+abbrev pub AnswersReadBack : Type 0
+AnswersReadBack = (line : AnsweredText) → IsShallowLine line.found
+    → document (object_text (answer_members line)) ≡ Some (object (members_of (answer_members line)))
 
 -- A JSON answer is empty or one line, whatever the values hold.
 abbrev pub ObjectsAreLines : Type 0

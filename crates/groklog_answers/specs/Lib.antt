@@ -4,6 +4,7 @@ pub mod Plans
 pub mod PlanViews
 pub mod PlannedFields
 pub mod Patterns
+pub mod AnsweredTexts
 pub mod Objects
 pub mod PairTexts
 pub mod Records
@@ -12,6 +13,7 @@ pub mod Views
 pub mod Searches
 pub mod AnswerLaws
 pub mod ValueCounts
+pub mod ValueLists
 pub mod steps
 -- THE WORDS FOR CALLERS: each definition that a contract of a public call uses.
 pub use Rattle.groklog_answers.specs.Layouts.{LayoutValue, layout_value, in_file, failure_words}
@@ -21,5 +23,6 @@ pub use Rattle.groklog_answers.specs.Patterns.{PatternText, MatchText, match_of,
 pub use Rattle.groklog_answers.specs.Records.{values_of, header_record}
 pub use Rattle.groklog_answers.specs.LogAnswers.{log_answer, log_answers_from}
 pub use Rattle.groklog_answers.specs.Views.{pattern_text, found_text_of, patterns_of, layout_of, next_number_of, finds_of, starts_of}
-pub use Rattle.groklog_answers.specs.Searches.{patterns_in, next_number_in, matched_in, unmatched_in, broken_in, HasNumbered}
+pub use Rattle.groklog_answers.specs.Searches.{patterns_in, next_number_in, matched_in, unmatched_in, broken_in, first_index, one_more_at, HasNumbered, HasCounted}
 pub use Rattle.groklog_answers.specs.ValueCounts.{count_of, value_count, most_of, others_of, one_more, IsUnchanged, SetsCount, SkipsValue, counted_values, counted_pair, AreByCount, counts_text}
+pub use Rattle.groklog_answers.specs.ValueLists.{key_value, pairs_text, values_by, list_text, lists_text}

@@ -1,16 +1,19 @@
 -- The JSON object of a line.
-use Rattle.std.specs.Prelude.{ℕ, ◌==◌, List, [], ◌∷◌, ◌++◌, Bool, ◌&&◌, ◌||◌, not, Option, Some, None, if◌then◌else◌, codes, flat_map, length}
+use Rattle.std.specs.Prelude.{ℕ, ◌==◌, List, [], ◌∷◌, ◌++◌, Bool, ◌&&◌, ◌||◌, not, Option, Some, None, Result, Ok, Err, option_map, if◌then◌else◌, codes, flat_map, length}
+use Rattle.std.specs.Option.{option_to_list}
 use Rattle.grok.specs.Maps.{Texts}
-use Rattle.grok.specs.Numeral.{numeral}
 use Rattle.json.specs.Token.{Token}
 use Rattle.json.specs.Json.{Json, string, number, array, object, no_items, item, Members, no_members, member}
 use Rattle.json.specs.Tree.{json_tokens}
 use Rattle.json.specs.Print.{print}
 use Rattle.groklog_answers.specs.Values.{json_value}
-use Rattle.groklog_answers.specs.Layouts.{LayoutValue, is_chosen, failure_words}
+use Rattle.groklog_answers.specs.Layouts.{LayoutValue, is_chosen}
 use Rattle.groklog_answers.specs.Plans.{FieldText}
 use Rattle.groklog_answers.specs.Patterns.{MatchText}
+use Rattle.groklog_answers.specs.AnsweredTexts.{AnsweredText, added_text}
 use Rattle.groklog_answers.specs.PlannedFields.{extract_for, planned_members}
+use Rattle.groklog_answers.specs.declared.layout.Addition.{Addition}
+use Rattle.groklog_answers.specs.declared.layout.Addition.TheVariants.{Number, File, Failed, Tag, Line}
 use Rattle.groklog_answers.specs.declared.layout.Failure.{Failure}
 
 -- The members of an object: keys with their values.
@@ -22,17 +25,18 @@ KeyValues = List (List ℕ × Json)
 abbrev pub typed_pair : Bool → Texts → List ℕ × List ℕ → List ℕ × Json
 typed_pair typed extracts pair = (pair.0, json_value (extract_for typed extracts pair.0) pair.1)
 
--- The member with this key and the string `text`, such as the tag or the line itself. If the key is
--- `None`, there is no member.
-abbrev pub optional_member : Option (List ℕ) → List ℕ → KeyValues
-optional_member None text = []
-optional_member (Some name) text = (name, string text) ∷ []
+-- What is added as it is written: the number of a line as a JSON number, and all else as a string.
+abbrev pub added_json : Addition → List ℕ → Json
+added_json Number text = number text
+added_json File text = string text
+added_json Failed text = string text
+added_json Tag text = string text
+added_json Line text = string text
 
--- The member with this key and the number of a line, which is written as a JSON number. If the key
--- is `None`, there is no member.
-abbrev pub number_member : Option (List ℕ) → ℕ → KeyValues
-number_member None n = []
-number_member (Some name) n = (name, number (numeral n)) ∷ []
+-- The member for what is added. There is none if the line hasn't it.
+abbrev pub added_members : AnsweredText → Addition × List ℕ → KeyValues
+added_members line added =
+    option_to_list (option_map (λ text. (added.1, added_json added.0 text)) (added_text line added.0))
 
 -- The member for a pair of a match. There is none if its key isn't one of `fields`, or if its value is empty and
 -- `drops_empty` is true.
@@ -58,25 +62,16 @@ abbrev pub failure_tag : Bool → KeyValues
 failure_tag tags_failures =
     if tags_failures then (codes "tags", array (item (string (codes "_grokparsefailure")) no_items)) ∷ [] else []
 
--- The members that say which line the n-th one is: its number, and the name of its file.
-abbrev pub place_members : LayoutValue → ℕ → KeyValues
-place_members layout n = number_member layout.number n ++ optional_member layout.file layout.file_name
+-- The members for the fields of a line. One that has none has the tag of Logstash for that.
+abbrev pub fields_of : LayoutValue → Result MatchText Failure → KeyValues
+fields_of layout (Ok found) = fields_by layout found found.plan
+fields_of layout (Err why) = failure_tag layout.tags_failures
 
--- The members of a match in the n-th line: which line it is, the tag, the fields in their order, and
--- the line itself.
-abbrev pub match_members : LayoutValue → MatchText → ℕ → List ℕ → KeyValues
-match_members layout found n line =
-    place_members layout n
-    ++ (optional_member layout.tag found.tag
-    ++ (fields_by layout found found.plan ++ optional_member layout.keep line))
-
--- The members for the n-th line if it has no fields: which line it is, why it has none, also in the
--- way of Logstash, and the line itself.
-abbrev pub unmatched_members : LayoutValue → ℕ → Failure → List ℕ → KeyValues
-unmatched_members layout n why line =
-    place_members layout n
-    ++ (optional_member layout.failed (failure_words why)
-    ++ (failure_tag layout.tags_failures ++ optional_member layout.keep line))
+-- The members of an answer: the fields, and what is added before and after them.
+abbrev pub answer_members : AnsweredText → KeyValues
+answer_members line =
+    flat_map (added_members line) line.layout.before
+    ++ (fields_of line.layout line.found ++ flat_map (added_members line) line.layout.after)
 
 -- The same members, as the kit's `json` has them.
 abbrev pub members_of : KeyValues → Members

@@ -1,17 +1,21 @@
 -- The `KEY=VALUE` lines for a line of a log.
-use Rattle.std.specs.Prelude.{ℕ, ◌==◌, List, [], ◌++◌, ◌&&◌, Option, Some, None, if◌then◌else◌, codes, flat_map, length, option_map}
+use Rattle.std.specs.Prelude.{ℕ, ◌==◌, List, [], ◌++◌, ◌&&◌, Option, Some, None, Result, Ok, Err, if◌then◌else◌, codes, flat_map, length, option_map}
 use Rattle.std.specs.Option.{option_to_list}
-use Rattle.grok.specs.Numeral.{numeral}
 use Rattle.grok_lines.specs.Pairs.{pair_line}
-use Rattle.groklog_answers.specs.Layouts.{LayoutValue, failure_words}
+use Rattle.groklog_answers.specs.Layouts.{LayoutValue}
 use Rattle.groklog_answers.specs.Patterns.{MatchText}
+use Rattle.groklog_answers.specs.AnsweredTexts.{AnsweredText, added_text}
+use Rattle.groklog_answers.specs.declared.layout.Addition.{Addition}
 use Rattle.groklog_answers.specs.declared.layout.Failure.{Failure}
 
--- The `KEY=VALUE` line with this key and the value `text`, such as the tag or the line of the log
--- itself. If the key is `None`, it is the empty text.
-abbrev pub optional_line : Option (List ℕ) → List ℕ → List ℕ
-optional_line None text = []
-optional_line (Some name) text = pair_line (name, text)
+-- The `KEY=VALUE` line with this key. Without a value it is the empty text.
+abbrev pub optional_line : List ℕ → Option (List ℕ) → List ℕ
+optional_line key None = []
+optional_line key (Some value) = pair_line (key, value)
+
+-- The `KEY=VALUE` line for what is added.
+abbrev pub added_line : AnsweredText → Addition × List ℕ → List ℕ
+added_line line added = optional_line added.1 (added_text line added.0)
 
 -- The `KEY=VALUE` line for a pair of a match. It is the empty text if the value is empty and
 -- `drops_empty` is true.
@@ -28,21 +32,13 @@ abbrev pub chosen_pairs : Option (List (List ℕ)) → List (List ℕ × List �
 chosen_pairs None pairs value = pairs
 chosen_pairs (Some names) pairs value = flat_map (pair_of_key value) names
 
--- The lines that say which line the n-th one is: its number, and the name of its file.
-abbrev pub place_lines : LayoutValue → ℕ → List ℕ
-place_lines layout n = optional_line layout.number (numeral n) ++ optional_line layout.file layout.file_name
+-- The `KEY=VALUE` lines for the fields of a line.
+abbrev pub field_lines : LayoutValue → Result MatchText Failure → List ℕ
+field_lines layout (Ok found) = flat_map (field_line layout) (chosen_pairs layout.fields found.pairs found.value)
+field_lines layout (Err why) = []
 
--- What is written for a match in the n-th line: which line it is, the tag, the pairs, the line
--- itself, and an empty line.
-abbrev pub match_lines : LayoutValue → MatchText → ℕ → List ℕ → List ℕ
-match_lines layout found n line =
-    place_lines layout n
-    ++ (optional_line layout.tag found.tag
-    ++ (flat_map (field_line layout) (chosen_pairs layout.fields found.pairs found.value) ++ (optional_line layout.keep line ++ codes "\n")))
-
--- What is written for the n-th line if it has no fields: which line it is, why it has none, the line
--- itself, and an empty line.
-abbrev pub unmatched_lines : LayoutValue → ℕ → Failure → List ℕ → List ℕ
-unmatched_lines layout n why line =
-    place_lines layout n
-    ++ (optional_line layout.failed (failure_words why) ++ (optional_line layout.keep line ++ codes "\n"))
+-- What is written for a line: the fields, what is added before and after them, and an empty line.
+abbrev pub answer_lines : AnsweredText → List ℕ
+answer_lines line =
+    flat_map (added_line line) line.layout.before
+    ++ (field_lines line.layout line.found ++ (flat_map (added_line line) line.layout.after ++ codes "\n"))

@@ -1,5 +1,6 @@
 -- What contracts see of patterns, of their matches, of a `LogAnswers`, and of a `StartPattern`.
-use Rattle.std.specs.Prelude.{ℕ, Bool, List, Option, Some, None, option_map, map}
+use Rattle.std.specs.Prelude.{ℕ, Bool, List, Option, Result, option_map, map}
+use Rattle.std.specs.Result.{result_map_both}
 use Rattle.grok.specs.Engines.{engine_regex}
 use Rattle.grok.specs.RegexFinds.{captures_by}
 use Rattle.grok.specs.Answers.{walk, value_of}
@@ -10,7 +11,9 @@ use Rattle.groklog_answers.specs.Layouts.{LayoutValue, layout_value}
 use Rattle.groklog_answers.specs.Plans.{FieldText}
 use Rattle.groklog_answers.specs.PlanViews.{plan_text}
 use Rattle.groklog_answers.specs.Patterns.{PatternText, MatchText, is_found}
-use Rattle.groklog_answers.specs.Records.{no_value}
+use Rattle.groklog_answers.specs.AnsweredTexts.{AnsweredText}
+use Rattle.groklog_answers.specs.declared.answered_line.AnsweredLine.{AnsweredLine}
+use Rattle.groklog_answers.specs.declared.layout.Failure.{Failure}
 use Rattle.groklog_answers.specs.declared.found.Found.{Found}
 use Rattle.groklog_answers.specs.declared.log_answers.LogAnswers.{LogAnswers}
 use Rattle.groklog_answers.specs.declared.searches.LineMatch.{LineMatch}
@@ -37,11 +40,6 @@ pattern_text named = record {
   plan = named_plan named;
 }
 
--- The value of each key in a match, if there is one.
-abbrev pub value_in : Option MatchesRef → List ℕ → Option (List ℕ)
-value_in None = no_value
-value_in (Some matches) = value_of (borrowed_keys matches) (borrowed_captures matches)
-
 -- What contracts see of a match of the pattern `named`.
 abbrev pub match_text_of : NamedPattern → MatchesRef → MatchText
 match_text_of named matches = record {
@@ -63,6 +61,19 @@ found_text found = match_text_of found.named found.matches
 -- What contracts see of a match that was found.
 abbrev pub found_text_of : LineMatch → MatchText
 found_text_of found = match_text_of found.named found.matches
+
+-- What contracts see of the match of a line, or of why it has no fields.
+abbrev pub outcome_of : Result LineMatch Failure → Result MatchText Failure
+outcome_of = result_map_both found_text_of (λ why. why)
+
+-- What contracts see of a line that is answered.
+abbrev pub answered_text : AnsweredLine → AnsweredText
+answered_text line = record {
+  layout = layout_value line.layout.now;
+  found = outcome_of line.found;
+  number = line.line.number;
+  text = line.line.text.now;
+}
 
 -- The same of a pattern that is searched for in lines. The tag is the text that `--tag` writes.
 abbrev pub searched : Search → PatternText

@@ -1,6 +1,6 @@
 //! Laws of the answers. The functions do nothing: each states a law in its contract, which is
 //! proved.
-ghost use Rattle.groklog_answers.specs.AnswerLaws.{FirstThatMatchesAnswers, NoneThatMatchesIsNoMatch, EachLineIsAnswered, EachAnswerIsOfOneKind, EachLineHasItsNumber, WithoutNumbersLinesStandAlone, EachValueIsAtItsPlace, MatchesReadBack, UnmatchedLinesReadBack, ObjectsAreLines};
+ghost use Rattle.groklog_answers.specs.AnswerLaws.{FirstThatMatchesAnswers, NoneThatMatchesIsNoMatch, EachLineIsAnswered, EachAnswerIsOfOneKind, EachLineHasItsNumber, WithoutNumbersLinesStandAlone, EachValueIsAtItsPlace, AnswersReadBack, ObjectsAreLines};
 
 /// States that the match of the first pattern that matches a line is the one that is written, and
 /// that there is no match if no pattern matches.
@@ -36,9 +36,8 @@ pub fn plans()
 /// States that a JSON answer is one line, unless it is empty. Read as JSON, the object of a line
 /// has the members that were written, in the same order. The plans are those of `Plan`, whose
 /// objects are nested no deeper than readers of JSON take them.
-#[tactic(auto, using(crate::proofs::ObjectsReadBack::matches_read_back, crate::proofs::ObjectsReadBack::unmatched_lines_read_back, crate::proofs::ObjectsAreLines::objects_are_lines))]
+#[tactic(auto, using(crate::proofs::ObjectsReadBack::answers_read_back, crate::proofs::ObjectsAreLines::objects_are_lines))]
 pub fn objects()
-    ensures matches { MatchesReadBack }
-    ensures unmatched { UnmatchedLinesReadBack }
+    ensures read_back { AnswersReadBack }
     ensures lines { ObjectsAreLines }
 {}

@@ -25,26 +25,40 @@ pub enum OutputFormat {
     Csv,
 }
 
+/// What is added to the fields of an answer.
+#[derive(Clone, Copy, PartialEq, Eq)]
+pub enum Addition {
+    /// The number of the line. `LogAnswers` counts the lines from 1.
+    Number,
+    /// The name of the file that the line comes from.
+    File,
+    /// Why the line has no fields. A line with fields hasn't this.
+    Failed,
+    /// The tag of the matching pattern. A line without fields hasn't this.
+    Tag,
+    /// The line itself.
+    Line,
+}
+
+/// What is added to the fields of an answer, with its key.
+#[derive(Clone, Copy)]
+pub struct Added<'a> {
+    pub what: Addition,
+    pub key: &'a str,
+}
+
 /// Which lines are answered, and how an answer is written.
 #[derive(Clone, Copy)]
 pub struct Layout<'a> {
     pub lines: Lines,
     pub format: OutputFormat,
-    /// The key under which the line itself is written, or `None` if it isn't written.
-    pub keep: Option<&'a str>,
-    /// The key under which the tag of the matching pattern is written, or `None` if it isn't
-    /// written.
-    pub tag: Option<&'a str>,
-    /// The key under which the number of the line is written, or `None` if it isn't written.
-    /// `LogAnswers` counts the lines from 1.
-    pub number: Option<&'a str>,
-    /// The key under which the name of the file is written that the line comes from, or `None` if it
-    /// isn't written.
-    pub file: Option<&'a str>,
-    /// The name of that file.
+    /// What an answer has before the fields of patterns, in this order. A record has an empty value for what
+    /// its line hasn't.
+    pub before: &'a [Added<'a>],
+    /// What it has after them.
+    pub after: &'a [Added<'a>],
+    /// The name of the file that the lines come from.
     pub file_name: &'a str,
-    /// The key under which is written why a line has no fields, or `None` if it isn't written.
-    pub failed: Option<&'a str>,
     /// Whether a value is written as a JSON number if the extract of its key is `int` and the value
     /// is an integer, or if the extract is `float` and the value is any number.
     pub typed: bool,

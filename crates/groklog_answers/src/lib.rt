@@ -13,6 +13,7 @@
 #![tactic(auto)]
 
 mod answer_writer;
+mod answered_line;
 mod found;
 pub mod laws;
 mod layout;
@@ -25,13 +26,15 @@ mod record;
 mod searches;
 mod start_pattern;
 mod value_counts;
+mod value_lists;
 mod values;
 
-pub use layout::{Failure, Layout, Lines, OutputFormat};
+pub use layout::{Added, Addition, Failure, Layout, Lines, OutputFormat};
 pub use log_answers::LogAnswers;
 pub use plan::{Clash, Plan, PlanError, SharedKey};
 pub use record::header_of;
 pub use searches::{LineMatch, NamedPattern, Searches};
 pub use start_pattern::StartPattern;
 pub use value_counts::{Counted, ValueCounts};
+pub use value_lists::{KeyValue, list_text, pairs_of_keys};
 pub use values::asks_for_numbers;

@@ -4,17 +4,11 @@ ghost use Rattle.groklog_answers.specs.Layouts.{layout_value, in_file};
 ghost use Rattle.groklog_answers.specs.Views.{pattern_text, patterns_of, layout_of, next_number_of};
 
 use crate::answer_writer::AnswerWriter;
+use crate::answered_line::NumberedLine;
 use crate::layout::{Failure, Layout};
 use crate::searches::{NamedPattern, Searches};
 use grok_lines::{LineAnswers, SkipLines};
 use std::alloc::{AllocError, Global};
-
-/// A line with its number.
-#[derive(Clone, Copy)]
-pub struct NumberedLine<'l> {
-    pub number: u64,
-    pub text: &'l str,
-}
 
 /// Answers each line with the match of the first of its patterns that matches it, and counts the lines.
 ///
@@ -71,12 +65,10 @@ impl LineAnswers for LogAnswers<'_> {
         let number = self.searches.next_number;
         let numbered = NumberedLine { number, text: line };
         let written = match self.searches.find(line)? {
-            Some(found) => self
-                .writer
-                .append_match(text, found.named, found.matches, numbered),
+            Some(found) => self.writer.append_answer(text, Ok(found), numbered),
             None => self
                 .writer
-                .append_unmatched(text, Failure::NoMatch, numbered),
+                .append_answer(text, Err(Failure::NoMatch), numbered),
         };
         if written.is_err() {
             self.searches.next_number = number;
@@ -89,13 +81,13 @@ impl LineAnswers for LogAnswers<'_> {
     #[tactic(auto, using(crate::proofs::LinesAreNumbered::counts_on))]
     fn answer_broken(&mut self, text: &mut Vec<u8>, line: &[u8]) -> Result<(), AllocError> {
         let number = self.searches.next_number;
-        let kept = self.writer.layout.kept_text(self.writer.alloc, line)?;
+        let lossy = self.writer.lossy_text(line)?;
         let line = NumberedLine {
             number,
-            text: kept.as_str(),
+            text: lossy.as_str(),
         };
         self.searches.note_broken()?;
-        let written = self.writer.append_unmatched(text, Failure::NotUtf8, line);
+        let written = self.writer.append_answer(text, Err(Failure::NotUtf8), line);
         if written.is_err() {
             self.searches.next_number = number;
         }

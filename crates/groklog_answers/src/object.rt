@@ -1,37 +1,18 @@
 //! Writes the JSON object of a line.
-ghost use Rattle.std.specs.Prelude.{◌≡◌, ◌++◌, OnOk, IfOk, option_map, flat_map, None, true};
-ghost use Rattle.json.specs.Json.{Json};
+ghost use Rattle.std.specs.Prelude.{◌≡◌, ◌++◌, [], ◌∷◌, OnOk, IfOk, flat_map, map, None, true};
+ghost use Rattle.json.specs.Json.{Json, string};
 ghost use Rattle.json.specs.Tree.{json_tokens};
 ghost use Rattle.grok.specs.Numeral.{numeral};
-ghost use Rattle.groklog_answers.specs.Layouts.{layout_value};
-ghost use Rattle.groklog_answers.specs.Objects.{member_tokens, field_members, optional_member, number_member, failure_tag, fields_by, place_members, match_members, unmatched_members, object_text};
-ghost use Rattle.groklog_answers.specs.Views.{found_layout, found_text};
+ghost use Rattle.groklog_answers.specs.Layouts.{added_pair};
+ghost use Rattle.groklog_answers.specs.Objects.{member_tokens, field_members, added_members, failure_tag, fields_by, fields_of, answer_members, object_text};
+ghost use Rattle.groklog_answers.specs.Views.{found_layout, found_text, answered_text};
 
+use crate::answered_line::AnsweredLine;
 use crate::found::Found;
-use crate::layout::{Failure, Layout};
-use crate::log_answers::NumberedLine;
+use crate::layout::{Added, Addition};
 use crate::planned::write_planned;
-use crate::values::write_value;
 use json::Writer;
 use std::alloc::{AllocError, Global};
-
-/// Writes a member with the key `name`, whose value is the string `text`. If `name` is `None`,
-/// writes nothing.
-pub(crate) fn write_optional(
-    writer: &mut Writer,
-    name: Option<&str>,
-    text: &str,
-) -> Result<(), AllocError>
-    ensures member { OnOk result (writer.new.tokens ≡ writer.old.tokens
-        ++ flat_map member_tokens (optional_member (option_map (λ name. name.now) name.entry) text.now)) }
-    ensures before { writer.new.before ≡ writer.old.before }
-{
-    let Some(name) = name else {
-        return Ok(());
-    };
-    writer.key(name)?;
-    writer.string(text)
-}
 
 /// Writes a number in decimal.
 #[tactic(auto, using(crate::proofs::NumeralsAreJson::numeral_is_decimal))]
@@ -43,26 +24,65 @@ fn write_decimal(writer: &mut Writer, number: u64) -> Result<(), AllocError>
     writer.u64(number)
 }
 
-/// Writes a member with the key `name`, whose value is the number of a line. If `name` is `None`,
-/// writes nothing.
-pub(crate) fn write_number(
-    writer: &mut Writer,
-    name: Option<&str>,
-    number: u64,
-) -> Result<(), AllocError>
+/// Writes a member whose value is a string.
+pub(crate) fn write_string(writer: &mut Writer, key: &str, text: &str) -> Result<(), AllocError>
     ensures member { OnOk result (writer.new.tokens ≡ writer.old.tokens
-        ++ flat_map member_tokens (number_member (option_map (λ name. name.now) name.entry) number)) }
+        ++ flat_map member_tokens ((key.now, string text.now) ∷ [])) }
     ensures before { writer.new.before ≡ writer.old.before }
 {
-    let Some(name) = name else {
-        return Ok(());
-    };
-    writer.key(name)?;
+    writer.key(key)?;
+    writer.string(text)
+}
+
+/// Writes a member whose value is a number.
+pub(crate) fn write_number(writer: &mut Writer, key: &str, number: u64) -> Result<(), AllocError>
+    ensures member { OnOk result (writer.new.tokens ≡ writer.old.tokens
+        ++ flat_map member_tokens ((key.now, Json.number (numeral number)) ∷ [])) }
+    ensures before { writer.new.before ≡ writer.old.before }
+{
+    writer.key(key)?;
     write_decimal(writer, number)
 }
 
-/// Writes a pair of a match. If the layout is typed, the extract of the key decides whether the value
-/// is written as a number. If the layout doesn't choose the key, or drops fields with an empty value and
+/// Writes a member that is added to the fields of a line. If the line hasn't it, writes nothing.
+fn write_added(
+    writer: &mut Writer,
+    line: &AnsweredLine<'_>,
+    added: &Added<'_>,
+) -> Result<(), AllocError>
+    ensures member { OnOk result (writer.new.tokens ≡ writer.old.tokens
+        ++ flat_map member_tokens (added_members (answered_text line.now) (added_pair added.now))) }
+    ensures before { writer.new.before ≡ writer.old.before }
+{
+    let Some(text) = line.added(added.what) else {
+        return Ok(());
+    };
+    match added.what {
+        Addition::Number => write_number(writer, added.key, line.line.number),
+        Addition::File | Addition::Failed | Addition::Tag | Addition::Line => {
+            write_string(writer, added.key, text)
+        }
+    }
+}
+
+/// Writes the members that are added to the fields of a line.
+#[tactic(auto, using(crate::proofs::TokensOfMembers::tokens_append))]
+fn write_additions(
+    writer: &mut Writer,
+    line: &AnsweredLine<'_>,
+    additions: &[Added<'_>],
+) -> Result<(), AllocError>
+    ensures members { OnOk result (writer.new.tokens ≡ writer.old.tokens ++ flat_map member_tokens
+        (flat_map (added_members (answered_text line.now)) (map added_pair additions.now))) }
+    ensures before { writer.new.before ≡ writer.old.before }
+{
+    'additions: for added in additions {
+        write_added(writer, line, added)?;
+    }
+    Ok(())
+}
+
+/// Writes a pair of a match. If the layout doesn't choose the key, or drops fields with an empty value and
 /// this is one, writes nothing.
 fn write_pair(
     alloc: Global,
@@ -79,12 +99,7 @@ fn write_pair(
         return Ok(());
     }
     writer.key(key)?;
-    let extract = if found.layout.typed {
-        found.named.pattern.get_extract(key)
-    } else {
-        None
-    };
-    write_value(alloc, writer, extract, value)
+    found.write_value(alloc, writer, key, value)
 }
 
 /// Writes the pairs of a match.
@@ -101,7 +116,7 @@ fn write_pairs(alloc: Global, writer: &mut Writer, found: &Found<'_>) -> Result<
 }
 
 /// Writes the fields of a match: those of the plan, if the pattern has one, and otherwise the pairs.
-fn write_fields(alloc: Global, writer: &mut Writer, found: &Found<'_>) -> Result<(), AllocError>
+fn write_found(alloc: Global, writer: &mut Writer, found: &Found<'_>) -> Result<(), AllocError>
     ensures members { OnOk result (writer.new.tokens ≡ writer.old.tokens ++ flat_map member_tokens
         (fields_by (found_layout found.now) (found_text found.now) (found_text found.now).plan)) }
     ensures before { writer.new.before ≡ writer.old.before }
@@ -138,56 +153,45 @@ fn write_failure_tag(writer: &mut Writer, tags_failures: bool) -> Result<(), All
     }
 }
 
-/// Writes which line it is: its number and the name of its file, as far as the layout asks for them.
-#[tactic(auto, using(crate::proofs::TokensOfMembers::tokens_append))]
-fn write_place(writer: &mut Writer, layout: &Layout<'_>, number: u64) -> Result<(), AllocError>
-    ensures members { OnOk result (writer.new.tokens ≡ writer.old.tokens
-        ++ flat_map member_tokens (place_members (layout_value layout.now) number)) }
+/// Writes the fields of a line. If it has none, writes the tag of Logstash for that if the layout asks for
+/// it.
+fn write_fields(
+    alloc: Global,
+    writer: &mut Writer,
+    line: &AnsweredLine<'_>,
+) -> Result<(), AllocError>
+    ensures members { OnOk result (writer.new.tokens ≡ writer.old.tokens ++ flat_map member_tokens
+        (fields_of (answered_text line.now).layout (answered_text line.now).found)) }
     ensures before { writer.new.before ≡ writer.old.before }
 {
-    write_number(writer, layout.number, number)?;
-    write_optional(writer, layout.file, layout.file_name)
+    match &line.found {
+        Ok(found) => {
+            let found = Found {
+                layout: line.layout,
+                named: found.named,
+                matches: found.matches,
+            };
+            write_found(alloc, writer, &found)
+        }
+        Err(_) => write_failure_tag(writer, line.layout.tags_failures),
+    }
 }
 
-/// Appends the compact JSON object of a match in this line, and returns the whole text.
-#[tactic(auto, using(crate::proofs::TokensOfMembers::object_in_four_parts))]
-pub fn write_match(
+/// Appends the compact JSON object of a line, and returns the whole text.
+#[tactic(auto, using(crate::proofs::TokensOfMembers::object_in_three_parts))]
+pub fn write_answer(
     alloc: Global,
     text: Vec<u8>,
-    found: &Found<'_>,
-    line: NumberedLine<'_>,
+    line: &AnsweredLine<'_>,
 ) -> Result<Vec<u8>, AllocError>
-    ensures { IfOk result (λ written. written.items ≡ text.items ++ object_text (match_members
-        (found_layout found.now) (found_text found.now) line.entry.number line.entry.text.now)) }
-{
-    let layout = found.layout;
-    let mut writer = Writer::new(text);
-    writer.begin_object()?;
-    write_place(&mut writer, layout, line.number)?;
-    write_optional(&mut writer, layout.tag, found.named.tag)?;
-    write_fields(alloc, &mut writer, found)?;
-    write_optional(&mut writer, layout.keep, line.text)?;
-    writer.end_object()?;
-    Ok(writer.into_inner())
-}
-
-/// Appends the JSON object of a line that has no fields, and returns the whole text.
-#[tactic(auto, using(crate::proofs::TokensOfMembers::object_in_four_parts))]
-pub fn write_unmatched(
-    text: Vec<u8>,
-    layout: &Layout<'_>,
-    why: Failure,
-    line: NumberedLine<'_>,
-) -> Result<Vec<u8>, AllocError>
-    ensures { IfOk result (λ written. written.items ≡ text.items ++ object_text (unmatched_members
-        (layout_value layout.now) line.entry.number why line.entry.text.now)) }
+    ensures { IfOk result (λ written. written.items
+        ≡ text.items ++ object_text (answer_members (answered_text line.now))) }
 {
     let mut writer = Writer::new(text);
     writer.begin_object()?;
-    write_place(&mut writer, layout, line.number)?;
-    write_optional(&mut writer, layout.failed, why.words())?;
-    write_failure_tag(&mut writer, layout.tags_failures)?;
-    write_optional(&mut writer, layout.keep, line.text)?;
+    write_additions(&mut writer, line, line.layout.before)?;
+    write_fields(alloc, &mut writer, line)?;
+    write_additions(&mut writer, line, line.layout.after)?;
     writer.end_object()?;
     Ok(writer.into_inner())
 }

@@ -1,43 +1,32 @@
 //! Writes the `KEY=VALUE` lines for a line of a log.
-ghost use Rattle.std.specs.Prelude.{◌≡◌, ◌++◌, Some, OnOk, option_map, flat_map, map};
+ghost use Rattle.std.specs.Prelude.{◌≡◌, ◌++◌, Some, OnOk, flat_map, map};
 ghost use Rattle.grok.specs.Answers.{walk, value_of};
 ghost use Rattle.grok.specs.BorrowedMatches.{borrowed_keys, borrowed_captures};
-ghost use Rattle.grok.specs.Numeral.{numeral};
-ghost use Rattle.groklog_answers.specs.Layouts.{layout_value};
-ghost use Rattle.groklog_answers.specs.PairTexts.{optional_line, field_line, chosen_pairs, place_lines, match_lines, unmatched_lines};
-ghost use Rattle.groklog_answers.specs.Views.{found_layout, found_text};
+ghost use Rattle.groklog_answers.specs.Layouts.{added_pair, layout_value};
+ghost use Rattle.groklog_answers.specs.PairTexts.{added_line, field_line, field_lines, chosen_pairs, answer_lines};
+ghost use Rattle.groklog_answers.specs.Views.{answered_text};
 
-use crate::found::Found;
-use crate::layout::{Failure, Layout};
-use crate::log_answers::NumberedLine;
+use crate::answered_line::AnsweredLine;
+use crate::layout::{Added, Layout};
 use grok::MatchesRef;
 use grok_lines::append_pair;
-use itoa::Buffer;
 use std::alloc::AllocError;
 
-/// Appends a `KEY=VALUE` line with the key `name`. If `name` is `None`, appends nothing.
-fn append_optional(text: &mut Vec<u8>, name: Option<&str>, value: &str) -> Result<(), AllocError>
+/// Appends a `KEY=VALUE` line for each of these that the line has.
+fn append_additions(
+    text: &mut Vec<u8>,
+    line: &AnsweredLine<'_>,
+    additions: &[Added<'_>],
+) -> Result<(), AllocError>
     ensures { OnOk result (text.new.items ≡ text.old.items
-        ++ optional_line (option_map (λ name. name.now) name.entry) value.now) }
+        ++ flat_map (added_line (answered_text line.now)) (map added_pair additions.now)) }
 {
-    match name {
-        Some(name) => append_pair(text, name, value),
-        None => Ok(()),
+    'additions: for added in additions {
+        if let Some(value) = line.added(added.what) {
+            append_pair(text, added.key, value)?;
+        }
     }
-}
-
-/// Appends a `KEY=VALUE` line with the key `name` and the number of a line. If `name` is `None`,
-/// appends nothing.
-#[tactic(auto, using(crate::proofs::NumeralsAreJson::numeral_is_decimal))]
-fn append_number(text: &mut Vec<u8>, name: Option<&str>, number: u64) -> Result<(), AllocError>
-    ensures { OnOk result (text.new.items ≡ text.old.items
-        ++ optional_line (option_map (λ name. name.now) name.entry) (numeral number)) }
-{
-    let Some(name) = name else {
-        return Ok(());
-    };
-    let mut buffer = Buffer::new();
-    append_pair(text, name, buffer.format(number))
+    Ok(())
 }
 
 /// Appends a `KEY=VALUE` line for a pair of a match. If the layout drops fields with an empty value,
@@ -109,51 +98,28 @@ fn append_pairs(
     }
 }
 
-/// Appends which line it is: its number and the name of its file, as far as the layout asks for them.
-fn append_place(text: &mut Vec<u8>, layout: &Layout<'_>, number: u64) -> Result<(), AllocError>
+/// Appends a `KEY=VALUE` line for each field of a line, if it has any.
+fn append_fields(text: &mut Vec<u8>, line: &AnsweredLine<'_>) -> Result<(), AllocError>
     ensures { OnOk result (text.new.items ≡ text.old.items
-        ++ place_lines (layout_value layout.now) number) }
+        ++ field_lines (answered_text line.now).layout (answered_text line.now).found) }
 {
-    append_number(text, layout.number, number)?;
-    append_optional(text, layout.file, layout.file_name)
+    match &line.found {
+        Ok(found) => append_pairs(text, line.layout, found.matches),
+        Err(_) => Ok(()),
+    }
 }
 
-/// Appends what `--pairs` writes for a line that a pattern matches: a line `KEY=VALUE` for each
-/// value, and an empty line.
+/// Appends what `--pairs` writes for a line: a line `KEY=VALUE` for each value, and an empty line.
 ///
 /// # Errors
 ///
 /// If an allocation fails.
-pub fn append_match(
-    text: &mut Vec<u8>,
-    found: &Found<'_>,
-    line: NumberedLine<'_>,
-) -> Result<(), AllocError>
-    ensures { OnOk result (text.new.items ≡ text.old.items ++ match_lines (found_layout found.now)
-        (found_text found.now) line.entry.number line.entry.text.now) }
+pub fn append_answer(text: &mut Vec<u8>, line: &AnsweredLine<'_>) -> Result<(), AllocError>
+    ensures { OnOk result (text.new.items ≡ text.old.items ++ answer_lines (answered_text line.now)) }
 {
-    let layout = found.layout;
-    append_place(text, layout, line.number)?;
-    append_optional(text, layout.tag, found.named.tag)?;
-    append_pairs(text, layout, found.matches)?;
-    append_optional(text, layout.keep, line.text)?;
-    text.push(b'\n')?;
-    Ok(())
-}
-
-/// Appends the `KEY=VALUE` lines for a line that has no fields, and an empty line.
-pub fn append_unmatched(
-    text: &mut Vec<u8>,
-    layout: &Layout<'_>,
-    why: Failure,
-    line: NumberedLine<'_>,
-) -> Result<(), AllocError>
-    ensures { OnOk result (text.new.items ≡ text.old.items
-        ++ unmatched_lines (layout_value layout.now) line.entry.number why line.entry.text.now) }
-{
-    append_place(text, layout, line.number)?;
-    append_optional(text, layout.failed, why.words())?;
-    append_optional(text, layout.keep, line.text)?;
+    append_additions(text, line, line.layout.before)?;
+    append_fields(text, line)?;
+    append_additions(text, line, line.layout.after)?;
     text.push(b'\n')?;
     Ok(())
 }

@@ -13,7 +13,6 @@ ghost use Rattle.groklog_answers.specs.steps.OpenObjects.{closing, opening, shar
 
 use crate::found::Found;
 use crate::plan::{Field, shared_len};
-use crate::values::write_value;
 use json::Writer;
 use std::alloc::{AllocError, Global};
 
@@ -67,12 +66,7 @@ fn write_key_value(
     let Some(value) = found.value(key) else {
         return Ok(());
     };
-    let extract = if found.layout.typed {
-        found.named.pattern.get_extract(key)
-    } else {
-        None
-    };
-    write_value(alloc, writer, extract, value)
+    found.write_value(alloc, writer, key, value)
 }
 
 /// Writes the values of these keys, in their order.

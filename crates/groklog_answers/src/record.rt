@@ -1,18 +1,13 @@
 //! Writes the record of comma-separated values for a line of a log.
-ghost use Rattle.std.specs.Prelude.{◌≡◌, ◌++◌, IfOk, OnOk, option_map, map};
-ghost use Rattle.std.specs.Option.{option_to_list};
+ghost use Rattle.std.specs.Prelude.{◌≡◌, ◌++◌, IfOk, OnOk, map};
 ghost use Rattle.csv.specs.Writing.{default_writer, row_text};
-ghost use Rattle.grok.specs.Numeral.{numeral};
-ghost use Rattle.groklog_answers.specs.Layouts.{layout_value, failure_words};
-ghost use Rattle.groklog_answers.specs.Records.{optional_value, columns_of, value_or_empty, match_record, unmatched_record, header_record};
-ghost use Rattle.groklog_answers.specs.Views.{found_layout, found_text, value_in};
+ghost use Rattle.groklog_answers.specs.Layouts.{added_pair, layout_value};
+ghost use Rattle.groklog_answers.specs.Records.{value_in, added_value, columns_of, value_or_empty, answer_record, header_record};
+ghost use Rattle.groklog_answers.specs.Views.{answered_text};
 
-use crate::found::Found;
-use crate::layout::{Failure, Layout};
-use crate::log_answers::NumberedLine;
+use crate::answered_line::AnsweredLine;
+use crate::layout::{Added, Layout};
 use csv::{Error, WriterBuilder};
-use grok::MatchesRef;
-use itoa::Buffer;
 use std::alloc::{AllocError, Global};
 
 /// The values of a record so far.
@@ -46,48 +41,68 @@ pub fn append_record(alloc: Global, text: &mut Vec<u8>, values: &[&[u8]]) -> Res
     }
 }
 
-/// Adds the value of a column that an option asks for. If it names no key, adds nothing.
-fn add_optional<'v>(
+impl AnsweredLine<'_> {
+    /// Returns the value of a key. It is empty if the line has none.
+    fn value(&self, name: &str) -> &str
+        ensures { result.now ≡ value_or_empty (value_in (answered_text self.now).found) name.now }
+    {
+        match &self.found {
+            Ok(found) => found.matches.get(name).unwrap_or(""),
+            Err(_) => "",
+        }
+    }
+
+    /// Returns the value of what is added. It is empty if the line hasn't it.
+    fn added_value(&self, added: &Added<'_>) -> &str
+        ensures { result.now ≡ added_value (answered_text self.now) (added_pair added.now) }
+    {
+        self.added(added.what).unwrap_or("")
+    }
+}
+
+/// Adds the values of the chosen keys in a line, with an empty value for each that it hasn't.
+fn add_values<'v>(
     values: &mut Values<'v>,
-    name: Option<&str>,
-    value: &'v str,
+    line: &'v AnsweredLine<'_>,
+    names: &[&str],
 ) -> Result<(), AllocError>
     ensures { OnOk result (map (λ value. value.now) values.new.items ≡ map (λ value. value.now) values.old.items
-        ++ optional_value (option_map (λ name. name.now) name.entry) value.now) }
+        ++ map (value_or_empty (value_in (answered_text line.now).found)) (map (λ name. name.now) names.now)) }
 {
-    if name.is_some() {
-        values.push(value.as_bytes())?;
+    'names: for name in names {
+        values.push(line.value(name).as_bytes())?;
     }
     Ok(())
 }
 
-/// Returns the value of a key in a match. It is empty if the key has none, or if there is no match.
-fn value_of<'m>(matches: Option<MatchesRef<'m>>, name: &str) -> &'m str
-    ensures { result.now ≡ value_or_empty (value_in matches.entry) name.now }
-{
-    match matches {
-        Some(matches) => matches.get(name).unwrap_or(""),
-        None => "",
-    }
-}
-
-/// Adds the values of the chosen keys in a match, or an empty value for each if there is no match.
-fn add_values<'v>(
+/// Adds the values of what is added to the fields of a line, with an empty value for what it hasn't.
+fn add_additions<'v>(
     values: &mut Values<'v>,
-    names: &[&str],
-    matches: Option<MatchesRef<'v>>,
+    line: &'v AnsweredLine<'_>,
+    additions: &[Added<'_>],
 ) -> Result<(), AllocError>
     ensures { OnOk result (map (λ value. value.now) values.new.items ≡ map (λ value. value.now) values.old.items
-        ++ map (value_or_empty (value_in matches.entry)) (map (λ name. name.now) names.now)) }
+        ++ map (added_value (answered_text line.now)) (map added_pair additions.now)) }
 {
-    'names: for name in names {
-        values.push(value_of(matches, name).as_bytes())?;
+    'additions: for added in additions {
+        values.push(line.added_value(added).as_bytes())?;
+    }
+    Ok(())
+}
+
+/// Adds the keys of what is added to the fields of a line.
+fn add_keys<'v>(values: &mut Values<'v>, additions: &[Added<'v>]) -> Result<(), AllocError>
+    ensures { OnOk result (map (λ value. value.now) values.new.items ≡ map (λ value. value.now) values.old.items
+        ++ map (λ added. added.1) (map added_pair additions.now)) }
+{
+    'additions: for added in additions {
+        values.push(added.key.as_bytes())?;
     }
     Ok(())
 }
 
 /// Adds the names of columns.
-fn add_names<'v>(values: &mut Values<'v>, names: &[&'v str]) -> Result<(), AllocError>
+pub(crate) fn add_names<'v>(values: &mut Values<'v>, names: &[&'v str]) -> Result<(), AllocError>
     ensures { OnOk result (map (λ value. value.now) values.new.items ≡ map (λ value. value.now) values.old.items
         ++ map (λ name. name.now) names.now) }
 {
@@ -106,70 +121,23 @@ impl<'a> Layout<'a> {
     }
 }
 
-/// Appends the record of a match in this line.
+/// Appends the record of a line.
 ///
 /// # Errors
 ///
 /// If an allocation fails.
-#[tactic(auto, using(crate::proofs::NumeralsAreJson::numeral_is_decimal))]
-pub fn append_match(
+pub fn append_answer(
     alloc: Global,
     text: &mut Vec<u8>,
-    found: &Found<'_>,
-    line: NumberedLine<'_>,
+    line: &AnsweredLine<'_>,
 ) -> Result<(), AllocError>
-    ensures { OnOk result (text.new.items ≡ text.old.items ++ match_record (found_layout found.now)
-        (found_text found.now) line.entry.number line.entry.text.now) }
+    ensures { OnOk result (text.new.items ≡ text.old.items ++ answer_record (answered_text line.now)) }
 {
-    let layout = found.layout;
-    let mut number = Buffer::new();
     let mut values = Vec::new(alloc);
-    add_optional(&mut values, layout.number, number.format(line.number))?;
-    add_optional(&mut values, layout.file, layout.file_name)?;
-    add_optional(&mut values, layout.failed, "")?;
-    add_optional(&mut values, layout.tag, found.named.tag)?;
-    add_values(&mut values, layout.columns(), Some(found.matches))?;
-    add_optional(&mut values, layout.keep, line.text)?;
+    add_additions(&mut values, line, line.layout.before)?;
+    add_values(&mut values, line, line.layout.columns())?;
+    add_additions(&mut values, line, line.layout.after)?;
     append_record(alloc, text, &values)
-}
-
-/// Appends the record of a line that has no fields.
-///
-/// # Errors
-///
-/// If an allocation fails.
-#[tactic(auto, using(crate::proofs::NumeralsAreJson::numeral_is_decimal))]
-pub fn append_unmatched(
-    alloc: Global,
-    text: &mut Vec<u8>,
-    layout: &Layout<'_>,
-    why: Failure,
-    line: NumberedLine<'_>,
-) -> Result<(), AllocError>
-    ensures { OnOk result (text.new.items ≡ text.old.items
-        ++ unmatched_record (layout_value layout.now) line.entry.number why line.entry.text.now) }
-{
-    let mut number = Buffer::new();
-    let mut values = Vec::new(alloc);
-    let no_match: Option<MatchesRef<'static>> = None;
-    add_optional(&mut values, layout.number, number.format(line.number))?;
-    add_optional(&mut values, layout.file, layout.file_name)?;
-    add_optional(&mut values, layout.failed, why.words())?;
-    add_optional(&mut values, layout.tag, "")?;
-    add_values(&mut values, layout.columns(), no_match)?;
-    add_optional(&mut values, layout.keep, line.text)?;
-    append_record(alloc, text, &values)
-}
-
-/// Adds the name of a column, if there is one.
-fn add_name<'v>(values: &mut Values<'v>, name: Option<&'v str>) -> Result<(), AllocError>
-    ensures { OnOk result (map (λ value. value.now) values.new.items ≡ map (λ value. value.now) values.old.items
-        ++ option_to_list (option_map (λ name. name.now) name.entry)) }
-{
-    if let Some(name) = name {
-        values.push(name.as_bytes())?;
-    }
-    Ok(())
 }
 
 /// Returns the record that names the columns of the other ones.
@@ -181,12 +149,9 @@ pub fn header_of(alloc: Global, layout: &Layout<'_>) -> Result<Vec<u8>, AllocErr
     ensures { IfOk result (λ text. text.items ≡ header_record (layout_value layout.now)) }
 {
     let mut values = Vec::new(alloc);
-    add_name(&mut values, layout.number)?;
-    add_name(&mut values, layout.file)?;
-    add_name(&mut values, layout.failed)?;
-    add_name(&mut values, layout.tag)?;
+    add_keys(&mut values, layout.before)?;
     add_names(&mut values, layout.columns())?;
-    add_name(&mut values, layout.keep)?;
+    add_keys(&mut values, layout.after)?;
     let mut text = Vec::new(alloc);
     append_record(alloc, &mut text, &values)?;
     Ok(text)

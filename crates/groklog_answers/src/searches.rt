@@ -7,7 +7,7 @@ ghost use mir.Syntax.{named};
 ghost use Rattle.grok.specs.{borrowed_line};
 ghost use Rattle.groklog_answers.specs.Patterns.{match_of, first_match};
 ghost use Rattle.groklog_answers.specs.Views.{pattern_text, searched, found_text_of};
-ghost use Rattle.groklog_answers.specs.Searches.{patterns_in, next_number_in, matched_in, unmatched_in, broken_in, HasNumbered, HasMatch, HasFirstMatch};
+ghost use Rattle.groklog_answers.specs.Searches.{patterns_in, next_number_in, matched_in, unmatched_in, broken_in, first_index, one_more_at, HasNumbered, HasCounted, HasMatch, HasFirstMatch};
 
 use crate::plan::Plan;
 use grok::{LineSearch, MatchesRef, Pattern};
@@ -104,6 +104,7 @@ impl<'p> Search<'p> {
     where
         'p: 'm,
         requires { HasMatch line.now self.now }
+        ensures index { result.index ≡ index }
         ensures found { Some (found_text_of result) ≡ match_of (searched self.now) line.now }
         ensures line { borrowed_line result.matches ≡ line.now }
     {
@@ -115,9 +116,13 @@ impl<'p> Search<'p> {
     }
 }
 
-/// Returns the index of the first of these patterns that matches the line, or `None` if none does.
+/// Returns the index of the first of these patterns that matches the line, or `None` if none does. Counts
+/// the line for that pattern.
 #[inline(always)]
 fn find_first(searches: &mut [Search<'_>], line: &str) -> Result<Option<usize>, AllocError>
+    ensures index { IfOk result (λ index. index ≡ first_index (map searched searches.old) line.now) }
+    ensures count { IfOk result (λ index. map (λ search. search.matched) searches.new
+        ≡ one_more_at index (map (λ search. search.matched) searches.old)) }
     ensures none { IfOk result (λ index. index ≡ None → first_match (map searched searches.old) line.now ≡ None) }
     ensures inside { IfOk result (λ index. IfSome index (λ i. i < length searches.new)) }
     ensures some { IfOk result (λ index. IfSome index (HoldsAt (HasFirstMatch (map searched searches.old) line.now) searches.new)) }
@@ -138,6 +143,7 @@ where
     'p: 'm,
     requires inside { index < length searches.now }
     requires found { HoldsAt (HasMatch line.now) searches.now index }
+    ensures index { result.index ≡ index }
     ensures found { HoldsAt (λ search. Some (found_text_of result) ≡ match_of (searched search) line.now) searches.now index }
     ensures line { borrowed_line result.matches ≡ line.now }
 {
@@ -184,9 +190,11 @@ impl<'p> Searches<'p> {
     where
         'p: 'm,
         ensures found { IfOk result (λ found. option_map found_text_of found ≡ first_match (patterns_in self.old) line.now) }
+        ensures index { IfOk result (λ found. option_map (λ found. found.index) found ≡ first_index (patterns_in self.old) line.now) }
         ensures line { IfOk result (λ found. IfSome found (λ found. borrowed_line found.matches ≡ line.now)) }
         ensures* after { sem 𝓛 (Rests (the_row (record { mir = named 0; lft = [] })) self.entry
-            (λ last. HasNumbered self.entry.now last result)) }
+            (λ last. HasNumbered self.entry.now last result
+            × OnOk result (HasCounted self.entry.now last (first_index (patterns_in self.entry.now) line.now)))) }
     {
         let next_number = number_after(self.next_number)?;
         match find_first(&mut self.searches, line)? {
@@ -208,7 +216,10 @@ impl<'p> Searches<'p> {
     ///
     /// If the line would have no number.
     pub fn note_broken(&mut self) -> Result<(), AllocError>
-        ensures { HasNumbered self.old self.new result }
+        ensures number { HasNumbered self.old self.new result }
+        ensures broken { OnOk result (broken_in self.new ≡ broken_in self.old + 1) }
+        ensures matched { matched_in self.new ≡ matched_in self.old }
+        ensures unmatched { unmatched_in self.new ≡ unmatched_in self.old }
     {
         let next_number = number_after(self.next_number)?;
         self.broken = number_after(self.broken)?;

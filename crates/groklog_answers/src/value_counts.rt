@@ -1,10 +1,12 @@
 //! Counts how often each value of a key comes.
 ghost use Rattle.std.specs.Prelude.{◌≡◌, ℕ, ◌<◌, ◌≤◌, ◌^◌, All, List, Some, None, ◌++◌, map, flat_map, IfOk, OnOk, OnErr, is_some, string_bytes};
+ghost use Rattle.groklog_answers.specs.PlanViews.{names_of};
+ghost use Rattle.groklog_answers.specs.ValueLists.{frame_text, frame_of, framed_list, list_header, lists_text};
 ghost use Rattle.groklog_answers.specs.ValueCounts.{count_of, value_count, most_of, others_of, one_more, IsUnchanged, SetsCount, SkipsValue, counted_values, counted_pair, AreByCount, counted_object, counted_record, counts_text};
 
 use crate::layout::OutputFormat;
-use crate::object::{write_number, write_optional};
-use crate::record::append_record;
+use crate::object::{write_number, write_string};
+use crate::record::{add_names, append_record};
 use itoa::Buffer;
 use json::Writer;
 use std::alloc::{AllocError, Global};
@@ -45,8 +47,8 @@ fn write_object(text: Vec<u8>, counted: Counted<'_>) -> Result<Vec<u8>, AllocErr
 {
     let mut writer = Writer::new(text);
     writer.begin_object()?;
-    write_optional(&mut writer, Some("value"), counted.value)?;
-    write_number(&mut writer, Some("count"), counted.count)?;
+    write_string(&mut writer, "value", counted.value)?;
+    write_number(&mut writer, "count", counted.count)?;
     writer.end_object()?;
     let mut text = writer.into_inner();
     text.push(b'\n')?;
@@ -86,6 +88,77 @@ fn records_of(alloc: Global, all: &[Counted<'_>]) -> Result<Vec<u8>, AllocError>
     append_record(alloc, &mut text, &[b"value", b"count"])?;
     'values: for counted in all {
         append_counted(alloc, &mut text, counted.value, counted.count)?;
+    }
+    Ok(text)
+}
+
+/// What stands around a list of values and its count.
+#[derive(Clone, Copy)]
+struct ListFrame {
+    before: &'static str,
+    between: &'static str,
+    after: &'static str,
+}
+
+/// Returns what stands around a list of values and its count in this format.
+fn frame_of(format: OutputFormat) -> ListFrame
+    ensures { frame_text result ≡ frame_of format }
+{
+    match format {
+        OutputFormat::Csv => ListFrame {
+            before: "",
+            between: ",",
+            after: "\n",
+        },
+        OutputFormat::Json | OutputFormat::Pairs => ListFrame {
+            before: "{\"value\":",
+            between: ",\"count\":",
+            after: "}\n",
+        },
+    }
+}
+
+/// Returns a list of values, which was counted by its text, and its count as they are written.
+fn framed_list(alloc: Global, frame: ListFrame, counted: Counted<'_>) -> Result<String, AllocError>
+    ensures { IfOk result (λ text. string_bytes text
+        ≡ framed_list (frame_text frame) (counted_pair counted.entry)) }
+{
+    let (value, count) = (counted.value, counted.count);
+    format!(in alloc;
+        "{}{value}{}{count}{}",
+        frame.before, frame.between, frame.after
+    )
+}
+
+/// Returns the header of records with a column for each of these keys, and one for the count. JSON objects
+/// have none.
+fn list_header(alloc: Global, format: OutputFormat, keys: &[&str]) -> Result<Vec<u8>, AllocError>
+    ensures { IfOk result (λ text. text.items ≡ list_header format (names_of keys.now)) }
+{
+    let mut text = Vec::new(alloc);
+    if let OutputFormat::Csv = format {
+        let mut names = Vec::new(alloc);
+        add_names(&mut names, keys)?;
+        names.push("count".as_bytes())?;
+        append_record(alloc, &mut text, &names)?;
+    }
+    Ok(text)
+}
+
+/// Appends all lists of values with their counts to a text, and returns it.
+fn append_lists(
+    alloc: Global,
+    text: Vec<u8>,
+    frame: ListFrame,
+    all: &[Counted<'_>],
+) -> Result<Vec<u8>, AllocError>
+    ensures { IfOk result (λ written. written.items ≡ text.items
+        ++ flat_map (framed_list (frame_text frame)) (map counted_pair all.now)) }
+{
+    let mut text = text;
+    'values: for counted in all {
+        let line = framed_list(alloc, frame, *counted)?;
+        text.extend_from_slice(line.as_bytes())?;
     }
     Ok(text)
 }
@@ -194,5 +267,19 @@ impl ValueCounts {
             OutputFormat::Csv => records_of(self.alloc, &all),
             OutputFormat::Json | OutputFormat::Pairs => objects_of(self.alloc, &all),
         }
+    }
+    /// Returns the same if the values of these keys were counted together, by their texts. A record has
+    /// a column for each key.
+    ///
+    /// # Errors
+    ///
+    /// If an allocation fails.
+    pub fn text_of_lists(&self, format: OutputFormat, keys: &[&str]) -> Result<Vec<u8>, AllocError>
+        ensures { IfOk result (λ text. (pairs : List (List ℕ × ℕ)) × AreByCount self.now pairs
+            × (text.items ≡ lists_text format (names_of keys.now) pairs)) }
+    {
+        let all = self.sorted()?;
+        let header = list_header(self.alloc, format, keys)?;
+        append_lists(self.alloc, header, frame_of(format), &all)
     }
 }

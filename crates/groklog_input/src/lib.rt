@@ -14,6 +14,7 @@ mod failure;
 mod fault;
 mod formed_answers;
 mod line_form;
+mod unit;
 mod visible_text;
 mod watched;
 
@@ -22,5 +23,6 @@ pub use failure::Failure;
 pub use fault::{Fault, FaultyPart, Report};
 pub use formed_answers::FormedAnswers;
 pub use line_form::{Encoding, LineForm, Signs};
+pub use unit::Unit;
 pub use visible_text::visible;
 pub use watched::Watched;
