@@ -31,6 +31,8 @@ pub(crate) struct Template<'l> {
 enum Next {
     /// A token of this kind.
     Token(Kind),
+    /// Blanks in some lines, and after them or without them a token of the same kind.
+    OptionalBlank,
     /// Tokens of different kinds, after which most lines agree again.
     Gap,
     /// Nothing.
@@ -59,6 +61,16 @@ impl<'l> Row<'l> {
     /// Returns the next token.
     fn next(&self) -> Option<Token<'l>> {
         self.tokens.as_slice().get(self.at).copied()
+    }
+
+    /// Returns the kind of the next token that isn't blank.
+    fn kind_after_blanks(&self) -> Option<Kind> {
+        let next = self.next()?;
+        if next.kind != Kind::Blank {
+            return Some(next.kind);
+        }
+        let after = self.tokens.as_slice().get(self.at.saturating_add(1))?;
+        Some(after.kind)
     }
 
     /// Returns the kind of the first token of the line.
@@ -188,6 +200,22 @@ impl<'l> Aligner<'l> {
             .count()
     }
 
+    /// Returns whether the lines agree on what comes next apart from blanks.
+    fn agrees_after_blanks(&self) -> Result<bool, AllocError> {
+        let mut counts = Vec::new(self.alloc);
+        for row in &self.rows {
+            if row.is_active {
+                count_kind(&mut counts, row.kind_after_blanks())?;
+            }
+        }
+        let active = self.active();
+        Ok(
+            counts.iter().any(|count: &Count| {
+                count.kind.is_some() && active.saturating_sub(count.lines) <= self.spare
+            }),
+        )
+    }
+
     /// Returns what comes next.
     fn next(&self) -> Result<Next, AllocError> {
         let mut counts = Vec::new(self.alloc);
@@ -206,6 +234,9 @@ impl<'l> Aligner<'l> {
                     Some(kind) => Next::Token(kind),
                 });
             }
+        }
+        if self.agrees_after_blanks()? {
+            return Ok(Next::OptionalBlank);
         }
         let closing = self.open.as_slice().last().copied();
         if active.saturating_sub(self.with_gap_end(closing)) <= self.spare {
@@ -251,7 +282,41 @@ impl<'l> Aligner<'l> {
             }
         }
         self.note_bracket(kind)?;
+        column.may_change = self.is_after_time();
+        if kind == Kind::Mark('=')
+            && let Some(last) = self.columns.as_mut_slice().last_mut()
+        {
+            last.is_name = true;
+        }
         Ok(self.columns.push(column)?)
+    }
+
+    /// Makes a column of blanks that some lines don't have.
+    fn take_blanks(&mut self) -> Result<(), AllocError> {
+        let mut column = Column::new(Content::Token(Kind::Blank));
+        for row in self.rows.iter_mut() {
+            if !row.is_active {
+                continue;
+            }
+            match row.next() {
+                Some(token) if token.kind == Kind::Blank => {
+                    column.add(token.text);
+                    row.at = row.at.saturating_add(1);
+                }
+                _ => column.add(""),
+            }
+        }
+        Ok(self.columns.push(column)?)
+    }
+
+    /// Returns whether the columns are a time and blanks, or a mark, a time and blanks.
+    fn is_after_time(&self) -> bool {
+        let (time, blanks) = match self.columns.as_slice() {
+            [time, blanks] => (time, blanks),
+            [_, time, blanks] => (time, blanks),
+            _ => return false,
+        };
+        time.is_time() && blanks.is_blank()
     }
 
     /// Makes a column of a gap.
@@ -278,6 +343,7 @@ impl<'l> Aligner<'l> {
         for _ in 0..MOST_COLUMNS {
             match self.next()? {
                 Next::Token(kind) => self.take(kind)?,
+                Next::OptionalBlank => self.take_blanks()?,
                 Next::Gap => self.take_gap()?,
                 Next::End => return Ok(true),
                 Next::Rest => break,
@@ -287,13 +353,18 @@ impl<'l> Aligner<'l> {
     }
 }
 
-/// Returns the number of columns up to the last one that lines hardly have by chance.
+/// Returns the number of columns up to the last one that lines hardly have by chance. The value after a name and `=` belongs
+/// to these.
 fn firm_len(columns: &[Column<'_>]) -> usize {
     let mut len = 0;
+    let mut is_value = false;
+    let mut was_name = false;
     for (index, column) in columns.iter().enumerate() {
-        if column.is_firm() {
+        if column.is_firm() || is_value {
             len = index.saturating_add(1);
         }
+        is_value = was_name;
+        was_name = column.is_name && column.literal().is_some();
     }
     len
 }

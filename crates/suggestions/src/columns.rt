@@ -1,5 +1,6 @@
 //! What the lines of a group have in common, column by column.
 
+use crate::recognizer::{Meaning, known_definition};
 use crate::tokens::Kind;
 
 /// What a column has in each line.
@@ -9,6 +10,8 @@ pub(crate) enum Content {
     Token(Kind),
     /// Any number of tokens.
     Gap,
+    /// A value between commas.
+    Value,
 }
 
 /// What is known of the texts of a column.
@@ -27,16 +30,50 @@ pub(crate) struct Column<'l> {
     pub has_blanks: bool,
     /// Whether each text has spaces alone.
     pub are_spaces: bool,
+    /// Whether each text is an integer that keeps its digits if it is read as a number.
+    pub are_integers: bool,
+    /// Whether each text is a decimal number that keeps its digits before the point.
+    pub are_decimals: bool,
+    /// Whether `=` comes after it, so that it is the name of a value.
+    pub is_name: bool,
+    /// Whether it may be another one in other lines even if all of these have it: the word after a time, where many logs
+    /// have the name of a host, and a value between separators.
+    pub may_change: bool,
 }
+
+/// How many digits an integer has at most, so that it is one of 64 bits.
+const MOST_DIGITS: usize = 18;
 
 /// Returns whether a text has letters, digits and `_` alone, and at least one of them.
 fn is_word(text: &str) -> bool {
     !text.is_empty() && text.chars().all(|c| c.is_alphanumeric() || c == '_')
 }
 
-/// Returns whether a text has digits, and no letters: it is hardly the same in other lines.
-fn is_of_digits(text: &str) -> bool {
-    text.chars().any(|c| c.is_ascii_digit()) && !text.chars().any(|c| c.is_alphabetic())
+/// Returns whether a word may be the same in other lines, on other days and on other hosts: it has neither a digit nor
+/// a dot inside, which numbers, versions and names of hosts have.
+fn is_lasting(word: &str) -> bool {
+    let inside = word.trim_end_matches('.');
+    !inside.chars().any(|c| c.is_ascii_digit() || c == '.')
+}
+
+/// Returns whether a text is an integer that keeps its digits if it is read as a number.
+fn is_integer(text: &str) -> bool {
+    let digits = text.strip_prefix('-').unwrap_or(text);
+    let has_zeros = digits.len() > 1 && digits.starts_with('0');
+    !digits.is_empty()
+        && digits.len() <= MOST_DIGITS
+        && !has_zeros
+        && digits.chars().all(|c| c.is_ascii_digit())
+}
+
+/// Returns whether a text is a decimal number that keeps its digits before the point.
+fn is_decimal(text: &str) -> bool {
+    match text.split_once('.') {
+        Some((before, after)) => {
+            is_integer(before) && !after.is_empty() && after.chars().all(|c| c.is_ascii_digit())
+        }
+        None => is_integer(text),
+    }
 }
 
 impl<'l> Column<'l> {
@@ -50,6 +87,10 @@ impl<'l> Column<'l> {
             has_empty: false,
             has_blanks: false,
             are_spaces: true,
+            are_integers: true,
+            are_decimals: true,
+            is_name: false,
+            may_change: false,
         }
     }
 
@@ -63,16 +104,21 @@ impl<'l> Column<'l> {
         self.has_empty = self.has_empty || text.is_empty();
         self.has_blanks = self.has_blanks || text.chars().any(|c| c.is_whitespace());
         self.are_spaces = self.are_spaces && text.chars().all(|c| c == ' ');
+        self.are_integers = self.are_integers && is_integer(text);
+        self.are_decimals = self.are_decimals && is_decimal(text);
     }
 
     /// Returns the text of the column if it is written in a pattern as it is: a mark, or a word that
-    /// all lines have.
+    /// all lines have and that hardly changes with the day and the host. The name of a value is such a word.
     pub(crate) fn literal(&self) -> Option<&'l str> {
         match self.content {
             Content::Token(Kind::Mark(_)) => self.first,
             Content::Token(Kind::Word) => {
                 let first = self.first?;
-                (self.are_same && !is_of_digits(first)).then_some(first)
+                let has_letters = first.chars().any(|c| c.is_alphanumeric());
+                let may_change = self.may_change && has_letters;
+                let is_lasting = self.is_name || (!may_change && is_lasting(first));
+                (self.are_same && is_lasting).then_some(first)
             }
             _ => None,
         }
@@ -94,6 +140,25 @@ impl<'l> Column<'l> {
     /// in the line it is.
     pub(crate) fn is_firm(&self) -> bool {
         matches!(self.content, Content::Token(Kind::Known(_))) || self.literal().is_some()
+    }
+
+    /// Returns whether the column has times.
+    pub(crate) fn is_time(&self) -> bool {
+        match self.content {
+            Content::Token(Kind::Known(known)) => known_definition(known).meaning == Meaning::Time,
+            _ => false,
+        }
+    }
+
+    /// Returns whether the column has times or levels, whose keys a word before them doesn't change.
+    pub(crate) fn has_own_name(&self) -> bool {
+        match self.content {
+            Content::Token(Kind::Known(known)) => matches!(
+                known_definition(known).meaning,
+                Meaning::Time | Meaning::Level
+            ),
+            _ => false,
+        }
     }
 
     /// Returns whether a definition recognizes the texts of this column.

@@ -121,3 +121,23 @@ pub(crate) fn unfit_lines<'l>(
     }
     Ok(unfit)
 }
+
+/// Returns the lines in which a pattern finds something.
+///
+/// # Errors
+///
+/// If an allocation fails.
+pub(crate) fn lines_with<'l>(
+    alloc: Global,
+    pattern: &Pattern,
+    lines: &[&'l str],
+) -> Result<Vec<&'l str>, AllocError> {
+    let mut matcher = pattern.matcher()?;
+    let mut found = Vec::new(alloc);
+    for line in lines {
+        if matcher.find(line)?.is_some() {
+            found.push(*line)?;
+        }
+    }
+    Ok(found)
+}

@@ -12,15 +12,23 @@
 //! ```
 #![tactic(auto)]
 
+mod advice;
 mod align;
 mod columns;
 mod compiled;
+mod definitions;
 mod fits;
+mod heads;
 mod proposals;
 mod recognizer;
+mod starts;
 mod text;
 mod tokens;
+mod values;
 
+pub use advice::{Advice, Format, Formats, Suggestion, advise};
 pub use compiled::compile_valid;
+pub use definitions::Definitions;
 pub use fits::{Fit, fit_of};
 pub use proposals::{Proposal, propose};
+pub use values::{LogKind, kind_of_log};

@@ -1,18 +1,24 @@
 //! Proposes patterns for lines.
-ghost use Rattle.std.specs.Prelude.{◌<◌, ◌≤◌, All, IfOk, IfSome, vec_len};
+ghost use Rattle.std.specs.Prelude.{◌≡◌, ◌+◌, ◌<◌, ◌≤◌, All, IfOk, IfSome, OnOk, vec_len};
 
 use crate::align::{Row, Template, align, count_kind};
 use crate::compiled::compile_valid;
+use crate::definitions::Definitions;
 use crate::fits::{Fit, fit_of, unfit_lines};
+use crate::heads::{LineView, longest_head};
 use crate::recognizer::Recognizer;
 use crate::text::{RestForm, pattern_text};
 use crate::tokens::{Cutter, Kind};
-use grok::{Grok, Pattern};
+use crate::values::{separator_of, template_of_values};
+use grok::Pattern;
 use std::alloc::{AllocError, Global};
 use std::collections::BTreeMap;
 
 /// How many patterns are proposed at most.
 const MOST_PATTERNS: usize = 3;
+
+/// How many lines are aligned at most: the first ones. What comes of them is tried on all lines.
+const MOST_ALIGNED: usize = 1000;
 
 /// Of how many lines one may be left out, because it differs from the others.
 const LINES_FOR_ONE_SPARE: usize = 20;
@@ -28,6 +34,14 @@ pub struct Proposal {
     pub fit: Fit,
 }
 
+/// A pattern for lines that begin with a definition and then have more.
+#[derive(Drop)]
+pub struct Continued {
+    pub proposal: Proposal,
+    /// Whether what comes after the definition has one form, without a rest that is anything.
+    pub is_whole: bool,
+}
+
 /// A proposal that is compiled.
 #[derive(Drop)]
 struct Candidate {
@@ -39,16 +53,17 @@ struct Candidate {
 /// Compiles the pattern of a template, with the rest in this form, and counts the lines that it
 /// fits. Returns `None` if it can't be compiled, or fits no line.
 fn compile_candidate(
-    alloc: Global,
-    grok: &Grok,
+    definitions: Definitions<'_>,
+    view: &LineView<'_>,
     template: &Template<'_>,
     form: RestForm,
     lines: &[&str],
 ) -> Result<Option<Candidate>, AllocError>
     ensures { IfOk result (λ found. IfSome found (λ candidate. 0 < candidate.fit.lines)) }
 {
-    let text = pattern_text(alloc, grok, template, form)?;
-    let Some(pattern) = compile_valid(grok, text.as_str())? else {
+    let alloc = view.alloc;
+    let text = pattern_text(alloc, definitions.grok, template, form, &view.frame)?;
+    let Some(pattern) = compile_valid(definitions, text.as_str())? else {
         return Ok(None);
     };
     let fit = fit_of(alloc, &pattern, lines)?;
@@ -60,19 +75,19 @@ fn compile_candidate(
 
 /// Returns the candidate of a template that fits most lines: the first of them, if there are several.
 fn best_candidate(
-    alloc: Global,
-    grok: &Grok,
+    definitions: Definitions<'_>,
+    view: &LineView<'_>,
     template: &Template<'_>,
     lines: &[&str],
 ) -> Result<Option<Candidate>, AllocError>
     ensures { IfOk result (λ found. IfSome found (λ candidate. 0 < candidate.fit.lines)) }
 {
-    let mut best = compile_candidate(alloc, grok, template, RestForm::AfterBlanks, lines)?;
+    let mut best = compile_candidate(definitions, view, template, RestForm::AfterBlanks, lines)?;
     if !template.has_rest {
         return Ok(best);
     }
     'forms: for form in [RestForm::Optional, RestForm::Joined] {
-        let next = compile_candidate(alloc, grok, template, form, lines)?;
+        let next = compile_candidate(definitions, view, template, form, lines)?;
         let so_far = match &best {
             Some(best) => best.fit.lines,
             None => 0,
@@ -86,27 +101,33 @@ fn best_candidate(
     Ok(best)
 }
 
-/// Cuts lines into tokens.
+/// Cuts what is aligned of lines into tokens.
 fn rows_of<'l>(
-    alloc: Global,
+    view: &LineView<'_>,
     cutter: &mut Cutter<'_>,
     lines: &[&'l str],
 ) -> Result<Vec<Row<'l>>, AllocError> {
-    let mut rows = Vec::new(alloc);
+    let mut rows = Vec::new(view.alloc);
+    let mut tails = view.tails()?;
     for line in lines {
-        rows.push(Row::new(cutter.cut(line)?))?;
+        rows.push(Row::new(cutter.cut(tails.tail_of(line)?)?))?;
     }
     Ok(rows)
 }
 
-/// Aligns lines, of which a few may be left out.
+/// Aligns lines, of which a few may be left out. If they are values between separators, each value is a column.
 fn template_of<'l>(
-    alloc: Global,
+    view: &LineView<'_>,
     cutter: &mut Cutter<'_>,
     lines: &[&'l str],
 ) -> Result<Template<'l>, AllocError> {
-    let rows = rows_of(alloc, cutter, lines)?;
-    align(alloc, rows, lines.len() / LINES_FOR_ONE_SPARE)
+    if view.frame.head.is_none()
+        && let Some(separator) = separator_of(lines)
+    {
+        return template_of_values(view.alloc, cutter, lines, separator);
+    }
+    let rows = rows_of(view, cutter, lines)?;
+    align(view.alloc, rows, lines.len() / LINES_FOR_ONE_SPARE)
 }
 
 /// Returns the kind of token with which most lines begin: the first of them, if there are several.
@@ -128,13 +149,13 @@ fn commonest_head(alloc: Global, rows: &[Row<'_>]) -> Result<Option<Kind>, Alloc
 
 /// Returns the lines that begin with the kind of token with which most lines begin.
 fn commonest_lines<'l>(
-    alloc: Global,
+    view: &LineView<'_>,
     cutter: &mut Cutter<'_>,
     lines: &[&'l str],
 ) -> Result<Vec<&'l str>, AllocError> {
-    let rows = rows_of(alloc, cutter, lines)?;
-    let head = commonest_head(alloc, &rows)?;
-    let mut chosen = Vec::new(alloc);
+    let rows = rows_of(view, cutter, lines)?;
+    let head = commonest_head(view.alloc, &rows)?;
+    let mut chosen = Vec::new(view.alloc);
     for (line, row) in lines.iter().zip(&rows) {
         if row.head() == head {
             chosen.push(*line)?;
@@ -164,12 +185,13 @@ fn commonest_shape(alloc: Global, shapes: &[String]) -> Result<Option<&str>, All
 
 /// Returns the lines of the shape that most of the lines have.
 fn lines_of_one_shape<'l>(
-    alloc: Global,
+    view: &LineView<'_>,
     cutter: &mut Cutter<'_>,
     lines: &[&'l str],
 ) -> Result<Vec<&'l str>, AllocError> {
+    let alloc = view.alloc;
     let mut shapes = Vec::new(alloc);
-    for row in &rows_of(alloc, cutter, lines)? {
+    for row in &rows_of(view, cutter, lines)? {
         shapes.push(row.shape(alloc)?)?;
     }
     let commonest = commonest_shape(alloc, &shapes)?;
@@ -182,53 +204,105 @@ fn lines_of_one_shape<'l>(
     Ok(chosen)
 }
 
+/// Returns the lines that are aligned.
+pub(crate) fn aligned_of<'s, 'l>(lines: &'s [&'l str]) -> &'s [&'l str] {
+    lines.get(..MOST_ALIGNED).unwrap_or(lines)
+}
+
 /// Returns the best candidate for these lines: of all of them, of those that begin alike, or of those
 /// that are of one shape.
 fn next_candidate(
-    alloc: Global,
-    grok: &Grok,
+    definitions: Definitions<'_>,
+    view: &LineView<'_>,
     cutter: &mut Cutter<'_>,
     lines: &[&str],
 ) -> Result<Option<Candidate>, AllocError>
     ensures { IfOk result (λ found. IfSome found (λ candidate. 0 < candidate.fit.lines)) }
 {
-    let template = template_of(alloc, cutter, lines)?;
+    let aligned = aligned_of(lines);
+    let template = template_of(view, cutter, aligned)?;
     if template.is_telling() {
-        return best_candidate(alloc, grok, &template, lines);
+        return best_candidate(definitions, view, &template, lines);
     }
-    let alike = commonest_lines(alloc, cutter, lines)?;
-    let template = template_of(alloc, cutter, &alike)?;
+    let alike = commonest_lines(view, cutter, aligned)?;
+    let template = template_of(view, cutter, &alike)?;
     if template.is_telling() {
-        return best_candidate(alloc, grok, &template, lines);
+        return best_candidate(definitions, view, &template, lines);
     }
-    let alike = lines_of_one_shape(alloc, cutter, lines)?;
-    let template = template_of(alloc, cutter, &alike)?;
-    best_candidate(alloc, grok, &template, lines)
+    let alike = lines_of_one_shape(view, cutter, aligned)?;
+    let template = template_of(view, cutter, &alike)?;
+    best_candidate(definitions, view, &template, lines)
 }
 
-/// Proposes patterns for lines, each of which is for lines that those before it don't fit. There are
-/// three of them at most, and none if the lines have nothing in common.
+/// Appends a proposal that fits some lines to others.
+fn push_fitting(proposals: &mut Vec<Proposal>, proposal: Proposal) -> Result<(), AllocError>
+    requires { 0 < proposal.fit.lines }
+    ensures len { OnOk result (vec_len proposals.new ≡ vec_len proposals.old + 1) }
+    ensures each { OnOk result (All (λ proposal. 0 < proposal.fit.lines) proposals.old.items
+        → All (λ proposal. 0 < proposal.fit.lines) proposals.new.items) }
+{
+    Ok(proposals.push(proposal)?)
+}
+
+/// Proposes patterns for lines, or for events of several lines, each of which is for those that the ones before it don't
+/// fit. There are three of them at most, and none if the lines have nothing in common.
 ///
 /// # Errors
 ///
 /// If an allocation fails.
-pub fn propose(alloc: Global, grok: &Grok, lines: &[&str]) -> Result<Vec<Proposal>, AllocError>
+pub fn propose(
+    alloc: Global,
+    definitions: Definitions<'_>,
+    lines: &[&str],
+) -> Result<Vec<Proposal>, AllocError>
     ensures most { IfOk result (λ proposals. vec_len proposals ≤ 3) }
     ensures each { IfOk result (λ proposals. All (λ proposal. 0 < proposal.fit.lines) proposals.items) }
 {
-    let recognizer = Recognizer::new(alloc, grok)?;
+    let recognizer = Recognizer::new(alloc, definitions)?;
     let mut cutter = Cutter::new(alloc, recognizer.search(alloc)?);
+    let view = LineView::new(alloc, lines);
     let mut proposals = Vec::new(alloc);
     let mut left = Vec::from_slice(alloc, lines)?;
     'patterns: while proposals.len() < MOST_PATTERNS
         && left.len() > lines.len() / LINES_FOR_ONE_LEFT
     {
-        let Some(candidate) = next_candidate(alloc, grok, &mut cutter, &left)? else {
+        let Some(candidate) = next_candidate(definitions, &view, &mut cutter, &left)? else {
             break;
         };
         left = unfit_lines(alloc, &candidate.pattern, &left)?;
         let Candidate { text, fit, .. } = candidate;
-        proposals.push(Proposal { text, fit })?;
+        push_fitting(&mut proposals, Proposal { text, fit })?;
     }
     Ok(proposals)
+}
+
+/// Proposes a pattern for lines that begin with one of these definitions and then have more: the definition that takes
+/// most of the lines, and then what they have in common. Returns `None` if nine lines of ten don't begin with one of them.
+///
+/// # Errors
+///
+/// If an allocation fails.
+pub fn propose_after(
+    alloc: Global,
+    definitions: Definitions<'_>,
+    names: &[&str],
+    lines: &[&str],
+) -> Result<Option<Continued>, AllocError>
+    ensures { IfOk result (λ found. IfSome found (λ continued. 0 < continued.proposal.fit.lines)) }
+{
+    let Some(head) = longest_head(alloc, definitions, names, lines)? else {
+        return Ok(None);
+    };
+    let view = LineView::after(alloc, lines, head)?;
+    let begun = view.begun(lines)?;
+    let recognizer = Recognizer::new(alloc, definitions)?;
+    let mut cutter = Cutter::new(alloc, recognizer.search(alloc)?);
+    let template = template_of(&view, &mut cutter, aligned_of(&begun))?;
+    let is_whole = !template.has_rest && !template.columns.is_empty();
+    let Some(candidate) = best_candidate(definitions, &view, &template, &begun)? else {
+        return Ok(None);
+    };
+    let Candidate { text, fit, .. } = candidate;
+    let proposal = Proposal { text, fit };
+    Ok(Some(Continued { proposal, is_whole }))
 }

@@ -1,44 +1,76 @@
 //! Finds in lines what definitions recognize, such as times and addresses.
 
 use crate::compiled::compile_valid;
+use crate::definitions::Definitions;
 use grok::Grok;
 use regex::{CaptureLocations, Matcher, Regex};
 use std::alloc::{AllocError, Global};
 
-/// The definitions that are looked for in lines, each with the key of its placeholder. Of those that
+/// What the text that a definition recognizes says.
+#[derive(Clone, Copy, PartialEq, Eq)]
+pub(crate) enum Meaning {
+    /// A time, or a date and a time.
+    Time,
+    /// A level of a message.
+    Level,
+    /// A number.
+    Number,
+    /// Something else.
+    Other,
+}
+
+/// A definition that is looked for in lines.
+#[derive(Clone, Copy)]
+pub(crate) struct Known {
+    pub name: &'static str,
+    /// The key of its placeholder.
+    pub key: &'static str,
+    pub meaning: Meaning,
+}
+
+/// The definitions that are looked for in lines, each with the key of its placeholder and what it says. Of those that
 /// recognize something at the same position, the first one counts.
-const KNOWN: [(&str, &str); 21] = [
-    ("DATESTAMP_RFC2822", "timestamp"),
-    ("DATESTAMP_RFC822", "timestamp"),
-    ("DATESTAMP_OTHER", "timestamp"),
-    ("TIMESTAMP_CTIME", "timestamp"),
-    ("HTTPDATE", "timestamp"),
-    ("HAPROXYDATE", "timestamp"),
-    ("CATALINA_DATESTAMP", "timestamp"),
-    ("TIMESTAMP_ISO8601", "timestamp"),
-    ("SYSLOGTIMESTAMP", "timestamp"),
-    ("TIMESTAMP_SLASHES", "timestamp"),
-    ("DATESTAMP", "timestamp"),
-    ("DATE", "date"),
-    ("TIME", "time"),
-    ("UUID", "uuid"),
-    ("MAC", "mac"),
-    ("EMAILADDRESS", "email"),
-    ("URI", "uri"),
-    ("IP", "ip"),
-    ("QS", "quoted"),
-    ("LOGLEVEL", "level"),
-    ("NUMBER", "number"),
+const KNOWN: [(&str, &str, Meaning); 29] = [
+    ("DATESTAMP_RFC2822", "timestamp", Meaning::Time),
+    ("DATESTAMP_RFC822", "timestamp", Meaning::Time),
+    ("DATESTAMP_OTHER", "timestamp", Meaning::Time),
+    ("TIMESTAMP_CTIME", "timestamp", Meaning::Time),
+    ("HTTPDATE", "timestamp", Meaning::Time),
+    ("HAPROXYDATE", "timestamp", Meaning::Time),
+    ("CATALINA_DATESTAMP", "timestamp", Meaning::Time),
+    ("POSTGRESQLTIME", "timestamp", Meaning::Time),
+    ("TIMESTAMP_ISO8601", "timestamp", Meaning::Time),
+    ("TIMESTAMP_MONTHNAME", "timestamp", Meaning::Time),
+    ("SYSLOGTIMESTAMP", "timestamp", Meaning::Time),
+    ("TIMESTAMP_SLASHES", "timestamp", Meaning::Time),
+    ("DATESTAMP_12H", "timestamp", Meaning::Time),
+    ("DATESTAMP", "timestamp", Meaning::Time),
+    ("DATESTAMP_COMPACT", "timestamp", Meaning::Time),
+    ("DATESTAMP_SHORT", "timestamp", Meaning::Time),
+    ("DATE_ISO8601", "date", Meaning::Other),
+    ("DATE", "date", Meaning::Other),
+    ("TIME", "timestamp", Meaning::Time),
+    ("UUID", "uuid", Meaning::Other),
+    ("MAC", "mac", Meaning::Other),
+    ("EMAILADDRESS", "email", Meaning::Other),
+    ("URI", "uri", Meaning::Other),
+    ("IP", "ip", Meaning::Other),
+    ("QS", "quoted", Meaning::Other),
+    ("LOGLEVEL", "level", Meaning::Level),
+    ("DAY", "day", Meaning::Other),
+    ("MONTH", "month", Meaning::Other),
+    ("NUMBER", "number", Meaning::Number),
 ];
 
-/// Returns the definition with this index in [`KNOWN`], and the key of its placeholder. If there is
-/// none, returns `DATA`, which finds any text.
-pub(crate) fn known_definition(known: usize) -> (&'static str, &'static str) {
-    if known < KNOWN.len() {
-        KNOWN[known]
+/// Returns the definition with this index in [`KNOWN`]. If there is none, returns `DATA`, which finds any
+/// text.
+pub(crate) fn known_definition(index: usize) -> Known {
+    let (name, key, meaning) = if index < KNOWN.len() {
+        KNOWN[index]
     } else {
-        ("DATA", "field")
-    }
+        ("DATA", "field", Meaning::Other)
+    };
+    Known { name, key, meaning }
 }
 
 /// A group of the regular expression of a recognizer.
@@ -76,7 +108,7 @@ fn group_key(alloc: Global, known: usize) -> Result<String, AllocError> {
 /// Returns a pattern whose alternatives are the definitions that the library has.
 fn alternatives(alloc: Global, grok: &Grok) -> Result<String, AllocError> {
     let mut text = String::new(alloc);
-    for (known, (name, _)) in KNOWN.iter().enumerate() {
+    for (known, (name, _, _)) in KNOWN.iter().enumerate() {
         if grok.definition(name).is_none() {
             continue;
         }
@@ -91,18 +123,21 @@ fn alternatives(alloc: Global, grok: &Grok) -> Result<String, AllocError> {
 }
 
 impl Recognizer {
-    /// Makes the recognizer of a library. If a definition has a fault, nothing is recognized.
+    /// Makes the recognizer with these definitions. If one of them has a fault, nothing is recognized.
     ///
     /// # Errors
     ///
     /// If an allocation fails.
-    pub(crate) fn new(alloc: Global, grok: &Grok) -> Result<Recognizer, AllocError> {
+    pub(crate) fn new(
+        alloc: Global,
+        definitions: Definitions<'_>,
+    ) -> Result<Recognizer, AllocError> {
         let mut groups = Vec::new(alloc);
-        let text = alternatives(alloc, grok)?;
+        let text = alternatives(alloc, definitions.grok)?;
         let pattern = if text.is_empty() {
             None
         } else {
-            compile_valid(grok, text.as_str())?
+            compile_valid(definitions, text.as_str())?
         };
         let Some(pattern) = pattern else {
             return Ok(Recognizer {

@@ -2,11 +2,20 @@
 ghost use Rattle.std.specs.Prelude.{◌≡◌, IfOk};
 ghost use Rattle.suggestions.specs.Tokens.{joined};
 
-use crate::recognizer::{Recognized, RecognizerSearch};
+use crate::recognizer::{Meaning, Recognized, RecognizerSearch, known_definition};
 use std::alloc::{AllocError, Global};
 
 /// How many tokens of a line are told apart at most. What comes after them is one token.
 const MOST_TOKENS: usize = 200;
+
+/// How many bytes of a line are looked at. What comes after them is one token.
+const MOST_BYTES: usize = 4096;
+
+/// The units that may follow a number directly, as in `12ms`.
+const UNITS: [&str; 24] = [
+    "%", "ns", "us", "µs", "ms", "s", "sec", "min", "m", "h", "d", "B", "b", "kB", "KB", "MB",
+    "GB", "TB", "KiB", "MiB", "GiB", "K", "M", "G",
+];
 
 /// What a token is.
 #[derive(Clone, Copy, PartialEq, Eq)]
@@ -73,6 +82,23 @@ fn is_in_word(line: &str, at: usize) -> bool {
     }
 }
 
+/// Returns whether the word at this byte position of a line is a unit of the number before it.
+fn is_unit(line: &str, at: usize) -> bool {
+    let rest = line.get(at..).unwrap_or("");
+    let word = rest.get(..run_len(rest, Kind::Word)).unwrap_or("");
+    UNITS.iter().any(|unit| *unit == word)
+}
+
+/// Returns the part of a line that is looked at.
+fn part_looked_at(line: &str) -> &str {
+    for len in [MOST_BYTES, MOST_BYTES - 1, MOST_BYTES - 2, MOST_BYTES - 3] {
+        if let Some(part) = line.get(..len) {
+            return part;
+        }
+    }
+    line
+}
+
 /// Cuts lines into tokens.
 #[derive(Drop)]
 pub(crate) struct Cutter<'r> {
@@ -93,7 +119,7 @@ impl<'r> Cutter<'r> {
     }
 
     /// Returns what a definition recognizes at this byte position of the line. It has to end where no
-    /// word goes on.
+    /// word goes on, or the word is the unit of a number.
     fn recognized(&mut self, line: &str, at: usize) -> Option<Recognized> {
         if let Some(next) = self.next
             && next.start < at
@@ -101,11 +127,12 @@ impl<'r> Cutter<'r> {
             self.next = self.search.find(line, at);
         }
         let next = self.next?;
-        if next.start == at && next.end > at && !is_in_word(line, next.end) {
-            Some(next)
-        } else {
-            None
+        if next.start != at || next.end <= at {
+            return None;
         }
+        let is_number = known_definition(next.known).meaning == Meaning::Number;
+        let is_whole = !is_in_word(line, next.end) || (is_number && is_unit(line, next.end));
+        is_whole.then_some(next)
     }
 
     /// Returns the kind and the length in bytes of the token at this byte position of the line.
@@ -124,7 +151,8 @@ impl<'r> Cutter<'r> {
     pub(crate) fn cut<'l>(&mut self, line: &'l str) -> Result<Vec<Token<'l>>, AllocError>
         ensures { IfOk result (λ tokens. joined tokens.items ≡ line.now) }
     {
-        self.next = self.search.find(line, 0);
+        let part = part_looked_at(line);
+        self.next = self.search.find(part, 0);
         let mut tokens = Vec::new(self.alloc);
         let mut rest = line;
         'tokens: for _ in 0..MOST_TOKENS {
@@ -132,7 +160,10 @@ impl<'r> Cutter<'r> {
                 return Ok(tokens);
             }
             let at = line.len().saturating_sub(rest.len());
-            let (kind, len) = self.token_at(line, at);
+            let (kind, len) = self.token_at(part, at);
+            if len == 0 {
+                break;
+            }
             let Some((text, after)) = rest.split_at_checked(len) else {
                 break;
             };

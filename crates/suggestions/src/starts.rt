@@ -1,0 +1,160 @@
+//! Finds how events of several lines begin.
+
+use crate::compiled::compile_valid;
+use crate::definitions::Definitions;
+use crate::proposals::aligned_of;
+use crate::recognizer::{Meaning, Recognizer, known_definition};
+use crate::text::literal;
+use crate::tokens::{Cutter, Kind, Token};
+use grok::Pattern;
+use std::alloc::{AllocError, Global};
+
+/// How many bytes may come before the time with which an event begins.
+const MOST_BEFORE: usize = 16;
+
+/// One line of so many may have a time and not be a start; at least one of so many, and two, have none.
+const LINES_FOR_ONE_OTHER: usize = 20;
+
+/// How a line begins up to its first time.
+#[derive(Clone, Copy, PartialEq, Eq)]
+struct Beginning<'l> {
+    /// The text before the time.
+    before: &'l str,
+    /// The index of the definition of the time.
+    known: usize,
+}
+
+/// How many lines begin so.
+#[derive(Clone, Copy)]
+struct Count<'l> {
+    beginning: Beginning<'l>,
+    lines: usize,
+}
+
+/// Returns how a line begins that has these tokens, or `None` if it has no time.
+fn beginning_of<'l>(line: &'l str, tokens: &[Token<'l>]) -> Option<Beginning<'l>> {
+    let mut len = 0usize;
+    for token in tokens {
+        if let Kind::Known(known) = token.kind
+            && known_definition(known).meaning == Meaning::Time
+        {
+            let before = line.get(..len)?;
+            return Some(Beginning { before, known });
+        }
+        len = len.saturating_add(token.text.len());
+    }
+    None
+}
+
+/// Returns whether events may begin so: hardly anything comes before the time, and that has no digits.
+fn may_start(beginning: Beginning<'_>) -> bool {
+    beginning.before.len() <= MOST_BEFORE
+        && !beginning
+            .before
+            .chars()
+            .any(|c| c.is_ascii_digit() || c == '%')
+}
+
+/// Counts a line that begins so.
+fn count_beginning<'l>(
+    counts: &mut Vec<Count<'l>>,
+    beginning: Beginning<'l>,
+) -> Result<(), AllocError> {
+    for count in counts.iter_mut() {
+        if count.beginning == beginning {
+            count.lines = count.lines.saturating_add(1);
+            return Ok(());
+        }
+    }
+    if may_start(beginning) {
+        counts.push(Count {
+            beginning,
+            lines: 1,
+        })?;
+    }
+    Ok(())
+}
+
+/// Returns the beginning that most lines have, with the number of these lines.
+fn commonest<'l>(counts: &[Count<'l>]) -> Option<Count<'l>> {
+    let mut best: Option<Count<'l>> = None;
+    for count in counts {
+        let most = match best {
+            Some(best) => best.lines,
+            None => 0,
+        };
+        if count.lines > most {
+            best = Some(*count);
+        }
+    }
+    best
+}
+
+/// Returns a pattern for the first lines of events: a time at their beginning, that other lines don't have. Returns `None` if
+/// almost all lines have it, or if other lines have times, too, or begin with a digit, as a time in another form does.
+///
+/// # Errors
+///
+/// If an allocation fails.
+pub(crate) fn start_of(
+    alloc: Global,
+    definitions: Definitions<'_>,
+    lines: &[&str],
+) -> Result<Option<String>, AllocError> {
+    let recognizer = Recognizer::new(alloc, definitions)?;
+    let mut cutter = Cutter::new(alloc, recognizer.search(alloc)?);
+    let mut counts = Vec::new(alloc);
+    let mut without = 0usize;
+    let lines = aligned_of(lines);
+    for line in lines {
+        match beginning_of(line, &cutter.cut(line)?) {
+            Some(beginning) => count_beginning(&mut counts, beginning)?,
+            None if line.starts_with(|c: char| c.is_ascii_digit()) => {}
+            None => without = without.saturating_add(1),
+        }
+    }
+    let Some(best) = commonest(&counts) else {
+        return Ok(None);
+    };
+    let share = lines.len() / LINES_FOR_ONE_OTHER;
+    let others = lines
+        .len()
+        .saturating_sub(best.lines)
+        .saturating_sub(without);
+    if best.lines < 2 || without < 2 || without < share || others > share {
+        return Ok(None);
+    }
+    let before = literal(alloc, best.beginning.before)?;
+    let name = known_definition(best.beginning.known).name;
+    Ok(Some(format!(in alloc; "^{before}%{{{name}}}")?))
+}
+
+/// Joins the lines of each event by line feeds. An event begins at each line in which the pattern is found.
+///
+/// # Errors
+///
+/// If an allocation fails.
+pub(crate) fn events_of(
+    alloc: Global,
+    start: &Pattern,
+    lines: &[&str],
+) -> Result<Vec<String>, AllocError> {
+    let mut events = Vec::new(alloc);
+    let mut event = String::new(alloc);
+    let mut matcher = start.matcher()?;
+    for line in lines {
+        if !event.is_empty() {
+            if matcher.find(line)?.is_some() {
+                events.push(event)?;
+                event = String::new(alloc);
+            } else {
+                event.push('\n')?;
+            }
+        }
+        event.push_str(line)?;
+    }
+    if !event.is_empty() {
+        events.push(event)?;
+    }
+    Ok(events)
+}
