@@ -3,13 +3,28 @@
 use groklog_input::{Failure, Fault, Report, file_fault};
 use groklog_patterns::DefinitionFile;
 use std::alloc::{AllocError, Global};
-use std::{fs, io};
+use std::fs;
+use std::io::{self, ErrorKind};
 
 /// Returns what an operation on this file or folder gave, or the fault that reports its error.
 fn or_file_fault<T>(alloc: Global, name: &str, outcome: io::Result<T>) -> Result<T, Fault> {
     match outcome {
         Ok(value) => Ok(value),
         Err(error) => Err(file_fault(alloc, name, Failure::of(&error))?),
+    }
+}
+
+/// Returns the entry of a folder, or the fault that reports why it can't be read. The system can't say
+/// the name of a file if it isn't UTF-8.
+fn or_entry_fault<T>(alloc: Global, folder: &str, entry: io::Result<T>) -> Result<T, Fault> {
+    match entry {
+        Err(error) if error.kind() == ErrorKind::InvalidFilename => {
+            let what = format!(in alloc; "a file in {folder} has a name that isn't UTF-8")?;
+            let advice = "look for it by ls -b, and give it another name";
+            // own error: the folder was read, and the name of an entry isn't UTF-8.
+            Err(Fault::Read(Report::new(alloc, what.as_str(), advice)?))
+        }
+        entry => or_file_fault(alloc, folder, entry),
     }
 }
 
@@ -25,7 +40,7 @@ fn files_in(rt: &HostRuntime, folder: &str) -> Result<Vec<String>, Fault> {
     let alloc = rt.alloc();
     let mut paths = Vec::new(alloc);
     for entry in or_file_fault(alloc, folder, fs::read_dir(rt, folder))? {
-        let entry = or_file_fault(alloc, folder, entry)?;
+        let entry = or_entry_fault(alloc, folder, entry)?;
         if is_left_out(entry.file_name()) {
             continue;
         }

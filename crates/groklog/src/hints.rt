@@ -1,8 +1,8 @@
 //! Hints at what an input is, for a user whose lines have no fields. They are shown after its lines
 //! were answered.
 
-use groklog_input::{Encoding, LineForm, Signs};
-use groklog_views::Unit;
+use crate::log_lines::Matched;
+use groklog_input::{Encoding, LineForm, Signs, Unit};
 use std::alloc::{AllocError, Global};
 
 /// Returns the program that compressed an input and the one that unpacks it, or `None` if it isn't compressed.
@@ -76,15 +76,21 @@ impl Hints {
         }
     }
 
-    /// Returns the hint to use `--crlf`, which comes at the end of a run if nothing matched and the first
-    /// line of an input ended in a carriage return. `has_matched` is whether any line or event matched.
-    pub fn at_end(&self, has_matched: bool) -> Option<&'static str> {
-        if !self.has_return || self.form.drops_return || has_matched {
+    /// Returns the hint to use `--crlf`, which comes at the end of a run if the first line of an input ended in
+    /// a carriage return and no line or event matched.
+    pub fn at_end(&self, matched: Matched) -> Option<&'static str> {
+        if !self.has_return || self.form.drops_return {
             return None;
         }
-        Some(match self.unit {
-            Unit::Line => "no line matches, and lines end in a carriage return: use --crlf",
-            Unit::Event => "no event matches, and lines end in a carriage return: use --crlf",
-        })
+        match (matched, self.unit) {
+            (Matched::Any, _) => None,
+            (Matched::NoPatterns, _) => Some("lines end in a carriage return: use --crlf"),
+            (Matched::Nothing, Unit::Line) => {
+                Some("no line matches, and lines end in a carriage return: use --crlf")
+            }
+            (Matched::Nothing, Unit::Event) => {
+                Some("no event matches, and lines end in a carriage return: use --crlf")
+            }
+        }
     }
 }

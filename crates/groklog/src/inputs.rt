@@ -1,17 +1,17 @@
 //! Reads the files of a run, or standard input, and answers their lines or events.
 
 use crate::hints::Hints;
-use crate::log_lines::LogLines;
+use crate::log_lines::{LogLines, Matched};
 use crate::output::show_note;
+use crate::standard_input::StandardInput;
 use crate::terminal::shows_progress;
 use grok::Pattern;
 use grok_lines::{EventAnswers, LineHandler, SkipLines};
 use groklog_answers::StartPattern;
 use groklog_input::{
-    Answered, Failure, Fault, FormedAnswers, Watched, answer_input, file_fault, visible,
+    Answered, Failure, Fault, FormedAnswers, Unit, Watched, answer_input, file_fault, visible,
 };
 use groklog_options::Options;
-use groklog_views::Unit;
 use std::alloc::AllocError;
 use std::fs::File;
 use std::io;
@@ -21,8 +21,22 @@ use std::io;
 pub enum Outcome {
     /// All files were read, or as much of them as was wanted.
     AllRead,
+    /// The same, and nothing was found, which `--exit-status` asks about.
+    NothingFound,
     /// A file couldn't be read, which was reported. The other files were read.
     SomeUnread,
+}
+
+impl Outcome {
+    /// Returns how a run ends with these options that ended so far like this. `is_found` is whether it found
+    /// something: a line or an event that matches, or a pattern for the lines.
+    pub fn with_found(self, options: &Options<'_>, is_found: bool) -> Outcome {
+        if self == Outcome::AllRead && options.has_exit_status && !is_found {
+            Outcome::NothingFound
+        } else {
+            self
+        }
+    }
 }
 
 /// The files that are read if none is named: standard input.
@@ -50,7 +64,7 @@ pub fn shown_name(name: &str) -> &str {
 
 /// Answers each line or event of a file, and shows the progress if `shows` is set. The name `-` means
 /// standard input, which has no progress.
-pub fn answer_file<A: LineHandler>(
+fn answer_file<A: LineHandler>(
     rt: &HostRuntime,
     answers: &mut FormedAnswers<A>,
     name: &str,
@@ -60,7 +74,7 @@ pub fn answer_file<A: LineHandler>(
     let mut output = io::writer(rt);
     answers.begin_input();
     if name == "-" {
-        let mut input = Watched::new(rt.stdin());
+        let mut input = Watched::new(StandardInput::new(rt));
         return answer_input(alloc, answers, &mut input, &mut output, shown_name(name));
     }
     match File::open(rt, name) {
@@ -73,16 +87,15 @@ pub fn answer_file<A: LineHandler>(
     }
 }
 
-/// Answers each line of each file, or each event as `unit` says, and shows the hints at its lines, and its
-/// progress if `shows` is set. Reports each file that can't be read, and goes on with the next one.
+/// Answers each line or event of each file, and shows the hints at its lines, and its progress if `shows` is
+/// set. Reports each file that can't be read, and goes on with the next one.
 fn answer_files<'p, A: LogLines<'p>>(
     rt: &HostRuntime,
     answers: &mut FormedAnswers<A>,
     files: &[&'p str],
-    unit: Unit,
+    hints: &mut Hints,
     shows: bool,
 ) -> Result<Outcome, Fault> {
-    let mut hints = Hints::new(answers.form, unit);
     let mut outcome = Outcome::AllRead;
     for file in files {
         if answers.answers.has_enough() {
@@ -105,29 +118,31 @@ fn answer_files<'p, A: LogLines<'p>>(
             Err(fault) => return Err(fault),
         }
     }
-    let matched = answers.answers.searches().matched(rt.alloc())?;
-    if let Some(hint) = hints.at_end(matched.iter().any(|count| *count > 0)) {
-        show_note(rt, hint)?;
-    }
     Ok(outcome)
 }
 
 /// Answers each line or event of the files that the options name, or of standard input.
-fn answer_inputs<'p, A: LogLines<'p>>(
+///
+/// # Errors
+///
+/// Returns an error if an allocation or the output fails. A file that can't be read is only reported.
+pub fn answer_inputs<'p, A: LogLines<'p>>(
     rt: &HostRuntime,
     options: &Options<'p>,
     answers: &mut FormedAnswers<A>,
 ) -> Result<Outcome, Fault> {
-    if options.files.is_empty() {
-        return answer_files(rt, answers, STANDARD_INPUT, options.unit(), false);
+    let mut hints = Hints::new(answers.form, options.unit());
+    let outcome = if options.files.is_empty() {
+        answer_files(rt, answers, STANDARD_INPUT, &mut hints, false)?
+    } else {
+        let shows = shows_progress(rt);
+        answer_files(rt, answers, &options.files, &mut hints, shows)?
+    };
+    let matched = answers.answers.matched(rt.alloc())?;
+    if let Some(hint) = hints.at_end(matched) {
+        show_note(rt, hint)?;
     }
-    answer_files(
-        rt,
-        answers,
-        &options.files,
-        options.unit(),
-        shows_progress(rt),
-    )
+    Ok(outcome.with_found(options, matched != Matched::Nothing))
 }
 
 /// Answers each line of the inputs, or each event if `start` is the pattern of `--start`. Returns what
@@ -139,13 +154,13 @@ pub fn answer_each<'p, A: LogLines<'p> + SkipLines + Drop>(
     answers: A,
 ) -> Result<(A, Result<Outcome, Fault>), AllocError> {
     let alloc = rt.alloc();
-    let Some(start) = start else {
+    let (Some(start), Some(events)) = (start, options.events) else {
         let mut lines = FormedAnswers::new(alloc, answers, options.form);
         let outcome = answer_inputs(rt, options, &mut lines);
         return Ok((lines.into_answers(), outcome));
     };
     let start = StartPattern::new(start)?;
-    let events = EventAnswers::new(alloc, answers, start, options.most_lines);
+    let events = EventAnswers::new(alloc, answers, start, events.most_lines);
     let mut lines = FormedAnswers::new(alloc, events, options.form);
     let outcome = answer_inputs(rt, options, &mut lines);
     Ok((lines.into_answers().into_answers(), outcome))

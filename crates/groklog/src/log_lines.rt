@@ -1,17 +1,40 @@
-//! What a run does with the lines or events of its files: it answers, explains or shows them, or counts
-//! values in them.
+//! What a run does with the lines or events of its files: it answers, explains or shows them, counts
+//! values in them, or suggests patterns for them.
 
 use crate::page::Page;
 use crate::show::Show;
+use crate::suggest::Sample;
 use crate::why::Why;
 use grok_lines::{EventAnswers, EventStarts, LineHandler, SkipLines};
 use groklog_answers::{LogAnswers, Searches};
 use groklog_views::KeyCounts;
+use std::alloc::{AllocError, Global};
+
+/// Whether the patterns of a run match any line or event.
+#[derive(Clone, Copy, PartialEq, Eq)]
+pub enum Matched {
+    /// One of them matches one.
+    Any,
+    /// None of them matches any.
+    Nothing,
+    /// There are no patterns: they are suggested.
+    NoPatterns,
+}
+
+/// Returns whether any line or event matched.
+fn matched_by(alloc: Global, searches: &Searches<'_>) -> Result<Matched, AllocError> {
+    let counts = searches.matched(alloc)?;
+    Ok(if counts.iter().any(|count| *count > 0) {
+        Matched::Any
+    } else {
+        Matched::Nothing
+    })
+}
 
 /// Answers to the lines or events of several files.
 pub trait LogLines<'p>: LineHandler {
-    /// Returns what finds the matches, and counts the lines or events.
-    fn searches(&self) -> &Searches<'p>;
+    /// Returns whether any of the lines or events matched.
+    fn matched(&self, alloc: Global) -> Result<Matched, AllocError>;
 
     /// Takes the name of the file that the next lines are from. Only answers have it.
     fn begin_file(&mut self, name: &'p str);
@@ -21,8 +44,8 @@ pub trait LogLines<'p>: LineHandler {
 }
 
 impl<'p> LogLines<'p> for LogAnswers<'p> {
-    fn searches(&self) -> &Searches<'p> {
-        &self.searches
+    fn matched(&self, alloc: Global) -> Result<Matched, AllocError> {
+        matched_by(alloc, &self.searches)
     }
 
     fn begin_file(&mut self, name: &'p str) {
@@ -35,8 +58,8 @@ impl<'p> LogLines<'p> for LogAnswers<'p> {
 }
 
 impl<'a> LogLines<'a> for KeyCounts<'a> {
-    fn searches(&self) -> &Searches<'a> {
-        &self.searches
+    fn matched(&self, alloc: Global) -> Result<Matched, AllocError> {
+        matched_by(alloc, &self.searches)
     }
 
     fn begin_file(&mut self, _name: &'a str) {}
@@ -47,8 +70,8 @@ impl<'a> LogLines<'a> for KeyCounts<'a> {
 }
 
 impl<'a> LogLines<'a> for Why<'_, 'a, '_, '_> {
-    fn searches(&self) -> &Searches<'a> {
-        &self.searches
+    fn matched(&self, alloc: Global) -> Result<Matched, AllocError> {
+        matched_by(alloc, &self.searches)
     }
 
     fn begin_file(&mut self, _name: &'a str) {}
@@ -59,8 +82,8 @@ impl<'a> LogLines<'a> for Why<'_, 'a, '_, '_> {
 }
 
 impl<'a> LogLines<'a> for Show<'_, 'a> {
-    fn searches(&self) -> &Searches<'a> {
-        &self.located.searches
+    fn matched(&self, alloc: Global) -> Result<Matched, AllocError> {
+        matched_by(alloc, &self.located.searches)
     }
 
     fn begin_file(&mut self, _name: &'a str) {}
@@ -71,8 +94,8 @@ impl<'a> LogLines<'a> for Show<'_, 'a> {
 }
 
 impl<'a> LogLines<'a> for Page<'a, '_, '_> {
-    fn searches(&self) -> &Searches<'a> {
-        &self.located.searches
+    fn matched(&self, alloc: Global) -> Result<Matched, AllocError> {
+        matched_by(alloc, &self.located.searches)
     }
 
     fn begin_file(&mut self, _name: &'a str) {}
@@ -83,8 +106,8 @@ impl<'a> LogLines<'a> for Page<'a, '_, '_> {
 }
 
 impl<'a, A: LogLines<'a> + SkipLines, S: EventStarts> LogLines<'a> for EventAnswers<A, S> {
-    fn searches(&self) -> &Searches<'a> {
-        self.answers.searches()
+    fn matched(&self, alloc: Global) -> Result<Matched, AllocError> {
+        self.answers.matched(alloc)
     }
 
     fn begin_file(&mut self, name: &'a str) {
@@ -93,5 +116,18 @@ impl<'a, A: LogLines<'a> + SkipLines, S: EventStarts> LogLines<'a> for EventAnsw
 
     fn has_enough(&self) -> bool {
         self.answers.has_enough()
+    }
+}
+
+impl<'p> LogLines<'p> for Sample {
+    fn matched(&self, alloc: Global) -> Result<Matched, AllocError> {
+        let _ = alloc;
+        Ok(Matched::NoPatterns)
+    }
+
+    fn begin_file(&mut self, _name: &'p str) {}
+
+    fn has_enough(&self) -> bool {
+        self.is_full
     }
 }

@@ -12,8 +12,10 @@ mod plans;
 mod read_files;
 mod run;
 mod show;
+mod standard_input;
 mod suggest;
 mod summary;
+mod tasks;
 mod terminal;
 mod whole_file;
 mod why;
@@ -27,6 +29,9 @@ use std::process::ExitCode;
 
 /// The exit status of a run in which a file couldn't be read.
 const UNREAD: u8 = 3;
+
+/// The exit status of a run that found nothing, if `--exit-status` asks for it.
+const NOTHING_FOUND: u8 = 4;
 
 /// Reads the words of the command line. The first one is the name of the program.
 fn read_words(rt: &HostRuntime) -> Result<Vec<String>, Fault> {
@@ -59,6 +64,7 @@ fn work(rt: &HostRuntime) -> Result<Outcome, Fault> {
 fn main(rt: HostRuntime) -> ExitCode {
     match work(&rt) {
         Ok(Outcome::AllRead) => ExitCode::SUCCESS,
+        Ok(Outcome::NothingFound) => ExitCode::from(NOTHING_FOUND),
         Ok(Outcome::SomeUnread) => ExitCode::from(UNREAD),
         Err(fault) => {
             // If writing to standard error fails too, there is nothing left to do.

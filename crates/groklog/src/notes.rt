@@ -3,17 +3,16 @@
 use grok::{Pattern, PlaceholderKey};
 use groklog_answers::asks_for_numbers;
 use groklog_options::Options;
-use groklog_patterns::{Library, PatternText};
+use groklog_patterns::{Library, PatternText, bare_name};
 use std::alloc::{AllocError, Global};
 use std::collections::BTreeMap;
 use std::fs;
 
-/// A pattern, the words by which notes refer to it, and the keys of its placeholders.
+/// A pattern, and the words by which notes refer to it.
 #[derive(Clone, Copy)]
 struct Noted<'p> {
     words: &'p str,
     pattern: &'p Pattern,
-    keys: &'p [PlaceholderKey],
 }
 
 impl<'p> Noted<'p> {
@@ -21,7 +20,7 @@ impl<'p> Noted<'p> {
     /// character class, where the engine reads the placeholder's group as characters.
     fn note_lost_keys(self, alloc: Global, notes: &mut Vec<String>) -> Result<(), AllocError> {
         let words = self.words;
-        for PlaceholderKey { key, .. } in self.keys {
+        for PlaceholderKey { key, .. } in self.pattern.placeholder_keys() {
             if self.pattern.group_of(key.as_str()).is_none() {
                 notes.push(format!(in alloc;
                     "in {words}, the key {key} never has a value: its placeholder is inside a character class [..], where it means its characters; write \\[ for the bracket itself"
@@ -41,7 +40,7 @@ impl<'p> Noted<'p> {
             return Ok(shared);
         }
         let mut of_placeholders = BTreeMap::new(alloc);
-        for PlaceholderKey { key, .. } in self.keys {
+        for PlaceholderKey { key, .. } in self.pattern.placeholder_keys() {
             of_placeholders.insert(key.as_str(), ())?;
         }
         for name in self.pattern.group_names().iter().flatten() {
@@ -70,7 +69,7 @@ impl<'p> Noted<'p> {
         notes: &mut Vec<String>,
     ) -> Result<(), AllocError> {
         let words = self.words;
-        for PlaceholderKey { key, .. } in self.keys {
+        for PlaceholderKey { key, .. } in self.pattern.placeholder_keys() {
             let name = key.as_str();
             if asks_for_numbers(name) && self.pattern.get_extract(name).is_none() {
                 notes.push(format!(in alloc;
@@ -89,13 +88,9 @@ fn note_on_name(
     library: &Library<'_>,
     text: &PatternText,
 ) -> Result<Option<String>, AllocError> {
-    let pattern = text.text.as_str();
-    let name = pattern.strip_prefix('%').unwrap_or(pattern);
-    let name = name.strip_prefix('{').unwrap_or(name);
-    let name = name.strip_suffix('}').unwrap_or(name);
-    if library.grok.definition(name).is_none() || pattern.starts_with("%{") {
+    let Some(name) = bare_name(library, text.text.as_str()) else {
         return Ok(None);
-    }
+    };
     let words = text.words.as_str();
     Ok(Some(format!(in alloc;
         "{words} means the text {name} itself; for the definition of this name write '%{{{name}}}'"
@@ -113,17 +108,11 @@ pub fn notes_of_pattern(
     library: &Library<'_>,
     text: &PatternText,
     pattern: &Pattern,
-    with_alias_only: bool,
 ) -> Result<Vec<String>, AllocError> {
     let mut notes = Vec::new(alloc);
-    let Ok(keys) = library.grok.keys(text.text.as_str(), with_alias_only) else {
-        // own error: the pattern was compiled before, so only an allocation can fail.
-        return Err(AllocError);
-    };
     let noted = Noted {
         words: text.words.as_str(),
         pattern,
-        keys: &keys,
     };
     noted.note_lost_keys(alloc, &mut notes)?;
     noted.note_shared_keys(alloc, &mut notes)?;
@@ -169,10 +158,11 @@ pub fn notes_of_words(rt: &HostRuntime, options: &Options<'_>) -> Result<Vec<Str
     let mut notes = Vec::new(alloc);
     if options.is_pattern_first
         && let Some(pattern) = options.patterns.as_slice().first()
-        && is_file(rt, pattern)
+        && is_file(rt, pattern.text)
     {
         notes.push(format!(in alloc;
-            "the pattern {pattern} is also the name of a file; the pattern comes first, then the files, and each -d takes one file or folder"
+            "the pattern {} is also the name of a file; the pattern comes first, then the files, and each -d takes one file or folder",
+            pattern.text
         )?)?;
     }
     for file in &options.files {

@@ -1,5 +1,6 @@
 //! Writes to standard output and to standard error.
 
+use crate::inputs::Outcome;
 use groklog_input::{Fault, visible, write_fault};
 use std::alloc::AllocError;
 use std::io::{self, Write};
@@ -79,6 +80,22 @@ impl<'r> DirectOutput<'r> {
                 // own error: the output failed, as `failure` says, and no more lines are read.
                 Err(AllocError)
             }
+        }
+    }
+
+    /// Returns how the run ended in which lines were answered so. If the reader of the output closed the pipe, all
+    /// was read that is wanted.
+    ///
+    /// # Errors
+    ///
+    /// If the run failed, or the output did.
+    pub fn outcome(&self, answered: Result<Outcome, Fault>) -> Result<Outcome, Fault> {
+        let Some(error) = &self.failure else {
+            return answered;
+        };
+        match write_fault(self.rt.alloc(), error)? {
+            Some(fault) => Err(fault),
+            None => Ok(Outcome::AllRead),
         }
     }
 }

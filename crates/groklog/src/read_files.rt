@@ -1,6 +1,7 @@
 //! The files that a run reads, which it never writes over.
 
 use crate::inputs::{STANDARD_INPUT, shown_name};
+use crate::standard_input::INPUT;
 use groklog_input::{Failure, Fault, Report, file_fault};
 use groklog_options::Options;
 use groklog_patterns::DefinitionFile;
@@ -9,9 +10,7 @@ use std::fs::{self, File, Metadata};
 use std::io::{self, ErrorKind};
 use std::os::unix::fs::MetadataExt;
 
-/// The links to the open files of standard input and standard output on Linux.
-const INPUT: &str = "/proc/self/fd/0";
-
+/// The link to the open file of standard output on Linux.
 const OUTPUT: &str = "/proc/self/fd/1";
 
 /// What the system calls a file, whatever its names are.

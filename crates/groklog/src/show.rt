@@ -36,14 +36,13 @@ impl<'r, 'a> Show<'r, 'a> {
         }
     }
 
-    /// Writes the legend of the keys.
+    /// Returns the legend of the keys.
     ///
     /// # Errors
     ///
-    /// If an allocation or the output fails. `output.failure` says why the output failed.
-    pub fn write_legend(&mut self) -> Result<(), AllocError> {
-        let legend = legend_of(self.alloc, &self.located.keys, self.is_coloured)?;
-        self.output.write(legend.as_str())
+    /// If an allocation fails.
+    pub fn legend(&self) -> Result<String, AllocError> {
+        legend_of(self.alloc, &self.located.keys, self.is_coloured)
     }
 
     /// Writes a line that no pattern matches.

@@ -1,23 +1,33 @@
 //! Suggests patterns for the first lines of the input, for `--suggest`.
 ghost use Rattle.std.specs.Prelude.{[]};
 
-use grok::Measure;
+use common_definitions::line_formats;
 use grok_lines::LineAnswers;
 use groklog_input::visible;
 use groklog_options::Options;
-use groklog_patterns::Library;
+use groklog_patterns::{Library, own_wholes};
 use std::alloc::{AllocError, Global};
-use suggestions::{Fit, compile_valid, fit_of, propose};
+use suggestions::{
+    Advice, Definitions, Fit, Format, Formats, LogKind, Suggestion, advise, kind_of_log,
+};
 
-/// How many definitions are shown at most.
+/// How many patterns are shown at most.
 const MOST_SHOWN: usize = 5;
+
+/// How many bytes a line has at most that is looked at.
+const MOST_LINE_BYTES: usize = 65536;
+
+/// The definitions for the beginnings of lines after which there may be any message.
+const BEGINNINGS: [&str; 3] = ["SYSLOGBASE", "JOURNALBASE", "SYSLOG5424BASE"];
 
 /// The first lines of some inputs.
 #[derive(Drop)]
 pub struct Sample {
     alloc: Global,
-    /// The lines that aren't blank and are UTF-8.
+    /// The lines that aren't blank, not too long, UTF-8, and without zero bytes, which texts don't have.
     lines: Vec<String>,
+    /// How many lines were too long.
+    long: u64,
     /// How many more lines are read at most.
     left: u64,
     /// Whether there are enough lines. Then an answer fails, so that no more are read.
@@ -30,6 +40,7 @@ impl Sample {
         Sample {
             alloc,
             lines: Vec::new(alloc),
+            long: 0,
             left: most,
             is_full: most == 0,
         }
@@ -56,7 +67,9 @@ impl LineAnswers for Sample {
 
     fn answer_str(&mut self, text: &mut Vec<u8>, line: &str) -> Result<(), AllocError> {
         let _ = text;
-        if !line.trim().is_empty() {
+        if line.len() > MOST_LINE_BYTES {
+            self.long = self.long.saturating_add(1);
+        } else if !line.trim().is_empty() && !line.contains('\0') {
             self.lines.push(String::from_str(self.alloc, line)?)?;
         }
         self.count()
@@ -68,65 +81,13 @@ impl LineAnswers for Sample {
     }
 }
 
-/// A definition, and how it fits the lines.
+/// How the lines of a suggested command are read, beside what the options ask for.
 #[derive(Clone, Copy)]
-struct Fitting<'a> {
-    name: &'a str,
-    fit: Fit,
-}
-
-/// Returns whether a definition has placeholders with an alias, so that it can tell something about a
-/// line, and at most this many bytes when it is expanded.
-fn has_keys(measure: Measure<'_>, most_bytes: usize) -> bool {
-    match measure {
-        Measure::Size { groups, length, .. } => groups > 0 && length <= most_bytes,
-        _ => false,
-    }
-}
-
-/// Returns the names of the definitions that have keys and aren't too long, in byte order.
-fn names_with_keys<'a>(
-    alloc: Global,
-    library: &'a Library<'_>,
-) -> Result<Vec<&'a str>, AllocError> {
-    let mut names = Vec::new(alloc);
-    for name in library.grok.names() {
-        let text = format!(in alloc; "%{{{name}}}")?;
-        if has_keys(
-            library.grok.measure(text.as_str(), true)?,
-            library.most_bytes,
-        ) {
-            names.push(name)?;
-        }
-    }
-    Ok(names)
-}
-
-/// Returns the pattern for lines that are wholly what this definition means.
-fn whole_pattern(alloc: Global, name: &str) -> Result<String, AllocError> {
-    format!(in alloc; "^%{{{name}}}$")
-}
-
-/// Returns the definitions that fit some of the lines: those that fit most lines come first, and of
-/// these those with most fields.
-fn fitting_definitions<'a>(
-    alloc: Global,
-    library: &'a Library<'_>,
-    lines: &[&str],
-) -> Result<Vec<Fitting<'a>>, AllocError> {
-    let mut fitting = Vec::new(alloc);
-    for name in &names_with_keys(alloc, library)? {
-        let text = whole_pattern(alloc, name)?;
-        let Some(pattern) = compile_valid(&library.grok, text.as_str())? else {
-            continue;
-        };
-        let fit = fit_of(alloc, &pattern, lines)?;
-        if fit.lines > 0 {
-            fitting.push(Fitting { name, fit })?;
-        }
-    }
-    fitting.sort_by_key(|found| (usize::MAX - found.fit.lines, usize::MAX - found.fit.fields))?;
-    Ok(fitting)
+struct Reading<'a> {
+    /// Whether a carriage return is taken off the end of each line.
+    drops_return: bool,
+    /// The pattern of `--start`, if the lines are parts of events.
+    start: Option<&'a str>,
 }
 
 /// Returns whether a character means nothing special in a word of a shell.
@@ -160,49 +121,93 @@ fn push_option(command: &mut String, option: &str, values: &[&str]) -> Result<()
     Ok(())
 }
 
+/// Appends the files that the options name. If one begins with `-`, it is none of the options.
+fn push_files(command: &mut String, options: &Options<'_>) -> Result<(), AllocError> {
+    let mut is_like_option = false;
+    for file in &options.files {
+        is_like_option = is_like_option || (file.len() > 1 && file.starts_with('-'));
+    }
+    if is_like_option {
+        push_word(command, "--")?;
+    }
+    for file in &options.files {
+        push_word(command, file)?;
+    }
+    Ok(())
+}
+
 /// Returns the command that reads the same lines with these patterns.
 fn command_of(
     alloc: Global,
     options: &Options<'_>,
+    reading: Reading<'_>,
     patterns: &[&str],
 ) -> Result<String, AllocError> {
+    let is_loose = match options.definitions.wish {
+        Some(wish) => wish.is_loose,
+        None => false,
+    };
     let mut command = String::from_str(alloc, "groklog")?;
     let flags = [
-        (options.form.drops_return, "--crlf"),
+        (reading.drops_return, "--crlf"),
         (options.form.is_lossy, "--lossy"),
-        (!options.has_common, "--no-common"),
-        (options.is_from_logstash, "--from-logstash"),
+        (!options.definitions.has_common, "--no-common"),
+        (options.definitions.wish.is_some(), "--from-logstash"),
+        (is_loose, "--loose"),
     ];
     for (is_given, flag) in flags {
         if is_given {
             push_word(&mut command, flag)?;
         }
     }
-    push_option(&mut command, "-d", &options.definition_files)?;
-    push_option(&mut command, "-D", &options.definitions)?;
+    push_option(&mut command, "-d", &options.definitions.files)?;
+    push_option(&mut command, "-D", &options.definitions.words)?;
+    if let Some(start) = reading.start {
+        push_option(&mut command, "--start", &[start])?;
+    }
     match patterns {
         [pattern] => push_word(&mut command, pattern)?,
         _ => push_option(&mut command, "-e", patterns)?,
     }
-    for file in &options.files {
-        push_word(&mut command, file)?;
-    }
+    push_files(&mut command, options)?;
     visible(alloc, command.as_str())
 }
 
-/// Appends the definitions that fit most lines, each with its counts and a command.
-fn push_fitting(
+/// Appends the command of another program that reads the same files.
+fn push_other(report: &mut String, options: &Options<'_>, program: &str) -> Result<(), AllocError> {
+    report.push_str(program)?;
+    push_files(report, options)?;
+    report.push('\n')
+}
+
+/// Returns the program that reads values between this separator.
+fn reader_of(separator: char, has_header: bool) -> &'static str {
+    match (separator, has_header) {
+        ('\t', true) => "mlr --itsv --ojson cat",
+        ('\t', false) => "mlr --itsv --implicit-tsv-header --ojson cat",
+        (';', true) => "mlr --icsv --ifs ';' --ojson cat",
+        (';', false) => "mlr --icsv --ifs ';' --implicit-csv-header --ojson cat",
+        (_, true) => "mlr --icsv --ojson cat",
+        (_, false) => "mlr --icsv --implicit-csv-header --ojson cat",
+    }
+}
+
+/// Appends the patterns that match some of the lines alone, each with its counts and a command.
+fn push_alone(
     alloc: Global,
     report: &mut String,
     options: &Options<'_>,
-    fitting: &[Fitting<'_>],
+    reading: Reading<'_>,
+    advice: &Advice,
 ) -> Result<(), AllocError> {
-    if !fitting.is_empty() {
-        report.push_str("lines  fields\n")?;
+    let unit = unit_of(reading);
+    let alone = advice.alone.as_slice();
+    if !alone.is_empty() {
+        let heading = format!(in alloc; "{unit:>6}  fields\n")?;
+        report.push_str(heading.trim_start())?;
     }
-    for found in fitting.iter().take(MOST_SHOWN) {
-        let text = whole_pattern(alloc, found.name)?;
-        let command = command_of(alloc, options, &[text.as_str()])?;
+    for found in alone.iter().take(MOST_SHOWN) {
+        let command = command_of(alloc, options, reading, &[found.text.as_str()])?;
         let Fit { lines, fields } = found.fit;
         let row = format!(in alloc; "{lines:>5}  {fields:>6}  {command}\n")?;
         report.push_str(row.as_str())?;
@@ -210,37 +215,226 @@ fn push_fitting(
     Ok(())
 }
 
-/// Appends the patterns that are proposed for the lines, with their counts and a command.
-fn push_proposals(
+/// Returns what is counted.
+fn unit_of(reading: Reading<'_>) -> &'static str {
+    match reading.start {
+        Some(_) => "events",
+        None => "lines",
+    }
+}
+
+/// Appends how many lines each of several patterns matches: `(60 + 60 + 52)`.
+fn push_shares(
+    alloc: Global,
+    report: &mut String,
+    patterns: &[Suggestion],
+) -> Result<(), AllocError> {
+    if patterns.len() < 2 {
+        return Ok(());
+    }
+    for (index, pattern) in patterns.iter().enumerate() {
+        let before = if index == 0 { " (" } else { " + " };
+        let lines = pattern.fit.lines;
+        let share = format!(in alloc; "{before}{lines}")?;
+        report.push_str(share.as_str())?;
+    }
+    report.push(')')
+}
+
+/// Appends the patterns that are for the lines together, with their counts and a command.
+fn push_together(
     alloc: Global,
     report: &mut String,
     options: &Options<'_>,
-    library: &Library<'_>,
-    lines: &[&str],
+    reading: Reading<'_>,
+    advice: &Advice,
 ) -> Result<(), AllocError> {
-    let proposals = propose(alloc, &library.grok, lines)?;
+    let patterns = advice.together.as_slice();
+    let all = advice.lines;
+    let unit = unit_of(reading);
     let mut texts = Vec::new(alloc);
-    let mut count = 0usize;
-    for proposal in &proposals {
-        texts.push(proposal.text.as_str())?;
-        count = count.saturating_add(proposal.fit.lines);
+    let mut matched = 0usize;
+    for pattern in patterns {
+        texts.push(pattern.text.as_str())?;
+        matched = matched.saturating_add(pattern.fit.lines);
     }
-    if texts.is_empty() {
-        return report.push_str("the lines have too little in common for a pattern\n");
-    }
-    let command = command_of(alloc, options, &texts)?;
-    let all = lines.len();
-    let words = if texts.len() == 1 {
-        "this pattern matches"
-    } else {
-        "these patterns match"
+    let words = match patterns {
+        [] => return report.push_str("the lines have too little in common for a pattern\n"),
+        [_] => "this pattern matches",
+        _ => "these patterns match",
     };
-    let row = format!(in alloc; "{words} {count} of {all} lines:\n{command}\n")?;
-    report.push_str(row.as_str())
+    let row = format!(in alloc; "{words} {matched} of {all} {unit}")?;
+    report.push_str(row.as_str())?;
+    push_shares(alloc, report, patterns)?;
+    report.push_str(":\n")?;
+    let command = command_of(alloc, options, reading, &texts)?;
+    report.push_str(command.as_str())?;
+    report.push('\n')
 }
 
-/// Returns the report on the lines of a sample: which definitions fit them, and a pattern if none fits
-/// more than half of them.
+/// Returns the number of lines that the best pattern matches alone, and whether no others are needed.
+fn best_alone(advice: &Advice) -> (usize, bool) {
+    match (advice.alone.as_slice(), advice.together.as_slice()) {
+        ([first, ..], [only]) => (first.fit.lines, first.text.as_str() == only.text.as_str()),
+        ([first, ..], _) => (first.fit.lines, false),
+        _ => (0, false),
+    }
+}
+
+/// Appends what is advised for the lines.
+fn push_advice(
+    alloc: Global,
+    report: &mut String,
+    options: &Options<'_>,
+    reading: Reading<'_>,
+    advice: &Advice,
+) -> Result<(), AllocError> {
+    let start = match &advice.start {
+        Some(start) => Some(start.as_str()),
+        None => None,
+    };
+    let reading = Reading {
+        drops_return: reading.drops_return,
+        start,
+    };
+    let all = advice.lines;
+    let unit = unit_of(reading);
+    if reading.start.is_some() {
+        let words = format!(in alloc; "the lines are parts of {all} events\n")?;
+        report.push_str(words.as_str())?;
+    }
+    push_alone(alloc, report, options, reading, advice)?;
+    let (most, is_enough) = best_alone(advice);
+    if is_enough {
+        return Ok(());
+    }
+    if most <= all / 2 {
+        let words = format!(in alloc;
+            "no definition matches more than half of the {all} {unit}\n"
+        )?;
+        report.push_str(words.as_str())?;
+    }
+    push_together(alloc, report, options, reading, advice)
+}
+
+/// Returns the definitions for whole lines: those of the common definitions, and the user's.
+fn formats_of<'a>(alloc: Global, library: &Library<'a>) -> Result<Vec<Format<'a>>, AllocError> {
+    let mut formats = Vec::new(alloc);
+    for name in &own_wholes(alloc, library)? {
+        formats.push(Format {
+            name: *name,
+            needs: None,
+        })?;
+    }
+    for format in line_formats() {
+        formats.push(Format {
+            name: format.name,
+            needs: format.needs,
+        })?;
+    }
+    Ok(formats)
+}
+
+/// Returns the definitions with which lines may begin: the formats that by themselves match only lines of their program, and
+/// those for beginnings.
+fn beginnings_of<'a>(alloc: Global, formats: &[Format<'a>]) -> Result<Vec<&'a str>, AllocError> {
+    let mut beginnings = Vec::new(alloc);
+    for format in formats {
+        if format.needs.is_none() {
+            beginnings.push(format.name)?;
+        }
+    }
+    for name in BEGINNINGS {
+        beginnings.push(name)?;
+    }
+    Ok(beginnings)
+}
+
+/// Returns whether more than half of the lines end in a carriage return.
+fn have_returns(sample: &Sample) -> bool {
+    let mut count = 0usize;
+    for line in &sample.lines {
+        if line.as_str().ends_with('\r') {
+            count = count.saturating_add(1);
+        }
+    }
+    count > sample.lines.len() / 2
+}
+
+/// Returns the lines of a sample, without the carriage returns at their ends if these are dropped.
+fn lines_of(sample: &Sample, drops_return: bool) -> Result<Vec<&str>, AllocError> {
+    let mut lines = Vec::new(sample.alloc);
+    for line in &sample.lines {
+        let line = line.as_str();
+        let trimmed = line.strip_suffix('\r').unwrap_or(line);
+        lines.push(if drops_return { trimmed } else { line })?;
+    }
+    Ok(lines)
+}
+
+/// Appends which program reads the lines better than patterns do, if there is one. Returns whether no pattern is needed then.
+fn push_reader(
+    alloc: Global,
+    report: &mut String,
+    options: &Options<'_>,
+    kind: LogKind,
+) -> Result<bool, AllocError> {
+    match kind {
+        LogKind::Lines => Ok(false),
+        LogKind::Json => {
+            report.push_str("these lines are JSON objects, which jq reads:\n")?;
+            push_other(report, options, "jq -c .")?;
+            Ok(true)
+        }
+        LogKind::Table {
+            separator,
+            columns,
+            has_header,
+        } => {
+            let more = if has_header {
+                ", after their names in the first line, which mlr reads"
+            } else {
+                ", which mlr reads, too"
+            };
+            let words = format!(in alloc; "each line has {columns} values{more}:\n")?;
+            report.push_str(words.as_str())?;
+            push_other(report, options, reader_of(separator, has_header))?;
+            Ok(has_header)
+        }
+    }
+}
+
+/// Appends how many lines were too long, if there are any.
+fn push_long(alloc: Global, report: &mut String, count: u64) -> Result<(), AllocError> {
+    let words = match count {
+        0 => return Ok(()),
+        1 => String::from_str(
+            alloc,
+            "1 line is longer than 64 KiB, and wasn't looked at\n",
+        )?,
+        _ => format!(in alloc; "{count} lines are longer than 64 KiB, and weren't looked at\n")?,
+    };
+    report.push_str(words.as_str())
+}
+
+/// What is written about the lines of a sample.
+#[derive(Drop)]
+pub struct Suggestions {
+    pub text: String,
+    /// Whether a pattern is among it.
+    pub has_pattern: bool,
+}
+
+impl Suggestions {
+    /// Makes the suggestions without a pattern.
+    fn without_pattern(text: String) -> Suggestions {
+        let has_pattern = false;
+        Suggestions { text, has_pattern }
+    }
+}
+
+/// Returns the report on the lines of a sample: which definitions and which patterns match them, or which other program is
+/// better for them.
 ///
 /// # Errors
 ///
@@ -250,28 +444,41 @@ pub fn report_of_sample(
     options: &Options<'_>,
     library: &Library<'_>,
     sample: &Sample,
-) -> Result<String, AllocError> {
-    let mut lines = Vec::new(alloc);
-    for line in &sample.lines {
-        lines.push(line.as_str())?;
-    }
+) -> Result<Suggestions, AllocError> {
+    let drops_return = options.form.drops_return || have_returns(sample);
+    let lines = lines_of(sample, drops_return)?;
     let mut report = String::new(alloc);
+    push_long(alloc, &mut report, sample.long)?;
     if lines.is_empty() {
         report.push_str("there are no lines to suggest a pattern for\n")?;
-        return Ok(report);
+        return Ok(Suggestions::without_pattern(report));
     }
-    let fitting = fitting_definitions(alloc, library, &lines)?;
-    push_fitting(alloc, &mut report, options, &fitting)?;
-    let most = match fitting.as_slice().first() {
-        Some(first) => first.fit.lines,
-        None => 0,
+    let formats = formats_of(alloc, library)?;
+    let beginnings = beginnings_of(alloc, &formats)?;
+    let definitions = Definitions {
+        grok: &library.grok,
+        most_bytes: library.limit.bytes,
+        most_groups: library.limit.groups,
     };
-    if most > lines.len() / 2 {
-        return Ok(report);
+    let formats = Formats {
+        lines: &formats,
+        beginnings: &beginnings,
+        open: &BEGINNINGS,
+    };
+    if let LogKind::Json = kind_of_log(&lines) {
+        push_reader(alloc, &mut report, options, LogKind::Json)?;
+        return Ok(Suggestions::without_pattern(report));
     }
-    let all = lines.len();
-    let words = format!(in alloc; "no definition matches more than half of the {all} lines\n")?;
-    report.push_str(words.as_str())?;
-    push_proposals(alloc, &mut report, options, library, &lines)?;
-    Ok(report)
+    let advice = advise(alloc, definitions, formats, &lines)?;
+    if advice.alone.is_empty() && push_reader(alloc, &mut report, options, kind_of_log(&lines))? {
+        return Ok(Suggestions::without_pattern(report));
+    }
+    let reading = Reading {
+        drops_return,
+        start: None,
+    };
+    push_advice(alloc, &mut report, options, reading, &advice)?;
+    let has_pattern = !advice.alone.is_empty() || !advice.together.is_empty();
+    let text = report;
+    Ok(Suggestions { text, has_pattern })
 }

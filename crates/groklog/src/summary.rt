@@ -1,13 +1,13 @@
 //! Counts for `--summary`.
 
 use groklog_answers::Searches;
-use groklog_input::visible;
+use groklog_input::{Unit, visible};
+use groklog_options::GivenPattern;
 use groklog_patterns::ordinal;
-use groklog_views::Unit;
 use std::alloc::{AllocError, Global};
 
 /// Returns how many lines or events were read, how many each pattern was the first to match, how many
-/// no pattern matched, and how many weren't UTF-8. `names` has the name of each pattern, if it has one.
+/// no pattern matched, and how many weren't UTF-8.
 ///
 /// # Errors
 ///
@@ -15,23 +15,22 @@ use std::alloc::{AllocError, Global};
 pub fn summary_of(
     alloc: Global,
     searches: &Searches<'_>,
-    names: &[Option<&str>],
+    patterns: &[GivenPattern<'_>],
     unit: Unit,
 ) -> Result<String, AllocError> {
     let (unmatched, broken) = (searches.unmatched(), searches.broken());
     let matched = searches.matched(alloc)?;
     let mut lines = unmatched.saturating_add(broken);
     let mut parts = String::new(alloc);
-    for (number, count) in (1usize..).zip(&matched) {
+    for (i, (pattern, count)) in patterns.iter().zip(&matched).enumerate() {
         lines = lines.saturating_add(*count);
-        let name = names.get(number.saturating_sub(1)).copied().flatten();
-        let part = if let Some(name) = name {
+        let part = if let Some(name) = pattern.name {
             let name = visible(alloc, name)?;
             format!(in alloc; "{count} matched by {name}, ")?
         } else if matched.len() == 1 {
             format!(in alloc; "{count} matched, ")?
         } else {
-            let nth = ordinal(alloc, number)?;
+            let nth = ordinal(alloc, i.saturating_add(1))?;
             format!(in alloc; "{count} matched by the {nth} pattern, ")?
         };
         parts.push_str(part.as_str())?;

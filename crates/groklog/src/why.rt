@@ -6,8 +6,8 @@ ghost use Rattle.groklog_answers.specs.{patterns_in, first_match};
 use crate::output::DirectOutput;
 use grok_lines::{LineAnswers, SkipLines};
 use groklog_answers::Searches;
+use groklog_input::Unit;
 use groklog_patterns::Explainer;
-use groklog_views::Unit;
 use std::alloc::{AllocError, Global};
 
 /// Writes to standard output where the patterns stop in the first lines that

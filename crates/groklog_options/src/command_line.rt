@@ -1,6 +1,7 @@
 //! Describes the command line: the options, and what its help says.
 
-use clap::{Arg, ArgAction, Command, value_parser};
+use clap::parser::ValueSource;
+use clap::{Arg, ArgAction, ArgMatches, Command, value_parser};
 use std::alloc::{AllocError, Global};
 
 /// The description of the program in its help.
@@ -19,7 +20,8 @@ const EXAMPLES: &str =
     groklog '%{USERNAME:user} logged in' auth.log\n  \
     groklog --typed '%{COMMONAPACHELOG}' access.log | jq .response\n  \
     groklog --typed -D 'NUM=\\d+' '%{NUM:n:int}' counts.log\n\n\
-    Exit status: 0, 1 for a fault of a pattern or a definition, 2 for wrong options, 3 if memory, reading or writing fails.";
+    Exit status: 0, 1 for a fault of a pattern or a definition, 2 for wrong options, 3 if memory, reading or writing fails,\n\
+    4 with --exit-status if nothing is found.";
 
 /// What an option takes. The text is what the help calls its value.
 #[derive(Clone, Copy)]
@@ -44,6 +46,117 @@ enum Takes {
     WordOrAuto(&'static str, &'static [&'static str]),
 }
 
+/// What a run does: the tasks by which the options are compared.
+#[derive(Clone, Copy, PartialEq, Eq)]
+enum TaskKind {
+    /// It answers with JSON objects that have the values under their keys.
+    Objects,
+    /// It answers with JSON objects in which a plan says where values are written.
+    PlannedObjects,
+    /// It answers with lines `KEY=VALUE`.
+    Pairs,
+    /// It answers with records of comma-separated values.
+    Records,
+    /// It counts the values of a key.
+    Counts,
+    /// It shows lines with their fields marked.
+    Shown,
+    /// It writes a page.
+    Page,
+    /// It explains why lines don't match.
+    Reasons,
+    /// It suggests patterns.
+    Suggestions,
+    /// It explains the patterns.
+    Explanation,
+    /// It lists the common definitions.
+    List,
+}
+
+/// All tasks.
+const ALL: &[TaskKind] = &[
+    TaskKind::Objects,
+    TaskKind::PlannedObjects,
+    TaskKind::Pairs,
+    TaskKind::Records,
+    TaskKind::Counts,
+    TaskKind::Shown,
+    TaskKind::Page,
+    TaskKind::Reasons,
+    TaskKind::Suggestions,
+    TaskKind::Explanation,
+    TaskKind::List,
+];
+
+/// The tasks on which an option has an effect.
+#[derive(Clone, Copy)]
+enum Effect {
+    On(&'static [TaskKind]),
+    OnAllBut(&'static [TaskKind]),
+    /// On those of these options, of which one has to be given.
+    With(&'static [&'static str]),
+}
+
+/// On all that use definitions.
+const DEFINITIONS: Effect = Effect::OnAllBut(&[TaskKind::List]);
+
+/// On all that use patterns.
+const PATTERNS: Effect = Effect::OnAllBut(&[TaskKind::Suggestions, TaskKind::List]);
+
+/// On all that read lines.
+const LINES: Effect = Effect::OnAllBut(&[TaskKind::Explanation, TaskKind::List]);
+
+/// On all that search lines.
+const SEARCHES: Effect = Effect::OnAllBut(&[
+    TaskKind::Suggestions,
+    TaskKind::Explanation,
+    TaskKind::List,
+]);
+
+/// On all that search lines or events. A line `KEY=VALUE` has no place for an event.
+const EVENTS: Effect = Effect::OnAllBut(&[
+    TaskKind::Pairs,
+    TaskKind::Suggestions,
+    TaskKind::Explanation,
+    TaskKind::List,
+]);
+
+/// On all that write something of each line.
+const WRITTEN_LINES: Effect = Effect::On(&[
+    TaskKind::Objects,
+    TaskKind::PlannedObjects,
+    TaskKind::Pairs,
+    TaskKind::Records,
+    TaskKind::Shown,
+    TaskKind::Page,
+]);
+
+/// On all that write the values of a line under the keys of the pattern.
+const FIELDS: Effect = Effect::On(&[
+    TaskKind::Objects,
+    TaskKind::Pairs,
+    TaskKind::Records,
+    TaskKind::Shown,
+    TaskKind::Page,
+]);
+
+/// On answers.
+const ANSWERS: Effect = Effect::On(&[
+    TaskKind::Objects,
+    TaskKind::PlannedObjects,
+    TaskKind::Pairs,
+    TaskKind::Records,
+]);
+
+/// On answers of JSON.
+const OBJECTS: Effect = Effect::On(&[TaskKind::Objects, TaskKind::PlannedObjects]);
+
+/// On answers of JSON in which values are written where a plan says.
+const PLANNED: Effect = Effect::On(&[TaskKind::PlannedObjects]);
+
+/// These exclude each other, though they have the same tasks.
+const OPPOSITES: [&str; 2] = ["matched", "unmatched"];
+
 /// An option of the command line.
 #[derive(Clone, Copy)]
 struct CommandOption {
@@ -51,8 +164,30 @@ struct CommandOption {
     name: &'static str,
     takes: Takes,
     help: &'static str,
-    /// The options that can't be given with it.
-    excludes: &'static [&'static str],
+    /// Options whose effects have no task in common exclude each other.
+    effect: Effect,
+}
+
+impl Effect {
+    /// Returns whether an option has an effect on this task, as far as it doesn't depend on others.
+    fn is_on(self, task: TaskKind) -> bool {
+        match self {
+            Effect::On(tasks) => tasks.contains(&task),
+            Effect::OnAllBut(tasks) => !tasks.contains(&task),
+            Effect::With(_) => true,
+        }
+    }
+}
+
+impl CommandOption {
+    /// Returns whether the other option can't be given with this one.
+    fn excludes(&self, other: &CommandOption) -> bool {
+        let are_opposite = self.name != other.name
+            && OPPOSITES.contains(&self.name)
+            && OPPOSITES.contains(&other.name);
+        are_opposite
+            || !ALL.iter().any(|task| self.effect.is_on(*task) && other.effect.is_on(*task))
+    }
 }
 
 /// The options below the heading "Patterns and definitions".
@@ -61,61 +196,61 @@ const SOURCES: &[CommandOption] = &[
         name: "pattern",
         takes: Takes::Patterns(Some('e'), "PATTERN"),
         help: "A pattern; the first of several that matches a line gives the answer",
-        excludes: &[],
+        effect: PATTERNS,
     },
     CommandOption {
         name: "named",
         takes: Takes::Patterns(None, "NAME=PATTERN"),
         help: "A pattern with a name, which --tag and --summary write in place of its text",
-        excludes: &[],
+        effect: PATTERNS,
     },
     CommandOption {
         name: "definitions",
         takes: Takes::Patterns(Some('d'), "FILE"),
         help: "Definitions: lines NAME=DEF, or NAME DEF as Logstash has them; also a folder of such files",
-        excludes: &[],
+        effect: DEFINITIONS,
     },
     CommandOption {
         name: "define",
         takes: Takes::Patterns(Some('D'), "NAME=DEF"),
         help: "A definition; it replaces one of a file",
-        excludes: &[],
+        effect: DEFINITIONS,
     },
     CommandOption {
         name: "no-common",
         takes: Takes::Nothing,
         help: "Leave out the common definitions, which --list shows",
-        excludes: &[],
+        effect: DEFINITIONS,
     },
     CommandOption {
         name: "max-expansion",
         takes: Takes::Number,
         help: "At most N bytes of regular expression for a pattern with its definitions [default: 1000000]",
-        excludes: &[],
+        effect: DEFINITIONS,
     },
     CommandOption {
         name: "list",
         takes: Takes::ValueOrNothing("TEXT"),
         help: "Write the common definitions, or those whose name has this text, and read no lines",
-        excludes: &[],
+        effect: Effect::On(&[TaskKind::List]),
     },
     CommandOption {
         name: "from-logstash",
         takes: Takes::Nothing,
         help: "Rewrite what the engine doesn't know in definitions made for Logstash, and report each change",
-        excludes: &[],
+        effect: DEFINITIONS,
     },
     CommandOption {
         name: "loose",
         takes: Takes::Nothing,
         help: "With --from-logstash, drop each lookaround that can't be rewritten, and report it",
-        excludes: &[],
+        effect: Effect::With(&["from-logstash"]),
     },
     CommandOption {
         name: "write-definitions",
         takes: Takes::Value("FILE"),
         help: "Also write the definitions of -d and -D to this file, rewritten by --from-logstash",
-        excludes: &["list"],
+        effect: DEFINITIONS,
     },
 ];
 
@@ -125,25 +260,25 @@ const READING: &[CommandOption] = &[
         name: "crlf",
         takes: Takes::Nothing,
         help: "Take one carriage return off the end of each line",
-        excludes: &[],
+        effect: LINES,
     },
     CommandOption {
         name: "lossy",
         takes: Takes::Nothing,
         help: "Read bytes that aren't UTF-8 as U+FFFD, so that their line can match",
-        excludes: &[],
+        effect: LINES,
     },
     CommandOption {
         name: "start",
         takes: Takes::Pattern("PATTERN"),
         help: "Answer events of several lines, which begin at each line in which this pattern is found",
-        excludes: &["pairs", "suggest"],
+        effect: EVENTS,
     },
     CommandOption {
         name: "max-lines",
         takes: Takes::Number,
         help: "At most N lines in an event of --start; 1000 without this option",
-        excludes: &[],
+        effect: Effect::With(&["start"]),
     },
 ];
 
@@ -153,133 +288,139 @@ const WRITING: &[CommandOption] = &[
         name: "all",
         takes: Takes::Nothing,
         help: "Also write placeholders without an alias, under their name",
-        excludes: &[],
+        effect: PATTERNS,
     },
     CommandOption {
         name: "matched",
         takes: Takes::Nothing,
         help: "Only lines that match",
-        excludes: &["unmatched"],
+        effect: WRITTEN_LINES,
     },
     CommandOption {
         name: "unmatched",
         takes: Takes::Nothing,
         help: "Only lines that don't match",
-        excludes: &[],
+        effect: WRITTEN_LINES,
     },
     CommandOption {
         name: "typed",
         takes: Takes::Nothing,
         help: "Write values with the extract int or float as numbers",
-        excludes: &[],
+        effect: OBJECTS,
     },
     CommandOption {
         name: "no-empty",
         takes: Takes::Nothing,
         help: "Leave out fields whose value is empty",
-        excludes: &[],
+        effect: Effect::On(&[TaskKind::Objects, TaskKind::PlannedObjects, TaskKind::Pairs]),
     },
     CommandOption {
         name: "nested",
         takes: Takes::Nothing,
         help: "Write keys such as [a][b] as nested objects",
-        excludes: &[],
+        effect: PLANNED,
     },
     CommandOption {
         name: "merge",
         takes: Takes::Nothing,
         help: "Let placeholders with one key share it; several values are a list",
-        excludes: &[],
+        effect: PLANNED,
     },
     CommandOption {
         name: "logstash",
         takes: Takes::Nothing,
         help: "Write what Logstash would: --nested --merge --typed --no-empty, and a tag in lines that don't match",
-        excludes: &[],
+        effect: PLANNED,
     },
     CommandOption {
         name: "pairs",
         takes: Takes::Nothing,
         help: "Write lines KEY=VALUE in place of JSON",
-        excludes: &["csv", "count", "nested", "merge", "logstash"],
+        effect: Effect::On(&[TaskKind::Pairs]),
     },
     CommandOption {
         name: "csv",
         takes: Takes::Nothing,
         help: "Write comma-separated values with a header in place of JSON",
-        excludes: &["nested", "merge", "logstash"],
+        effect: Effect::On(&[TaskKind::Records, TaskKind::Counts]),
     },
     CommandOption {
         name: "fields",
         takes: Takes::Value("KEYS"),
         help: "Only write these keys, as a,b,c; --csv and --pairs write them in this order",
-        excludes: &["nested", "merge", "logstash"],
+        effect: FIELDS,
     },
     CommandOption {
         name: "count",
-        takes: Takes::Value("KEY"),
-        help: "Count the values of this key, and write them with their counts, in place of answers",
-        excludes: &["fields", "why", "nested", "merge", "logstash"],
+        takes: Takes::Value("KEYS"),
+        help: "Count the values of this key, or of several as a,b together, in place of answers",
+        effect: Effect::On(&[TaskKind::Counts]),
     },
     CommandOption {
         name: "max",
         takes: Takes::Number,
         help: "At most N: different values for --count [default: 100000], lines for --html [default: 1000]",
-        excludes: &[],
+        effect: Effect::With(&["count", "html"]),
     },
     CommandOption {
         name: "summary",
         takes: Takes::Nothing,
         help: "At the end, also report how many lines matched, on standard error",
-        excludes: &[],
+        effect: SEARCHES,
+    },
+    CommandOption {
+        name: "exit-status",
+        takes: Takes::Nothing,
+        help: "End with status 4 if no line matches, or --suggest finds no pattern",
+        effect: LINES,
     },
     CommandOption {
         name: "keep",
         takes: Takes::Value("KEY"),
         help: "Also write the line itself, under this key",
-        excludes: &[],
+        effect: ANSWERS,
     },
     CommandOption {
         name: "tag",
         takes: Takes::Value("KEY"),
         help: "Also write the pattern that matched, under this key",
-        excludes: &[],
+        effect: ANSWERS,
     },
     CommandOption {
         name: "number",
         takes: Takes::Value("KEY"),
         help: "Also write the number of the line, under this key",
-        excludes: &[],
+        effect: ANSWERS,
     },
     CommandOption {
         name: "file",
         takes: Takes::Value("KEY"),
         help: "Also write the name of the line's file, under this key",
-        excludes: &[],
+        effect: ANSWERS,
     },
     CommandOption {
         name: "failed",
         takes: Takes::Value("KEY"),
         help: "Also write why a line has no fields, under this key",
-        excludes: &[],
+        effect: ANSWERS,
     },
     CommandOption {
         name: "show",
         takes: Takes::Nothing,
         help: "Show each line with its fields in colours, or with letters under them, in place of answers",
-        excludes: NOT_SHOWN,
+        effect: Effect::On(&[TaskKind::Shown]),
     },
     CommandOption {
         name: "color",
         takes: Takes::WordOrAuto("WHEN", &["auto", "always", "never"]),
         help: "When --show uses colours; auto is on a terminal, unless NO_COLOR is set",
-        excludes: &[],
+        effect: Effect::With(&["show"]),
     },
     CommandOption {
         name: "html",
         takes: Takes::Value("FILE"),
         help: "Write a page about the first lines to this file, in place of answers",
-        excludes: NOT_SHOWN,
+        effect: Effect::On(&[TaskKind::Page]),
     },
 ];
 
@@ -289,27 +430,20 @@ const WORKING: &[CommandOption] = &[
         name: "explain",
         takes: Takes::Nothing,
         help: "Explain the pattern, or its first fault, and read no lines",
-        excludes: &[],
+        effect: Effect::On(&[TaskKind::Explanation]),
     },
     CommandOption {
         name: "why",
         takes: Takes::NumberOr("3"),
         help: "Show where the pattern stops in the first N lines that don't match, in place of answers",
-        excludes: &[],
+        effect: Effect::On(&[TaskKind::Reasons]),
     },
     CommandOption {
         name: "suggest",
         takes: Takes::NumberOr("1000"),
         help: "Suggest patterns for the first N lines, in place of answers; all words are files",
-        excludes: &["pattern", "named"],
+        effect: Effect::On(&[TaskKind::Suggestions]),
     },
-];
-
-/// The options that say how answers are written, and those that ask for something else in place of
-/// answers. `--show` and `--html` can't be used with any other of them.
-const NOT_SHOWN: &[&str] = &[
-    "csv", "pairs", "typed", "no-empty", "nested", "merge", "logstash", "keep", "tag", "number",
-    "file", "failed", "count", "why", "suggest", "list", "explain", "show", "html",
 ];
 
 /// The headings of the help, with the options below each.
@@ -368,8 +502,14 @@ fn arg_of<'a>(alloc: Global, option: &'a CommandOption) -> Result<Arg<'a>, Alloc
     let arg = Arg::new(alloc, option.name)
         .long(option.name)
         .help(option.help);
-    let arg = option.takes.describe(arg);
-    let arg = arg.conflicts_with_all(option.excludes)?;
+    let mut arg = option.takes.describe(arg);
+    for (_, others) in HEADINGS {
+        for other in others {
+            if option.excludes(other) {
+                arg = arg.conflicts_with(other.name)?;
+            }
+        }
+    }
     match option.takes {
         Takes::Nothing => arg.overrides_with(option.name),
         _ => Ok(arg),
@@ -385,6 +525,21 @@ fn args_of<'a>(alloc: Global, options: &'a [CommandOption]) -> Result<Vec<Arg<'a
     Ok(args)
 }
 
+/// Returns whether an option stands on the command line.
+pub fn is_given(matches: &ArgMatches<'_>, name: &str) -> bool {
+    matches.value_source(name) == Some(ValueSource::CommandLine)
+}
+
+/// Returns the report that an option has no effect without one of these others.
+fn without_partner(alloc: Global, name: &str, partners: &[&str]) -> Result<String, AllocError> {
+    let mut what = format!(in alloc; "--{name} has no effect without ")?;
+    for (i, partner) in partners.iter().enumerate() {
+        what.push_str(if i > 0 { " or --" } else { "--" })?;
+        what.push_str(partner)?;
+    }
+    Ok(what)
+}
+
 /// Describes the command line to clap. The words that aren't options come before the first heading, so
 /// that the help has them below one of their own.
 ///
@@ -396,7 +551,8 @@ pub fn describe<'a>(alloc: Global) -> Result<Command<'a>, AllocError> {
         .value_names(&["PATTERN", "FILE"])
         .help("The pattern, unless -e gives one, and then the files")
         .num_args(0..)
-        .action(ArgAction::Append);
+        .action(ArgAction::Append)
+        .conflicts_with("list")?;
     let mut command = Command::new(alloc, "groklog")
         .version("1.0.0")
         .about(ABOUT)
@@ -408,4 +564,26 @@ pub fn describe<'a>(alloc: Global) -> Result<Command<'a>, AllocError> {
         command = command.next_help_heading(heading).args(args)?;
     }
     Ok(command)
+}
+
+/// Returns what is wrong with the options, if one of them is given without another that it needs.
+///
+/// # Errors
+///
+/// If an allocation fails.
+pub fn missing_partner(
+    alloc: Global,
+    matches: &ArgMatches<'_>,
+) -> Result<Option<String>, AllocError> {
+    for (_, options) in HEADINGS {
+        for option in options {
+            if let Effect::With(partners) = option.effect
+                && is_given(matches, option.name)
+                && !partners.iter().any(|partner| is_given(matches, partner))
+            {
+                return Ok(Some(without_partner(alloc, option.name, partners)?));
+            }
+        }
+    }
+    Ok(None)
 }

@@ -2,39 +2,16 @@
 ghost use Rattle.std.specs.Prelude.{IfErr};
 ghost use Rattle.groklog_options.specs.OptionFaults.{IsOptionFault};
 
-use crate::keys::check_known;
-use crate::options::Options;
+use crate::keys::{check_list, key_set};
+use crate::task::Task;
 use grok::Pattern;
 use groklog_input::{Fault, Report};
 use std::alloc::{AllocError, Global};
-use std::collections::BTreeMap;
-
-/// Checks that each of the keys that `--fields` names is a key of a pattern, and is named once.
-fn check_fields(alloc: Global, patterns: &[Pattern], fields: &[&str]) -> Result<(), Fault>
-    ensures { IfErr result IsOptionFault }
-{
-    let mut named = BTreeMap::new(alloc);
-    for field in fields {
-        check_known(alloc, patterns, "--fields", field)?;
-        if named.insert(*field, true)?.is_some() {
-            let what = format!(in alloc; "--fields has the key {field} twice")?;
-            let advice = "name each key once";
-            return Err(Fault::Usage(Report::new(alloc, what.as_str(), advice)?));
-        }
-    }
-    Ok(())
-}
 
 /// Returns all keys of the patterns, in byte order.
 fn all_keys<'p>(alloc: Global, patterns: &'p [Pattern]) -> Result<Vec<&'p str>, AllocError> {
-    let mut keys = BTreeMap::new(alloc);
-    for pattern in patterns {
-        for key in pattern.capture_names() {
-            keys.insert(key, true)?;
-        }
-    }
     let mut all = Vec::new(alloc);
-    for key in keys.keys() {
+    for key in key_set(alloc, patterns)?.keys() {
         all.push(*key)?;
     }
     Ok(all)
@@ -48,16 +25,16 @@ fn all_keys<'p>(alloc: Global, patterns: &'p [Pattern]) -> Result<Vec<&'p str>, 
 /// have no columns, or if an allocation fails.
 pub fn chosen_fields<'p>(
     alloc: Global,
-    options: &Options<'p>,
+    task: &Task<'p>,
     patterns: &'p [Pattern],
 ) -> Result<Option<Vec<&'p str>>, Fault>
     ensures { IfErr result IsOptionFault }
 {
-    if let Some(fields) = &options.fields {
-        check_fields(alloc, patterns, fields)?;
+    if let Some(fields) = task.fields() {
+        check_list(alloc, patterns, "--fields", fields)?;
         return Ok(Some(Vec::from_slice(alloc, fields)?));
     }
-    if !options.are_records {
+    if !task.has_records() {
         return Ok(None);
     }
     let keys = all_keys(alloc, patterns)?;

@@ -2,19 +2,19 @@
 ghost use Rattle.std.specs.Prelude.{IfOk, IfErr};
 ghost use Rattle.groklog_options.specs.OptionFaults.{IsOptionFault};
 
-use crate::options::{KeyOption, Options};
+use crate::additions::option_of;
+use crate::task::{AnswerOptions, Task};
 use grok::Pattern;
-use groklog_answers::Plan;
+use groklog_answers::{Added, Plan};
 use groklog_input::{Fault, Report};
 use std::alloc::{AllocError, Global};
+use std::collections::BTreeMap;
 
-/// Returns the option among these that names `key`, or `None` if none of them does.
-fn option_of_key(options: &[KeyOption<'_>], key: &str) -> Option<&'static str> {
-    for named in options {
-        if let Some(other) = named.key
-            && other == key
-        {
-            return Some(named.option);
+/// Returns the option that adds something under this key, or `None` if none of these does.
+fn option_of_key(added: &[Added<'_>], key: &str) -> Option<&'static str> {
+    for one in added {
+        if one.key == key {
+            return Some(option_of(one.what));
         }
     }
     None
@@ -24,7 +24,7 @@ fn option_of_key(options: &[KeyOption<'_>], key: &str) -> Option<&'static str> {
 fn repeated_key(alloc: Global, first: &str, second: &str, key: &str) -> Result<Fault, AllocError>
     ensures { IfOk result IsOptionFault }
 {
-    let what = format!(in alloc; "{first} and {second} have the same key {key}")?;
+    let what = format!(in alloc; "--{first} and --{second} have the same key {key}")?;
     let advice = "name another key after one of them";
     Ok(Fault::Usage(Report::new(alloc, what.as_str(), advice)?))
 }
@@ -33,28 +33,26 @@ fn repeated_key(alloc: Global, first: &str, second: &str, key: &str) -> Result<F
 fn key_of_tags(alloc: Global, option: &str) -> Result<Fault, AllocError>
     ensures { IfOk result IsOptionFault }
 {
-    let what = format!(in alloc; "--logstash and {option} have the same key tags")?;
-    let advice = format!(in alloc; "name another key after {option}")?;
+    let what = format!(in alloc; "--logstash and --{option} have the same key tags")?;
+    let advice = format!(in alloc; "name another key after --{option}")?;
     let report = Report::new(alloc, what.as_str(), advice.as_str())?;
     Ok(Fault::Usage(report))
 }
 
 /// Checks that no two options name the same key.
-fn check_repeated(alloc: Global, options: &Options<'_>) -> Result<(), Fault>
+fn check_repeated(alloc: Global, answers: &AnswerOptions<'_>) -> Result<(), Fault>
     ensures { IfErr result IsOptionFault }
 {
-    let all = options.key_options();
-    if options.tags_failures
-        && let Some(option) = option_of_key(&all, "tags")
+    let added = &answers.added;
+    if answers.tags_failures
+        && let Some(option) = option_of_key(added, "tags")
     {
         return Err(key_of_tags(alloc, option)?);
     }
-    for (i, named) in all.iter().enumerate() {
-        let earlier = all.get(..i).unwrap_or(&[]);
-        if let Some(key) = named.key
-            && let Some(first) = option_of_key(earlier, key)
-        {
-            return Err(repeated_key(alloc, first, named.option, key)?);
+    for (i, one) in added.iter().enumerate() {
+        let earlier = added.get(..i).unwrap_or(&[]);
+        if let Some(first) = option_of_key(earlier, one.key) {
+            return Err(repeated_key(alloc, first, option_of(one.what), one.key)?);
         }
     }
     Ok(())
@@ -69,36 +67,33 @@ fn has_key(pattern: &Pattern, key: &str) -> bool {
 fn taken_key(alloc: Global, option: &str, key: &str) -> Result<Fault, AllocError>
     ensures { IfOk result IsOptionFault }
 {
-    let what = format!(in alloc; "{option} has the key {key}, which a pattern has too")?;
-    let advice = format!(in alloc; "name another key after {option}")?;
+    let what = format!(in alloc; "--{option} has the key {key}, which a pattern has too")?;
+    let advice = format!(in alloc; "name another key after --{option}")?;
     let report = Report::new(alloc, what.as_str(), advice.as_str())?;
     Ok(Fault::Usage(report))
 }
 
-/// Checks that the key that an option names is neither a key of a pattern nor of the object that a plan
+/// Checks that the key of what is added is neither a key of a pattern nor of the object that a plan
 /// describes.
 fn check_free(
     alloc: Global,
     patterns: &[Pattern],
     plans: &[Plan<'_>],
-    named: KeyOption<'_>,
+    added: &Added<'_>,
 ) -> Result<(), Fault>
     ensures { IfErr result IsOptionFault }
 {
-    let KeyOption { option, key } = named;
-    let Some(key) = key else {
-        return Ok(());
-    };
+    let key = added.key;
     if patterns.iter().any(|pattern| has_key(pattern, key))
         || plans.iter().any(|plan| plan.has_member(key))
     {
-        return Err(taken_key(alloc, option, key)?);
+        return Err(taken_key(alloc, option_of(added.what), key)?);
     }
     Ok(())
 }
 
 /// Returns the fault that reports a key that no pattern has.
-fn unknown_key(alloc: Global, option: &str, key: &str) -> Result<Fault, AllocError>
+pub fn unknown_key(alloc: Global, option: &str, key: &str) -> Result<Fault, AllocError>
     ensures { IfOk result IsOptionFault }
 {
     let what = format!(in alloc; "{option} has the key {key}, which no pattern has")?;
@@ -106,46 +101,75 @@ fn unknown_key(alloc: Global, option: &str, key: &str) -> Result<Fault, AllocErr
     Ok(Fault::Usage(Report::new(alloc, what.as_str(), advice)?))
 }
 
-/// Checks that a pattern has the key that an option names.
+/// Some keys of patterns, each once.
+pub type KeySet<'p> = BTreeMap<&'p str, ()>;
+
+/// Returns all keys of the patterns.
 ///
 /// # Errors
 ///
-/// Returns a fault if no pattern has it, or an error if an allocation fails.
-pub fn check_known(
+/// If an allocation fails.
+pub fn key_set<'p>(alloc: Global, patterns: &'p [Pattern]) -> Result<KeySet<'p>, AllocError> {
+    let mut keys = BTreeMap::new(alloc);
+    for pattern in patterns {
+        for key in pattern.capture_names() {
+            keys.insert(key, ())?;
+        }
+    }
+    Ok(keys)
+}
+
+/// Checks that each of the keys that an option names is a key of a pattern, and is named once.
+///
+/// # Errors
+///
+/// Returns a fault if no pattern has one of them, or if it is named twice, or an error if an allocation fails.
+pub fn check_list(
     alloc: Global,
     patterns: &[Pattern],
     option: &str,
-    key: &str,
+    keys: &[&str],
 ) -> Result<(), Fault>
     ensures { IfErr result IsOptionFault }
 {
-    if patterns.iter().any(|pattern| has_key(pattern, key)) {
-        Ok(())
-    } else {
-        Err(unknown_key(alloc, option, key)?)
+    let known = key_set(alloc, patterns)?;
+    let mut named = BTreeMap::new(alloc);
+    for key in keys {
+        if !known.contains_key(key) {
+            return Err(unknown_key(alloc, option, key)?);
+        }
+        if named.insert(*key, ())?.is_some() {
+            let what = format!(in alloc; "{option} has the key {key} twice")?;
+            let advice = "name each key once";
+            return Err(Fault::Usage(Report::new(alloc, what.as_str(), advice)?));
+        }
     }
+    Ok(())
 }
 
 /// Checks that the keys that options such as `--tag` name differ from each other and from the keys
-/// of the patterns, and that a pattern has the key that `--count` names.
+/// of the patterns, and that a pattern has each key that `--count` names.
 ///
 /// # Errors
 ///
 /// Returns the first fault of these keys, or an error if an allocation fails.
 pub fn check_keys(
     alloc: Global,
-    options: &Options<'_>,
+    task: &Task<'_>,
     patterns: &[Pattern],
     plans: &[Plan<'_>],
 ) -> Result<(), Fault>
     ensures { IfErr result IsOptionFault }
 {
-    check_repeated(alloc, options)?;
-    if let Some(key) = options.count {
-        check_known(alloc, patterns, "--count", key)?;
+    match task {
+        Task::Answers(answers) => {
+            check_repeated(alloc, answers)?;
+            for added in &answers.added {
+                check_free(alloc, patterns, plans, added)?;
+            }
+            Ok(())
+        }
+        Task::Counts(counts) => check_list(alloc, patterns, "--count", &counts.keys),
+        _ => Ok(()),
     }
-    for named in &options.key_options() {
-        check_free(alloc, patterns, plans, *named)?;
-    }
-    Ok(())
 }

@@ -5,19 +5,28 @@
 //!
 //! ```text
 //! let options = read_options(alloc, &words)?;
-//! check_keys(alloc, &options, &patterns, &plans)?;
-//! let fields = chosen_fields(alloc, &options, &patterns)?;
-//! let layout = layout_of(&options, fields.as_deref());
+//! check_keys(alloc, &options.task, &patterns, &plans)?;
+//! let fields = chosen_fields(alloc, &options.task, &patterns)?;
+//! if let Task::Answers(answers) = &options.task {
+//!     let layout = layout_of(answers, fields.as_deref());
+//! }
 //! ```
 #![tactic(auto)]
 
+mod additions;
 mod command_line;
 mod fields;
 mod keys;
 mod layouts;
 mod options;
+mod task;
 
 pub use fields::chosen_fields;
 pub use keys::check_keys;
 pub use layouts::{layout_of, with_tags};
-pub use options::{Colours, KeyOption, Options, is_answer, read_options, usage_fault};
+pub use options::{
+    EventOptions, GivenDefinitions, GivenPattern, Options, is_answer, read_options, usage_fault,
+};
+pub use task::{
+    AnswerOptions, Colours, CountOptions, PageOptions, PlanOptions, ShownOptions, Task,
+};

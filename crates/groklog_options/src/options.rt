@@ -1,13 +1,20 @@
 //! Reads the options of the program.
-ghost use Rattle.std.specs.Prelude.{◌≡◌, ◌||◌, true, false, MatchOption, IfOk, is_some, is_none, unwrap_or, if◌then◌else◌};
+ghost use Rattle.std.specs.Prelude.{◌≡◌, ◌<◌, ◌⊎◌, ◌↔◌, IfOk, IsTrue, MatchOption, is_some, length, true, unwrap_or, if◌then◌else◌};
+ghost use Rattle.groklog_input.specs.declared.unit.Unit.{Unit};
 ghost use Rattle.groklog_options.specs.OptionFaults.{IsOptionFault};
+ghost use Rattle.groklog_options.specs.Tasks.{IsAskedBy, has_patterns};
+ghost use Rattle.clap.specs.Matches.{first_value, found_of};
+ghost use Rattle.clap.specs.Values.{kind_of};
 
-use crate::command_line::describe;
+use crate::additions::added_of;
+use crate::command_line::{describe, missing_partner};
+use crate::task::{
+    AnswerOptions, Colours, CountOptions, PageOptions, PlanOptions, ShownOptions, Task,
+};
 use clap::error::ErrorKind;
-use clap::{ArgMatches, Error};
-use groklog_answers::Lines;
-use groklog_input::{Fault, LineForm, Report};
-use groklog_views::Unit;
+use clap::{ArgMatches, Command, Error};
+use groklog_answers::{Lines, OutputFormat};
+use groklog_input::{Fault, LineForm, Report, Unit};
 use oniguruma_syntax::Wish;
 use std::alloc::{AllocError, Global};
 use std::collections::BTreeMap;
@@ -29,179 +36,79 @@ const EVENT_LINES: u64 = 1000;
 const UNKNOWN_OPTION: &str =
     "groklog --help, which lists the options; for a pattern that begins with -, write -e before it";
 
-/// When `--show` writes in colours.
-#[derive(Clone, Copy, PartialEq, Eq)]
-pub enum Colours {
-    /// If standard output is a terminal, and `NO_COLOR` isn't set or is empty.
-    Auto,
-    Always,
-    Never,
+/// A pattern of the command line.
+#[derive(Clone, Copy)]
+pub struct GivenPattern<'a> {
+    pub name: Option<&'a str>,
+    pub text: &'a str,
 }
 
-/// The options and arguments of the command line.
+impl<'a> GivenPattern<'a> {
+    /// Returns what answers and reports call it: its name, or else its text.
+    pub fn tag(self) -> &'a str
+        ensures { result.now ≡ (unwrap_or self.entry.name self.entry.text).now }
+    {
+        self.name.unwrap_or(self.text)
+    }
+}
+
+/// The definitions of a run.
 #[derive(Drop)]
-pub struct Options<'a> {
-    pub patterns: Vec<&'a str>,
-    /// For each pattern its name, if it has one.
-    pub names: Vec<Option<&'a str>>,
-    /// Whether the pattern is the first word, and not the value of `-e`.
-    pub is_pattern_first: bool,
+pub struct GivenDefinitions<'a> {
+    /// The files and folders after `-d`.
     pub files: Vec<&'a str>,
-    pub definition_files: Vec<&'a str>,
-    /// The text that the names of the listed definitions have, if definitions are to be listed.
-    pub list: Option<&'a str>,
+    /// The words after `-D`.
+    pub words: Vec<&'a str>,
     /// Whether the common definitions are there.
     pub has_common: bool,
-    /// The words after `-D`.
-    pub definitions: Vec<&'a str>,
     /// How many bytes the expanded text of a pattern has at most.
     pub most_bytes: usize,
-    pub lines: Lines,
-    /// How the lines of the logs are read.
-    pub form: LineForm,
-    /// The pattern that is found in each line that begins an event, if events are answered.
-    pub start: Option<&'a str>,
+    /// How definitions and patterns are rewritten that were made for Logstash, or `None` if they stay
+    /// as they are.
+    pub wish: Option<Wish>,
+    /// The file that those of the user are written to, once they are rewritten.
+    pub written: Option<&'a str>,
+}
+
+/// Which lines are an event.
+#[derive(Clone, Copy)]
+pub struct EventOptions<'a> {
+    /// The pattern that is found in each line that begins an event.
+    pub start: &'a str,
     /// How many lines an event has at most.
     pub most_lines: NonZeroU64,
-    pub keep: Option<&'a str>,
-    pub tag: Option<&'a str>,
-    pub number: Option<&'a str>,
-    pub file: Option<&'a str>,
-    pub failed: Option<&'a str>,
-    pub are_pairs: bool,
-    /// Whether answers are records of comma-separated values.
-    pub are_records: bool,
-    /// The keys of patterns that are written, in this order, or `None` if all are.
-    pub fields: Option<Vec<&'a str>>,
-    /// The key whose values are counted, in place of answers.
-    pub count: Option<&'a str>,
-    /// How many different values are counted at most, or how many lines a page has, if `--max` says so.
-    pub most: Option<usize>,
-    /// Whether lines are shown with their fields marked, in place of answers.
-    pub is_shown: bool,
-    /// When they are shown in colours.
-    pub colours: Colours,
-    /// The file that a page about the first lines is written to, in place of answers.
-    pub page: Option<&'a str>,
-    /// Whether fields with an empty value are left out.
-    pub drops_empty: bool,
-    pub is_typed: bool,
-    /// Whether keys of the form `[a][b]` are nested objects.
-    pub is_nested: bool,
-    /// Whether placeholders that ask for the same key share it.
-    pub is_merged: bool,
-    /// Whether lines that have no fields have the tag of Logstash for that.
-    pub tags_failures: bool,
+}
+
+/// What the command line asks for.
+#[derive(Drop)]
+pub struct Options<'a> {
+    pub task: Task<'a>,
+    pub definitions: GivenDefinitions<'a>,
+    pub patterns: Vec<GivenPattern<'a>>,
+    /// Whether the pattern is the first word, and not the value of `-e`.
+    pub is_pattern_first: bool,
     /// Whether placeholders without an alias capture too.
     pub is_all: bool,
-    pub is_explained: bool,
-    /// For how many lines that don't match it is explained why, in place of answers.
-    pub why: Option<u64>,
-    /// For how many lines patterns are suggested, in place of answers.
-    pub suggest: Option<u64>,
+    pub files: Vec<&'a str>,
+    /// How the lines of the files are read.
+    pub form: LineForm,
+    /// Which lines are an event, if events are answered in place of lines.
+    pub events: Option<EventOptions<'a>>,
     pub has_summary: bool,
-    /// Whether patterns and definitions were made for Logstash, and are rewritten.
-    pub is_from_logstash: bool,
-    /// Whether a lookaround that can't be rewritten is dropped.
-    pub is_loose: bool,
-    /// The file that the definitions of the user are written to, once they are rewritten.
-    pub written_definitions: Option<&'a str>,
+    /// Whether a run that finds nothing has an exit status of its own.
+    pub has_exit_status: bool,
 }
 
-/// An option that names a key, with the key if the option was given.
-#[derive(Clone, Copy)]
-pub struct KeyOption<'a> {
-    pub option: &'static str,
-    pub key: Option<&'a str>,
-}
-
-impl<'a> Options<'a> {
-    /// Returns how definitions are rewritten that were made for Logstash, or `None` if they stay as
-    /// they are.
-    pub fn logstash_wish(&self) -> Option<Wish>
-        ensures { MatchOption result (self.now.is_from_logstash ≡ false)
-            (λ wish. (self.now.is_from_logstash ≡ true) × (wish.is_loose ≡ self.now.is_loose)) }
-    {
-        if !self.is_from_logstash {
-            return None;
-        }
-        Some(Wish {
-            is_whole: false,
-            is_loose: self.is_loose,
-        })
-    }
-
-    /// Returns how many different values are counted at most.
-    pub fn most_values(&self) -> usize
-        ensures { result ≡ unwrap_or self.now.most VALUES }
-    {
-        self.most.unwrap_or(VALUES)
-    }
-
-    /// Returns how many lines a page is about at most.
-    pub fn page_lines(&self) -> usize
-        ensures { result ≡ unwrap_or self.now.most PAGE_LINES }
-    {
-        self.most.unwrap_or(PAGE_LINES)
-    }
-
-    /// Returns for each pattern what answers and reports call it: its name, or else its text.
-    ///
-    /// # Errors
-    ///
-    /// If an allocation fails.
-    pub fn tags(&self, alloc: Global) -> Result<Vec<&'a str>, AllocError> {
-        let mut tags = Vec::new(alloc);
-        for (text, name) in self.patterns.iter().zip(&self.names) {
-            tags.push(name.unwrap_or(*text))?;
-        }
-        Ok(tags)
-    }
-
+impl Options<'_> {
     /// Returns what has one answer.
     pub fn unit(&self) -> Unit
-        ensures { result ≡ (if is_some self.now.start then Unit.Event else Unit.Line) }
+        ensures { result ≡ (if is_some self.now.events then Unit.Event else Unit.Line) }
     {
-        if self.start.is_some() {
+        if self.events.is_some() {
             Unit::Event
         } else {
             Unit::Line
         }
-    }
-
-    /// Returns whether a plan says where values are written.
-    pub fn is_planned(&self) -> bool
-        ensures { result ≡ (self.now.is_nested || self.now.is_merged) }
-    {
-        self.is_nested || self.is_merged
-    }
-
-    /// Returns the options that name keys, in the order in which an answer has these keys.
-    pub fn key_options(&self) -> [KeyOption<'a>; 5] {
-        let (number, file, failed) = (self.number, self.file, self.failed);
-        let (tag, keep) = (self.tag, self.keep);
-        [
-            KeyOption {
-                option: "--number",
-                key: number,
-            },
-            KeyOption {
-                option: "--file",
-                key: file,
-            },
-            KeyOption {
-                option: "--failed",
-                key: failed,
-            },
-            KeyOption {
-                option: "--tag",
-                key: tag,
-            },
-            KeyOption {
-                option: "--keep",
-                key: keep,
-            },
-        ]
     }
 }
 
@@ -237,19 +144,10 @@ fn chosen_colours(matches: &ArgMatches<'_>) -> Colours {
     }
 }
 
-/// A pattern of the command line.
-#[derive(Clone, Copy)]
-struct GivenPattern<'a> {
-    name: Option<&'a str>,
-    text: &'a str,
-}
-
 /// The patterns and files of the command line.
 #[derive(Drop)]
 struct GivenWords<'a> {
-    patterns: Vec<&'a str>,
-    /// For each pattern its name, if it has one.
-    names: Vec<Option<&'a str>>,
+    patterns: Vec<GivenPattern<'a>>,
     files: Vec<&'a str>,
 }
 
@@ -286,148 +184,210 @@ fn given_patterns<'a>(
 /// Returns the patterns and the files. The first word is the pattern, unless `-e` or `--named` gave
 /// one or patterns are suggested.
 fn given_words<'a>(alloc: Global, matches: &ArgMatches<'a>) -> Result<GivenWords<'a>, AllocError> {
-    let mut given = GivenWords {
-        patterns: Vec::new(alloc),
-        names: Vec::new(alloc),
-        files: Vec::new(alloc),
-    };
+    let mut patterns = Vec::new(alloc);
     for pattern in given_patterns(alloc, matches)?.values() {
-        given.patterns.push(pattern.text)?;
-        given.names.push(pattern.name)?;
+        patterns.push(*pattern)?;
     }
-    let words = values_of(alloc, matches, "words")?;
-    let has_pattern = !given.patterns.is_empty() || matches.contains_id("suggest");
-    for word in &words {
-        if !has_pattern && given.patterns.is_empty() {
-            given.patterns.push(*word)?;
-            given.names.push(None)?;
-        } else {
-            given.files.push(*word)?;
-        }
+    let mut files = values_of(alloc, matches, "words")?;
+    if patterns.is_empty() && !matches.contains_id("suggest") && !files.is_empty() {
+        let (name, text) = (None, files.remove(0));
+        patterns.push(GivenPattern { name, text })?;
     }
-    Ok(given)
+    Ok(GivenWords { patterns, files })
 }
 
-/// Returns the keys that `--fields` names, which are separated by commas.
-fn fields_of<'a>(
+/// Returns the keys that this option names, which are separated by commas.
+fn keys_of<'a>(
     alloc: Global,
     matches: &ArgMatches<'a>,
-) -> Result<Option<Vec<&'a str>>, AllocError> {
-    let Some(keys) = matches.get_str("fields") else {
+    option: &str,
+) -> Result<Option<Vec<&'a str>>, AllocError>
+    ensures { IfOk result (λ keys. let value = first_value (found_of matches.now) option.now in
+        MatchOption keys (value ≡ None) (λ _. is_some value ≡ true)) }
+{
+    let Some(words) = matches.get_str(option) else {
         return Ok(None);
     };
-    let mut fields = Vec::new(alloc);
-    for key in keys.split(',') {
-        fields.push(key)?;
+    let mut keys = Vec::new(alloc);
+    for key in words.split(',') {
+        keys.push(key)?;
     }
-    Ok(Some(fields))
+    Ok(Some(keys))
 }
 
-/// Returns the text after `--list`, which is empty if there is none, or `None` without that option.
-fn listed<'a>(matches: &ArgMatches<'a>) -> Option<&'a str> {
-    if matches.contains_id("list") {
-        Some(matches.get_str("list").unwrap_or(""))
+/// Returns where values are written, by `--nested` and `--merge`, for which `--logstash` stands too.
+fn plan_options(matches: &ArgMatches<'_>) -> PlanOptions {
+    let is_logstash = matches.get_flag("logstash");
+    PlanOptions {
+        is_nested: is_logstash || matches.get_flag("nested"),
+        is_merged: is_logstash || matches.get_flag("merge"),
+    }
+}
+
+/// Returns how answers or counts are written.
+fn chosen_format(matches: &ArgMatches<'_>) -> OutputFormat {
+    if matches.get_flag("pairs") {
+        OutputFormat::Pairs
+    } else if matches.get_flag("csv") {
+        OutputFormat::Csv
+    } else {
+        OutputFormat::Json
+    }
+}
+
+/// Returns how answers are written.
+fn answer_options<'a>(
+    alloc: Global,
+    matches: &ArgMatches<'a>,
+) -> Result<AnswerOptions<'a>, AllocError> {
+    let is_logstash = matches.get_flag("logstash");
+    Ok(AnswerOptions {
+        lines: chosen_lines(matches),
+        format: chosen_format(matches),
+        added: added_of(alloc, matches)?,
+        fields: keys_of(alloc, matches, "fields")?,
+        is_typed: is_logstash || matches.get_flag("typed"),
+        drops_empty: is_logstash || matches.get_flag("no-empty"),
+        plan: plan_options(matches),
+        tags_failures: is_logstash,
+    })
+}
+
+/// Returns the task of the option that asks for something in place of answers, if one does.
+fn other_task<'a>(alloc: Global, matches: &ArgMatches<'a>) -> Result<Option<Task<'a>>, AllocError>
+    ensures { IfOk result (IsAskedBy (found_of matches.now)) }
+{
+    Ok(if matches.contains_id("list") {
+        Some(Task::List(matches.get_str("list").unwrap_or("")))
+    } else if matches.get_flag("explain") {
+        Some(Task::Explanation)
+    } else if let Some(most) = matches.get_one("suggest") {
+        Some(Task::Suggestions(most))
+    } else if let Some(most) = matches.get_one("why") {
+        Some(Task::Reasons(most))
+    } else if let Some(keys) = keys_of(alloc, matches, "count")? {
+        Some(Task::Counts(CountOptions {
+            keys,
+            most: matches.get_one("max").unwrap_or(VALUES),
+            format: chosen_format(matches),
+        }))
+    } else if let Some(file) = matches.get_str("html") {
+        Some(Task::Page(PageOptions {
+            file,
+            lines: chosen_lines(matches),
+            fields: keys_of(alloc, matches, "fields")?,
+            most: matches.get_one("max").unwrap_or(PAGE_LINES),
+        }))
+    } else if matches.get_flag("show") {
+        Some(Task::Shown(ShownOptions {
+            lines: chosen_lines(matches),
+            fields: keys_of(alloc, matches, "fields")?,
+            colours: chosen_colours(matches),
+        }))
     } else {
         None
+    })
+}
+
+/// Returns the task of a run: to answer, unless an option asks for something else.
+fn task_of<'a>(alloc: Global, matches: &ArgMatches<'a>) -> Result<Task<'a>, AllocError> {
+    match other_task(alloc, matches)? {
+        Some(task) => Ok(task),
+        None => Ok(Task::Answers(answer_options(alloc, matches)?)),
     }
 }
 
-/// Returns how many lines an event has at most, or what is wrong with `--max-lines`.
-fn most_lines_of(matches: &ArgMatches<'_>) -> Result<NonZeroU64, &'static str> {
-    let most: Option<u64> = matches.get_one("max-lines");
-    if most.is_some() && !matches.contains_id("start") {
-        return Err("--max-lines is for the events of --start, which isn't given");
+/// Returns which lines are an event, if `--start` asks for events, or `Err` if they would have no line.
+fn events_of<'a>(matches: &ArgMatches<'a>) -> Result<Option<EventOptions<'a>>, ()> {
+    let Some(start) = matches.get_str("start") else {
+        return Ok(None);
+    };
+    let most: u64 = matches.get_one("max-lines").unwrap_or(EVENT_LINES);
+    match NonZeroU64::new(most) {
+        Some(most_lines) => Ok(Some(EventOptions { start, most_lines })),
+        None => Err(()),
     }
-    NonZeroU64::new(most.unwrap_or(EVENT_LINES)).ok_or(
-        "--max-lines is 0, but an event has a line at least",
-    )
+}
+
+/// Returns the definitions of a run.
+fn definitions_of<'a>(
+    alloc: Global,
+    matches: &ArgMatches<'a>,
+) -> Result<GivenDefinitions<'a>, AllocError> {
+    let wish = if matches.get_flag("from-logstash") {
+        Some(Wish {
+            is_whole: false,
+            is_loose: matches.get_flag("loose"),
+        })
+    } else {
+        None
+    };
+    Ok(GivenDefinitions {
+        files: values_of(alloc, matches, "definitions")?,
+        words: values_of(alloc, matches, "define")?,
+        has_common: !matches.get_flag("no-common"),
+        most_bytes: matches.get_one("max-expansion").unwrap_or(EXPANSION),
+        wish,
+        written: matches.get_str("write-definitions"),
+    })
+}
+
+/// Returns the error that a word of the command line is wrong.
+fn wrong(command: &mut Command<'_>, why: &str) -> Result<Error, AllocError> {
+    // own error: a word is wrong. This is clap's word for it, and no error of memory or of a device.
+    command.error(ErrorKind::ValueValidation, why)
 }
 
 /// Reads the options from the words of the command line. The first word is the name of the program.
 ///
 /// # Errors
 ///
-/// Returns an error if the words are wrong, if they ask for the help or the version, or if an
-/// allocation fails.
-pub fn read_options<'a>(alloc: Global, words: &'a [String]) -> Result<Options<'a>, Error> {
+/// Returns an error if the words are wrong, if a pattern is missing, if they ask for the help or the version, or
+/// if an allocation fails.
+pub fn read_options<'a>(alloc: Global, words: &'a [String]) -> Result<Options<'a>, Error>
+    ensures { IfOk result (λ options. has_patterns options.task ≡ true → 0 < length options.patterns.items) }
+{
     let mut command = describe(alloc)?;
     let matches = command.try_get_matches_from_mut(words)?;
-    let GivenWords {
-        patterns,
-        names,
-        files,
-    } = given_words(alloc, &matches)?;
-    if names.iter().any(|name| *name == Some("")) {
-        // own error: a word has no name. This is clap's word for it, and no error of memory or of a
-        // device.
-        return Err(command.error(
-            ErrorKind::ValueValidation,
-            "--named has a pattern without a name: write NAME=PATTERN",
-        )?);
+    if let Some(why) = missing_partner(alloc, &matches)? {
+        return Err(wrong(&mut command, why.as_str())?);
     }
-    let list = listed(&matches);
-    let suggest: Option<u64> = matches.get_one("suggest");
-    if patterns.is_empty() && list.is_none() && suggest.is_none() {
-        // own error: there is no pattern. This is clap's word for it, and no error of memory or of a
-        // device.
-        return Err(command.error(ErrorKind::MissingRequiredArgument, "there is no pattern")?);
+    let GivenWords { patterns, files } = given_words(alloc, &matches)?;
+    if patterns.iter().any(|pattern| pattern.name == Some("")) {
+        let why = "--named has a pattern without a name: write NAME=PATTERN";
+        return Err(wrong(&mut command, why)?);
     }
-    let most_lines = match most_lines_of(&matches) {
-        Ok(most) => most,
-        // own error: --max-lines is wrong. This is clap's word for it, and no error of memory or of a
-        // device.
-        Err(why) => return Err(command.error(ErrorKind::ValueValidation, why)?),
+    let task = task_of(alloc, &matches)?;
+    if patterns.is_empty() && task.has_patterns() {
+        return Err(wrong(&mut command, "there is no pattern")?);
+    }
+    let Ok(events) = events_of(&matches) else {
+        let why = "--max-lines is 0, but an event has a line at least";
+        return Err(wrong(&mut command, why)?);
     };
-    let is_logstash = matches.get_flag("logstash");
     Ok(Options {
+        task,
+        definitions: definitions_of(alloc, &matches)?,
         is_pattern_first: !matches.contains_id("pattern") && !matches.contains_id("named"),
         patterns,
-        names,
+        is_all: matches.get_flag("all"),
         files,
-        definition_files: values_of(alloc, &matches, "definitions")?,
-        definitions: values_of(alloc, &matches, "define")?,
-        most_bytes: matches.get_one("max-expansion").unwrap_or(EXPANSION),
-        list,
-        has_common: !matches.get_flag("no-common"),
-        lines: chosen_lines(&matches),
         form: LineForm {
             drops_return: matches.get_flag("crlf"),
             is_lossy: matches.get_flag("lossy"),
         },
-        start: matches.get_str("start"),
-        most_lines,
-        keep: matches.get_str("keep"),
-        tag: matches.get_str("tag"),
-        number: matches.get_str("number"),
-        file: matches.get_str("file"),
-        failed: matches.get_str("failed"),
-        are_pairs: matches.get_flag("pairs"),
-        are_records: matches.get_flag("csv"),
-        fields: fields_of(alloc, &matches)?,
-        count: matches.get_str("count"),
-        most: matches.get_one("max"),
-        is_shown: matches.get_flag("show"),
-        colours: chosen_colours(&matches),
-        page: matches.get_str("html"),
-        is_typed: is_logstash || matches.get_flag("typed"),
-        drops_empty: is_logstash || matches.get_flag("no-empty"),
-        is_nested: is_logstash || matches.get_flag("nested"),
-        is_merged: is_logstash || matches.get_flag("merge"),
-        tags_failures: is_logstash,
-        is_all: matches.get_flag("all"),
-        is_explained: matches.get_flag("explain"),
-        why: matches.get_one("why"),
-        suggest,
+        events,
         has_summary: matches.get_flag("summary"),
-        is_from_logstash: matches.get_flag("from-logstash"),
-        is_loose: matches.get_flag("loose"),
-        written_definitions: matches.get_str("write-definitions"),
+        has_exit_status: matches.get_flag("exit-status"),
     })
 }
 
 /// Returns whether the error of clap is not a fault, but the help or the version that the words ask
 /// for.
-pub fn is_answer(error: &Error) -> bool {
+pub fn is_answer(error: &Error) -> bool
+    ensures { IsTrue result ↔ ((kind_of error.now ≡ ErrorKind.DisplayHelp)
+        ⊎ (kind_of error.now ≡ ErrorKind.DisplayVersion)) }
+{
     matches!(
         error.kind(),
         ErrorKind::DisplayHelp | ErrorKind::DisplayVersion

@@ -12,6 +12,7 @@ use Rattle.grok.specs.declared.engine.regex_engine.RegexEngine.{RegexEngine}
 use Rattle.regex.specs.Strings.{regex_source, regex_names}
 use Rattle.groklog_input.specs.declared.fault.Fault.{Fault}
 use Rattle.groklog_input.specs.declared.fault.Fault.TheVariants.{Pattern, Usage, Memory, Read, Write}
+use Rattle.groklog_patterns.specs.declared.library.Limit.{Limit}
 use Rattle.groklog_patterns.specs.declared.pattern_text.PatternText.{PatternText}
 
 -- The pattern is what the library compiles from the text, with these definitions and in this mode.
@@ -27,25 +28,31 @@ pub record IsRefusedText (definitions : Texts) (alias_only : Bool) (text : Patte
   pub is : IsCompileError MayRefuse (expansion_of definitions alias_only (string_bytes text.text)) error
   pub not_memory : error ≢ errors.Memory
 
--- A pattern that was measured has no structural fault, and its expanded text has more than `most` bytes.
-abbrev pub IsMoreThan : ℕ → Measured → Type 0
-IsMoreThan most (Faulty fault) = ⊥
-IsMoreThan most (Sized length groups nesting) = most < length
-IsMoreThan most TooLong = ⊤
+-- A pattern that was measured has no structural fault, and its expanded text has more bytes than the limit allows, or
+-- more groups of placeholders.
+abbrev pub IsPast : Limit → Measured → Type 0
+IsPast limit (Faulty fault) = ⊥
+IsPast limit (Sized length groups nesting) = (limit.bytes < length) ⊎ (limit.groups < groups)
+IsPast limit TooLong = ⊤
 
--- The expanded text of the pattern, with these definitions and in this mode, has more than `most` bytes.
-abbrev pub IsTooLong : Texts → Bool → ℕ → PatternText → Type 0
-IsTooLong definitions alias_only most text = IsMoreThan most (measured_tree alias_only (tree_of definitions (string_bytes text.text)))
+-- `found` says whether it is past the limit.
+abbrev pub IsPastOrNot : Limit → Measured → Bool → Type 0
+IsPastOrNot limit measured true = IsPast limit measured
+IsPastOrNot limit measured false = IsPast limit measured → ⊥
 
--- `found` says whether it has.
-abbrev pub IsTooLongOrNot : Texts → Bool → ℕ → PatternText → Bool → Type 0
-IsTooLongOrNot definitions alias_only most text true = IsTooLong definitions alias_only most text
-IsTooLongOrNot definitions alias_only most text false = IsTooLong definitions alias_only most text → ⊥
+-- The expanded text of the pattern, with these definitions and in this mode, is larger than the limit allows.
+abbrev pub IsTooLarge : Texts → Bool → Limit → PatternText → Type 0
+IsTooLarge definitions alias_only limit text = IsPast limit (measured_tree alias_only (tree_of definitions (string_bytes text.text)))
 
--- The pattern is faulty, or its expanded text has more than `most` bytes.
-abbrev pub IsRefused : Texts → Bool → ℕ → PatternText → Type 0
-IsRefused definitions alias_only most text =
-    IsRefusedText definitions alias_only text ⊎ IsTooLong definitions alias_only most text
+-- `found` says whether it is.
+abbrev pub IsTooLargeOrNot : Texts → Bool → Limit → PatternText → Bool → Type 0
+IsTooLargeOrNot definitions alias_only limit text =
+    IsPastOrNot limit (measured_tree alias_only (tree_of definitions (string_bytes text.text)))
+
+-- The pattern is faulty, or its expanded text is larger than the limit allows.
+abbrev pub IsRefused : Texts → Bool → Limit → PatternText → Type 0
+IsRefused definitions alias_only limit text =
+    IsRefusedText definitions alias_only text ⊎ IsTooLarge definitions alias_only limit text
 
 -- It is a fault of a pattern, and `is_refused` holds, or an allocation failed.
 abbrev pub IsCompileFault : Type 0 → Fault → Type 0

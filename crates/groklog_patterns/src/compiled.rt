@@ -1,22 +1,22 @@
 //! Compiles the patterns of a run.
 ghost use Rattle.std.specs.Prelude.{Any, IfOk, IfErr, OnOk};
 ghost use Rattle.std.specs.List.{AllZip};
-ghost use Rattle.groklog_patterns.specs.Compiled.{IsCompiledFrom, IsTooLong, IsRefused, IsCompileFault};
+ghost use Rattle.groklog_patterns.specs.Compiled.{IsCompiledFrom, IsTooLarge, IsRefused, IsCompileFault};
 
 use crate::diagnosis::report_of;
-use crate::expansions::{is_too_long, too_long_report};
+use crate::expansions::{is_too_large, too_large_report};
 use crate::library::Library;
 use crate::pattern_text::PatternText;
 use grok::{Error, Pattern};
 use groklog_input::Fault;
 use std::alloc::Global;
 
-/// Compiles one pattern, unless its expanded text is longer than the library takes. That is known before any
+/// Compiles one pattern, unless its expanded text is larger than the library takes. That is known before any
 /// of the text is written.
 ///
 /// # Errors
 ///
-/// Returns its fault if it can't be compiled or is too long, or an error if an allocation fails.
+/// Returns its fault if it can't be compiled or is too large, or an error if an allocation fails.
 pub fn compile(
     alloc: Global,
     library: &Library<'_>,
@@ -24,12 +24,12 @@ pub fn compile(
     with_alias_only: bool,
 ) -> Result<Pattern, Fault>
     ensures pattern { IfOk result (IsCompiledFrom library.now.grok with_alias_only pattern.now) }
-    ensures limit { OnOk result (IsTooLong library.now.grok with_alias_only library.now.most_bytes pattern.now → ⊥) }
+    ensures limit { OnOk result (IsTooLarge library.now.grok with_alias_only library.now.limit pattern.now → ⊥) }
     ensures fault { IfErr result (IsCompileFault
-        (IsRefused library.now.grok with_alias_only library.now.most_bytes pattern.now)) }
+        (IsRefused library.now.grok with_alias_only library.now.limit pattern.now)) }
 {
-    if is_too_long(library, pattern, with_alias_only)? {
-        let report = too_long_report(alloc, library, pattern, with_alias_only)?;
+    if is_too_large(library, pattern, with_alias_only)? {
+        let report = too_large_report(alloc, library, pattern, with_alias_only)?;
         return Err(Fault::Pattern(report));
     }
     match library.grok.compile(pattern.text.as_str(), with_alias_only) {
@@ -59,7 +59,7 @@ pub fn compile_all(
     ensures patterns { IfOk result (λ all. AllZip (IsCompiledFrom library.now.grok with_alias_only)
         patterns.now all.items) }
     ensures fault { IfErr result (IsCompileFault
-        (Any (IsRefused library.now.grok with_alias_only library.now.most_bytes) patterns.now)) }
+        (Any (IsRefused library.now.grok with_alias_only library.now.limit) patterns.now)) }
 {
     let mut all = Vec::new(alloc);
     'patterns: for pattern in patterns {

@@ -19,6 +19,13 @@ pub enum Origin<'a> {
     Word,
 }
 
+impl Origin<'_> {
+    /// Returns whether a definition is one of the user's, and not built in.
+    pub fn is_own(self) -> bool {
+        matches!(self, Origin::Line { .. } | Origin::Word)
+    }
+}
+
 impl fmt::Display for Origin<'_> {
     fn fmt<W: fmt::Write>(&self, f: &mut fmt::Formatter<W>) -> fmt::Result {
         match self {

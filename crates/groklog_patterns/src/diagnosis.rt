@@ -33,6 +33,13 @@ const NO_AT_SIGN: &str =
 const DOUBLED_PERCENT: &str =
     "write [%]%{NAME} for a % before a placeholder: %% is a literal %%, and so %%{ begins no placeholder";
 
+/// The advice for any other text that the engine refuses.
+const REGEX_SYNTAX: &str =
+    "write it in the syntax of Rust's regex crate, which https://docs.rs/regex/#syntax shows";
+
+/// The advice for a placeholder inside a character class.
+const NOT_IN_CLASS: &str = "write \\[ for the bracket itself";
+
 /// Returns a name with its ASCII letters in upper case.
 fn in_upper_case(alloc: Global, name: &str) -> Result<String, AllocError> {
     let mut upper = String::new(alloc);
@@ -261,15 +268,169 @@ fn clash_report(
     Ok(report)
 }
 
+/// Returns the name of the definition that a text is the name of, or would be without a `%` or braces, if it is
+/// no placeholder.
+pub fn bare_name<'t>(library: &Library<'_>, text: &'t str) -> Option<&'t str> {
+    if text.starts_with("%{") {
+        return None;
+    }
+    let name = text.strip_prefix('%').unwrap_or(text);
+    let name = name.strip_prefix('{').unwrap_or(name);
+    let name = name.strip_suffix('}').unwrap_or(name);
+    if library.grok.definition(name).is_none() {
+        return None;
+    }
+    Some(name)
+}
+
 /// Returns the advice for a text that the engine refuses.
-fn advice_for_refusal(alloc: Global, text: &str) -> Result<&'static str, AllocError> {
-    Ok(if has_own_forms(alloc, text)? {
-        FROM_LOGSTASH
-    } else if text.contains("%%{") {
-        DOUBLED_PERCENT
-    } else {
-        "write it in the syntax of Rust's regex crate, which https://docs.rs/regex/#syntax shows"
-    })
+fn advice_for_refusal(
+    alloc: Global,
+    library: &Library<'_>,
+    text: &str,
+) -> Result<String, AllocError> {
+    if let Some(name) = bare_name(library, text) {
+        return format!(in alloc; "write '%{{{name}}}' for the definition of this name");
+    }
+    String::from_str(
+        alloc,
+        if has_own_forms(alloc, text)? {
+            FROM_LOGSTASH
+        } else if text.contains("%%{") {
+            DOUBLED_PERCENT
+        } else {
+            REGEX_SYNTAX
+        },
+    )
+}
+
+/// What is known of a regular expression that was read up to some character.
+#[derive(Clone, Copy)]
+struct ReadSoFar {
+    /// How many character classes are open, one inside the other.
+    classes: usize,
+    /// Whether the character before is a backslash that escapes the next one.
+    is_escape: bool,
+    /// Whether a class has just begun, so that a `]` stands for itself.
+    is_class_start: bool,
+}
+
+impl ReadSoFar {
+    /// Returns what is known after the next character.
+    fn after(self, c: char) -> ReadSoFar {
+        let classes = self.classes;
+        let (is_escape, is_class_start) = (false, false);
+        let plain = ReadSoFar {
+            classes,
+            is_escape,
+            is_class_start,
+        };
+        match c {
+            _ if self.is_escape => plain,
+            '\\' => ReadSoFar {
+                is_escape: true,
+                ..plain
+            },
+            '[' => ReadSoFar {
+                classes: classes.saturating_add(1),
+                is_class_start: true,
+                ..plain
+            },
+            '^' if self.is_class_start => self,
+            ']' if !self.is_class_start => ReadSoFar {
+                classes: classes.saturating_sub(1),
+                ..plain
+            },
+            _ => plain,
+        }
+    }
+}
+
+/// Returns whether a byte position of a pattern or a definition is inside a character class.
+fn is_in_class(text: &str, position: usize) -> bool {
+    let mut read = ReadSoFar {
+        classes: 0,
+        is_escape: false,
+        is_class_start: false,
+    };
+    for c in text.get(..position).unwrap_or(text).chars() {
+        read = read.after(c);
+    }
+    read.classes > 0
+}
+
+/// Appends copies of these steps.
+fn push_steps<'a>(steps: &mut Vec<PathStep<'a>>, path: &[PathStep<'a>]) -> Result<(), AllocError> {
+    for step in path {
+        steps.push(PathStep {
+            name: step.name,
+            range: step.range.start..step.range.end,
+        })?;
+    }
+    Ok(())
+}
+
+/// Appends the step of the placeholder that stands at this range of a text, if one does. Its name isn't needed,
+/// since nothing inside of it is refused.
+fn push_placeholder(
+    steps: &mut Vec<PathStep<'_>>,
+    text: &str,
+    range: &Range<usize>,
+) -> Result<(), AllocError> {
+    let part = text.get(range.start..range.end).unwrap_or("");
+    if part.starts_with("%{") {
+        steps.push(PathStep {
+            name: "",
+            range: range.start..range.end,
+        })?;
+    }
+    Ok(())
+}
+
+/// Returns the outermost of these placeholders that is inside a character class, or `None` if none is. Each
+/// of them leads to the text of the next one, and the first one is in the pattern.
+fn first_in_class<'a>(
+    library: &'a Library<'_>,
+    pattern: &'a PatternText,
+    steps: &[PathStep<'_>],
+) -> Option<(usize, &'a str)> {
+    let mut text = pattern.text.as_str();
+    for (number, step) in steps.iter().enumerate() {
+        if is_in_class(text, step.range.start) {
+            return Some((number, text));
+        }
+        text = library.grok.definition(step.name).unwrap_or("");
+    }
+    None
+}
+
+/// Returns the report of a definition whose placeholder is inside a character class, where it means its
+/// characters, and the engine refuses these for this reason. `steps` are the placeholders that lead to what it
+/// refuses. Returns `None` if none of them is in a class.
+fn class_report(
+    alloc: Global,
+    library: &Library<'_>,
+    pattern: &PatternText,
+    steps: &[PathStep<'_>],
+    kind: ErrorKind,
+) -> Result<Option<Report>, AllocError> {
+    let Some((number, text)) = first_in_class(library, pattern, steps) else {
+        return Ok(None);
+    };
+    let mut names = Vec::new(alloc);
+    push_names(&mut names, steps.get(..number).unwrap_or(&[]))?;
+    let words = describe_location(alloc, library, pattern, names.as_slice())?;
+    let range = match steps.get(number) {
+        Some(step) => step.range.start..step.range.end,
+        None => 0..0,
+    };
+    let what = format!(in alloc;
+        "a placeholder inside a character class [..] means its characters, which the engine refuses: {}",
+        kind.message()
+    )?;
+    let mut report = Report::new(alloc, what.as_str(), NOT_IN_CLASS)?;
+    add_excerpt(alloc, &mut report, words.as_str(), text, range)?;
+    Ok(Some(report))
 }
 
 /// Returns the report of a part of a pattern that the engine refuses because of its syntax.
@@ -286,18 +447,26 @@ fn syntax_report(
         location,
         ..
     } = refused;
-    let mut names = Vec::new(alloc);
-    push_names(&mut names, path.as_slice())?;
+    let mut steps = Vec::new(alloc);
+    push_steps(&mut steps, path.as_slice())?;
     let (text, range) = match location {
         Some(location) => {
-            push_names(&mut names, location.path.as_slice())?;
+            push_steps(&mut steps, location.path.as_slice())?;
             (location.text, location.range)
         }
         None => (part, 0..part.len()),
     };
+    let mut placeholders = Vec::new(alloc);
+    push_steps(&mut placeholders, &steps)?;
+    push_placeholder(&mut placeholders, text, &range)?;
+    if let Some(report) = class_report(alloc, library, pattern, &placeholders, kind)? {
+        return Ok(report);
+    }
+    let mut names = Vec::new(alloc);
+    push_names(&mut names, steps.as_slice())?;
     let what = format!(in alloc; "the engine refuses this: {}", kind.message())?;
-    let advice = advice_for_refusal(alloc, text)?;
-    let mut report = Report::new(alloc, what.as_str(), advice)?;
+    let advice = advice_for_refusal(alloc, library, text)?;
+    let mut report = Report::new(alloc, what.as_str(), advice.as_str())?;
     let words = describe_location(alloc, library, pattern, names.as_slice())?;
     add_excerpt(alloc, &mut report, words.as_str(), text, range)?;
     Ok(report)

@@ -1,7 +1,7 @@
-//! Refuses patterns whose expanded text would be too long, and finds out what makes it long. A few short
+//! Refuses patterns whose expanded text would be too large, and finds out what makes it large. A few short
 //! definitions that use one another can stand for more text than any memory holds.
 ghost use Rattle.std.specs.Prelude.{IfOk};
-ghost use Rattle.groklog_patterns.specs.Compiled.{IsTooLongOrNot};
+ghost use Rattle.groklog_patterns.specs.Compiled.{IsTooLargeOrNot};
 
 use crate::diagnosis::describe_location;
 use crate::excerpt::add_excerpt;
@@ -14,53 +14,102 @@ use std::alloc::{AllocError, Global};
 use std::collections::BTreeMap;
 use std::ops::Range;
 
-/// Returns whether the expanded text of a pattern has no structural fault and more bytes than the library
-/// takes.
+/// Returns whether the expanded text of a pattern has no structural fault and more bytes, or more groups of
+/// placeholders, than the library takes.
 ///
 /// # Errors
 ///
 /// If an allocation fails.
-#[tactic(auto, using(crate::proofs::MeasuresDecide::measures_decide))]
-pub fn is_too_long(
+#[tactic(auto, using(crate::proofs::MeasuresDecide::carried))]
+pub fn is_too_large(
     library: &Library<'_>,
     pattern: &PatternText,
     with_alias_only: bool,
 ) -> Result<bool, AllocError>
-    ensures { IfOk result (IsTooLongOrNot library.now.grok with_alias_only library.now.most_bytes pattern.now) }
+    ensures { IfOk result (IsTooLargeOrNot library.now.grok with_alias_only library.now.limit pattern.now) }
 {
     let measure = library
         .grok
         .measure(pattern.text.as_str(), with_alias_only)?;
-    match measure {
-        Measure::Size { length, .. } if length > library.most_bytes => Ok(true),
-        Measure::TooLong => Ok(true),
-        Measure::Size { .. } | Measure::Fault(_) => Ok(false),
-    }
+    Ok(library.limit.is_past(measure))
+}
+
+/// What an expanded text has too much of.
+#[derive(Clone, Copy, PartialEq, Eq)]
+enum Excess {
+    Bytes,
+    Groups,
+}
+
+/// How large an expanded text is.
+#[derive(Clone, Copy)]
+struct Size {
+    /// If the text is longer than any memory, this is the greatest number.
+    bytes: usize,
+    groups: usize,
 }
 
 /// A placeholder for a stored definition.
 #[derive(Clone, Copy)]
 struct Use<'a> {
     name: &'a str,
+    /// Whether it becomes a group of its own.
+    is_capturing: bool,
     /// The byte of its text where it begins, and the one after it.
     start: usize,
     end: usize,
 }
 
+impl Size {
+    /// Takes what was measured.
+    fn of(measure: &Measure<'_>) -> Size {
+        match measure {
+            Measure::Size { length, groups, .. } => Size {
+                bytes: *length,
+                groups: *groups,
+            },
+            _ => Size {
+                bytes: usize::MAX,
+                groups: 0,
+            },
+        }
+    }
+}
+
+impl Use<'_> {
+    /// Returns how much of what is too much the placeholder makes, whose definition has this size.
+    fn share(&self, excess: Excess, definition: Size) -> u128 {
+        match excess {
+            Excess::Bytes => definition.bytes as u128,
+            Excess::Groups => (definition.groups as u128).saturating_add(self.is_capturing as u128),
+        }
+    }
+}
+
 /// Returns the placeholders of a text that stand for stored definitions.
-fn uses_in<'a>(alloc: Global, text: &'a str) -> Result<Vec<Use<'a>>, AllocError> {
+fn uses_in<'a>(
+    alloc: Global,
+    text: &'a str,
+    with_alias_only: bool,
+) -> Result<Vec<Use<'a>>, AllocError> {
     let mut uses = Vec::new(alloc);
     for piece in grok_split(text) {
         if let GrokComponent::GrokPattern {
             range,
             name,
+            alias,
             definition,
             ..
         } = piece
             && definition.is_empty()
         {
             let Range { start, end } = range;
-            uses.push(Use { name, start, end })?;
+            uses.push(Use {
+                name,
+                is_capturing: !with_alias_only || !alias.is_empty(),
+                start,
+                end,
+            })?;
         }
     }
     Ok(uses)
@@ -78,8 +127,7 @@ fn push_all<'a>(all: &mut Vec<Use<'a>>, uses: &[Use<'a>]) -> Result<(), AllocErr
 #[derive(Clone, Copy)]
 struct Used<'a> {
     text: &'a str,
-    /// How long its expanded text is. If that is longer than any memory, this is the greatest number.
-    length: usize,
+    size: Size,
     /// How many placeholders for it have uses of their own that aren't counted yet.
     waiting: usize,
     /// How often it is used in the whole, as far as that is counted.
@@ -89,6 +137,8 @@ struct Used<'a> {
 /// The definitions that a pattern uses, itself or through other definitions.
 #[derive(Drop)]
 struct UsedDefinitions<'a> {
+    alloc: Global,
+    with_alias_only: bool,
     by_name: BTreeMap<&'a str, Used<'a>>,
 }
 
@@ -98,9 +148,10 @@ impl<'a> UsedDefinitions<'a> {
         alloc: Global,
         grok: &'a Grok,
         pattern: &'a str,
+        with_alias_only: bool,
     ) -> Result<UsedDefinitions<'a>, AllocError> {
         let mut by_name = BTreeMap::new(alloc);
-        let mut left = uses_in(alloc, pattern)?;
+        let mut left = uses_in(alloc, pattern, with_alias_only)?;
         for _ in 0..u64::MAX {
             let Some(Use { name, .. }) = left.pop() else {
                 break;
@@ -109,52 +160,51 @@ impl<'a> UsedDefinitions<'a> {
             let waiting = match by_name.get(name) {
                 Some(Used { waiting, .. }) => *waiting,
                 None => {
-                    push_all(&mut left, &uses_in(alloc, text)?)?;
+                    push_all(&mut left, &uses_in(alloc, text, with_alias_only)?)?;
                     0
                 }
             };
             let used = Used {
                 text,
-                length: 0,
+                size: Size {
+                    bytes: 0,
+                    groups: 0,
+                },
                 waiting: waiting.saturating_add(1),
                 count: 0,
             };
             by_name.insert(name, used)?;
         }
-        Ok(UsedDefinitions { by_name })
+        Ok(UsedDefinitions {
+            alloc,
+            with_alias_only,
+            by_name,
+        })
     }
 
-    /// Finds out how long the expanded text of each is. Each definition is read once for that.
-    fn measure(
-        &mut self,
-        alloc: Global,
-        grok: &'a Grok,
-        with_alias_only: bool,
-    ) -> Result<(), AllocError> {
-        let mut texts = Vec::new(alloc);
+    /// Finds out how large the expanded text of each is. Each definition is read once for that.
+    fn measure(&mut self, grok: &'a Grok) -> Result<(), AllocError> {
+        let mut texts = Vec::new(self.alloc);
         for used in self.by_name.values() {
             texts.push(used.text)?;
         }
-        let measures = grok.measure_all(&texts, with_alias_only)?;
+        let measures = grok.measure_all(&texts, self.with_alias_only)?;
         for (used, measure) in self.by_name.values_mut().zip(&measures) {
-            used.length = match measure {
-                Measure::Size { length, .. } => *length,
-                _ => usize::MAX,
-            };
+            used.size = Size::of(measure);
         }
         Ok(())
     }
 
     /// Counts how often each is used. The uses of a definition are known once those of all definitions that use
     /// it are, so each definition is read once.
-    fn count(&mut self, alloc: Global, pattern: &'a str) -> Result<(), AllocError> {
-        let mut left = Vec::new(alloc);
+    fn count(&mut self, pattern: &'a str) -> Result<(), AllocError> {
+        let mut left = Vec::new(self.alloc);
         left.push((pattern, 1u128))?;
         for _ in 0..u64::MAX {
             let Some((text, times)) = left.pop() else {
                 break;
             };
-            for Use { name, .. } in &uses_in(alloc, text)? {
+            for Use { name, .. } in &uses_in(self.alloc, text, self.with_alias_only)? {
                 if let Some(used) = self.by_name.get_mut(*name) {
                     used.count = used.count.saturating_add(times);
                     used.waiting = used.waiting.saturating_sub(1);
@@ -175,38 +225,46 @@ struct Part<'a> {
     first: Use<'a>,
     /// How many placeholders for it the text has.
     times: u128,
-    /// How many bytes they become together.
-    bytes: u128,
+    /// How many bytes or groups they become together.
+    share: u128,
 }
 
-/// Returns the definition that makes most of a text, of those that the text uses itself.
+impl<'a> Part<'a> {
+    /// Adds a placeholder to those that the text has of its name already.
+    fn with(part: Option<&Part<'a>>, each: &Use<'a>, share: u128) -> Part<'a> {
+        let before = Part {
+            first: *each,
+            times: 0,
+            share: 0,
+        };
+        let before = part.copied().unwrap_or(before);
+        Part {
+            first: before.first,
+            times: before.times.saturating_add(1),
+            share: before.share.saturating_add(share),
+        }
+    }
+}
+
+/// Returns the definition that makes most of the bytes or groups of a text, of those that the text uses itself.
 fn greatest_part<'a>(
-    alloc: Global,
     used: &UsedDefinitions<'a>,
     text: &'a str,
+    excess: Excess,
 ) -> Result<Option<Part<'a>>, AllocError> {
-    let mut parts: BTreeMap<&str, Part<'_>> = BTreeMap::new(alloc);
-    for each in &uses_in(alloc, text)? {
-        let length = used.by_name.get(each.name).map_or(0, |found| found.length);
-        let (first, times) = match parts.get(each.name) {
-            Some(part) => (part.first, part.times),
-            None => (*each, 0),
+    let mut parts = BTreeMap::new(used.alloc);
+    for each in &uses_in(used.alloc, text, used.with_alias_only)? {
+        let share = match used.by_name.get(each.name) {
+            Some(found) => each.share(excess, found.size),
+            None => 0,
         };
-        let times = times.saturating_add(1);
-        let bytes = times.saturating_mul(length as u128);
-        parts.insert(
-            each.name,
-            Part {
-                first,
-                times,
-                bytes,
-            },
-        )?;
+        let part = Part::with(parts.get(each.name), each, share);
+        parts.insert(each.name, part)?;
     }
-    Ok(parts.values().max_by_key(|part| part.bytes).copied())
+    Ok(parts.values().max_by_key(|part| part.share).copied())
 }
 
-/// Where a text becomes long.
+/// Where a text becomes large.
 #[derive(Drop)]
 struct Growth<'a> {
     /// The definitions that lead there, each used by the one before it, and the first one by the pattern.
@@ -220,10 +278,11 @@ struct Growth<'a> {
 /// Goes from the pattern to what makes most of it, to what makes most of that, and so on. Returns the innermost
 /// text on this way that uses the next definition several times.
 fn growth_of<'a>(
-    alloc: Global,
     used: &UsedDefinitions<'a>,
     pattern: &'a str,
+    excess: Excess,
 ) -> Result<Growth<'a>, AllocError> {
+    let alloc = used.alloc;
     let mut names = Vec::new(alloc);
     let mut found = Growth {
         names: Vec::new(alloc),
@@ -233,7 +292,7 @@ fn growth_of<'a>(
     let mut text = pattern;
     let mut is_several = false;
     for _ in 0..u64::MAX {
-        let Some(part) = greatest_part(alloc, used, text)? else {
+        let Some(part) = greatest_part(used, text, excess)? else {
             break;
         };
         if part.times > 1 || !is_several {
@@ -251,13 +310,17 @@ fn growth_of<'a>(
     Ok(found)
 }
 
-/// Returns the advice for a pattern that becomes too long because of this part.
-fn advice_for_length(
-    alloc: Global,
+/// Returns the advice for a pattern that becomes too large because of this part.
+fn advice_for_size(
     used: &UsedDefinitions<'_>,
     part: Option<Part<'_>>,
+    excess: Excess,
 ) -> Result<String, AllocError> {
-    let raise = "raise the limit by --max-expansion BYTES";
+    let alloc = used.alloc;
+    let raise = match excess {
+        Excess::Bytes => "raise the limit by --max-expansion BYTES",
+        Excess::Groups => "raise the limit by --max-expansion BYTES, a group for each 250 bytes",
+    };
     let Some(Part { first, .. }) = part else {
         return format!(in alloc; "make the pattern shorter, or {raise}");
     };
@@ -274,33 +337,59 @@ fn advice_for_length(
     format!(in alloc; "use {name} less often: it is used {count} times; or {raise}")
 }
 
-/// Returns the report that the expanded text of a pattern would be too long: how long, and where it becomes
-/// so long.
+/// Returns words for what is too large, and which of its numbers that is.
+fn excess_of(
+    alloc: Global,
+    library: &Library<'_>,
+    pattern: &PatternText,
+    measure: Measure<'_>,
+) -> Result<(String, Excess), AllocError> {
+    let (words, limit) = (pattern.words.as_str(), library.limit);
+    match measure {
+        Measure::Size { length, .. } if length > limit.bytes => {
+            let most = limit.bytes;
+            let what = format!(in alloc;
+                "{words} stands for a text of {length} bytes, and the limit is {most}"
+            )?;
+            Ok((what, Excess::Bytes))
+        }
+        Measure::Size { groups, .. } => {
+            let most = limit.groups;
+            let what = format!(in alloc;
+                "{words} stands for a text with {groups} groups of placeholders, and the limit is {most}"
+            )?;
+            Ok((what, Excess::Groups))
+        }
+        _ => {
+            let most = limit.bytes;
+            let what = format!(in alloc;
+                "{words} stands for a text of more than 2^64 bytes, which no memory holds, and the limit is {most}"
+            )?;
+            Ok((what, Excess::Bytes))
+        }
+    }
+}
+
+/// Returns the report that the expanded text of a pattern would be too large: how large, and where it becomes
+/// so large.
 ///
 /// # Errors
 ///
 /// If an allocation fails.
-pub fn too_long_report(
+pub fn too_large_report(
     alloc: Global,
     library: &Library<'_>,
     pattern: &PatternText,
     with_alias_only: bool,
 ) -> Result<Report, AllocError> {
     let (grok, text) = (&library.grok, pattern.text.as_str());
-    let (words, most) = (pattern.words.as_str(), library.most_bytes);
-    let what = match grok.measure(text, with_alias_only)? {
-        Measure::Size { length, .. } => format!(in alloc;
-            "{words} stands for a text of {length} bytes, and the limit is {most}"
-        )?,
-        _ => format!(in alloc;
-            "{words} stands for a text of more than 2^64 bytes, which no memory holds, and the limit is {most}"
-        )?,
-    };
-    let mut used = UsedDefinitions::of(alloc, grok, text)?;
-    used.measure(alloc, grok, with_alias_only)?;
-    used.count(alloc, text)?;
-    let growth = growth_of(alloc, &used, text)?;
-    let advice = advice_for_length(alloc, &used, growth.part)?;
+    let measure = grok.measure(text, with_alias_only)?;
+    let (what, excess) = excess_of(alloc, library, pattern, measure)?;
+    let mut used = UsedDefinitions::of(alloc, grok, text, with_alias_only)?;
+    used.measure(grok)?;
+    used.count(text)?;
+    let growth = growth_of(&used, text, excess)?;
+    let advice = advice_for_size(&used, growth.part, excess)?;
     let mut report = Report::new(alloc, what.as_str(), advice.as_str())?;
     let range = match growth.part {
         Some(Part { first, .. }) => first.start..first.end,

@@ -29,14 +29,7 @@ fn push_key(
 
 /// Appends a line for each key, in the order of the groups.
 fn push_keys(alloc: Global, lines: &mut String, pattern: &Pattern) -> Result<(), AllocError> {
-    let mut groups = Vec::new(alloc);
-    for key in pattern.capture_names() {
-        if let Some(group) = pattern.group_of(key) {
-            groups.push((group, key))?;
-        }
-    }
-    groups.sort()?;
-    for (group, key) in &groups {
+    for (group, key) in &pattern.keys_by_group()? {
         push_key(alloc, lines, pattern, key, *group)?;
     }
     Ok(())

@@ -1,10 +1,11 @@
 //! Rewrites what was made for Logstash: the patterns, and the definitions that they use.
 
-use crate::common::has_common_definition;
+use crate::common::common_definition;
 use crate::definitions::Origin;
 use crate::excerpt::add_excerpt;
 use crate::library::{Library, Source};
-use crate::pattern_text::PatternText;
+use crate::pattern_text::{PatternText, RunTexts};
+use grok::Measure;
 use grok::parser::{GrokComponent, grok_split};
 use groklog_input::{Fault, Report};
 use oniguruma_syntax::{Outcome, Reason, Refused, Rewritten, Wish, rewrite};
@@ -15,7 +16,7 @@ use std::collections::BTreeMap;
 /// that they use, ready to be shown.
 #[derive(Drop)]
 pub struct Adapted {
-    pub texts: Vec<PatternText>,
+    pub texts: RunTexts,
     pub notes: Vec<String>,
 }
 
@@ -33,11 +34,6 @@ fn push_names<'t>(names: &mut Vec<&'t str>, text: &'t str) -> Result<(), AllocEr
         }
     }
     Ok(())
-}
-
-/// Returns whether a definition is one of the user's, and not built in.
-fn is_own(origin: Origin<'_>) -> bool {
-    matches!(origin, Origin::Line { .. } | Origin::Word)
 }
 
 /// Returns the user's definitions that patterns use, themselves or through other definitions. Each comes
@@ -65,7 +61,7 @@ fn used_sources<'a>(
             continue;
         };
         push_names(&mut left, text)?;
-        if is_own(source.origin) {
+        if source.origin.is_own() {
             found.push(source)?;
         }
     }
@@ -73,31 +69,54 @@ fn used_sources<'a>(
     Ok(found)
 }
 
-/// Returns the advice for a text that is refused. `name` is the name of the definition, if it is one.
-fn advice_for(alloc: Global, reason: Reason, name: Option<&str>) -> Result<String, AllocError> {
+/// Puts the common definition of its name, if there is one, in the place of a definition of the user's, and
+/// returns whether that has no fault: the user's other definitions may lead it back to its own name.
+fn can_leave_out<'a>(
+    alloc: Global,
+    library: &mut Library<'a>,
+    source: Source<'a>,
+) -> Result<bool, AllocError> {
+    let Some(text) = common_definition(source.name) else {
+        return Ok(false);
+    };
+    if !library.has_common {
+        return Ok(false);
+    }
+    library.store(source, text)?;
+    let pattern = format!(in alloc; "%{{{}}}", source.name)?;
+    let measure = library.grok.measure(pattern.as_str(), true)?;
+    Ok(!matches!(measure, Measure::Fault(_)))
+}
+
+/// Returns the advice for a definition that is refused.
+fn advice_for<'a>(
+    alloc: Global,
+    library: &mut Library<'a>,
+    source: Source<'a>,
+    reason: Reason,
+) -> Result<String, AllocError> {
     let advice = reason.advice();
-    match name {
-        Some(name) if has_common_definition(name) => {
-            format!(in alloc;
-                "leave this definition out, since groklog has its own {name}; or {advice}"
-            )
-        }
-        _ => String::from_str(alloc, advice),
+    if can_leave_out(alloc, library, source)? {
+        let name = source.name;
+        format!(in alloc;
+            "leave this definition out, since groklog has its own {name}; or {advice}"
+        )
+    } else {
+        String::from_str(alloc, advice)
     }
 }
 
-/// Returns the fault that reports why a text can't be rewritten.
+/// Returns the fault that reports why a text can't be rewritten, with this advice.
 fn refusal(
     alloc: Global,
     text: &str,
     location: &str,
-    name: Option<&str>,
     refused: Refused,
+    advice: &str,
 ) -> Result<Fault, AllocError> {
     let Refused { reason, range } = refused;
     let what = format!(in alloc; "--from-logstash can't rewrite this: {reason}")?;
-    let advice = advice_for(alloc, reason, name)?;
-    let mut report = Report::new(alloc, what.as_str(), advice.as_str())?;
+    let mut report = Report::new(alloc, what.as_str(), advice)?;
     add_excerpt(alloc, &mut report, location, text, range)?;
     Ok(Fault::Pattern(report))
 }
@@ -121,19 +140,51 @@ fn adapt(
     }
 }
 
-/// Returns a definition, whose text is `text`, as it is rewritten, and appends a note for each change.
-fn adapt_definition(
+/// Rewrites a stored definition, and appends a note for each change.
+fn adapt_definition<'a>(
+    alloc: Global,
+    library: &mut Library<'a>,
+    notes: &mut Vec<String>,
+    source: Source<'a>,
+    wish: Wish,
+) -> Result<(), Fault> {
+    let Source { name, origin, .. } = source;
+    let Some(text) = library.grok.definition(name) else {
+        return Ok(());
+    };
+    let text = String::from_str(alloc, text)?;
+    let location = format!(in alloc; "the definition {name} ({origin})")?;
+    let (text, location) = (text.as_str(), location.as_str());
+    match adapt(alloc, notes, text, location, wish)? {
+        Ok(rewritten) => Ok(library.store(source, rewritten.as_str())?),
+        Err(refused) => {
+            let advice = advice_for(alloc, library, source, refused.reason)?;
+            Err(refusal(alloc, text, location, refused, advice.as_str())?)
+        }
+    }
+}
+
+/// Returns a pattern as it is rewritten, and appends a note for each change.
+fn adapt_pattern(
     alloc: Global,
     notes: &mut Vec<String>,
-    source: Source<'_>,
-    text: &str,
+    pattern: &PatternText,
     wish: Wish,
-) -> Result<String, Fault> {
-    let Source { name, origin, .. } = source;
-    let location = format!(in alloc; "the definition {name} ({origin})")?;
-    match adapt(alloc, notes, text, location.as_str(), wish)? {
-        Ok(rewritten) => Ok(rewritten),
-        Err(refused) => Err(refusal(alloc, text, location.as_str(), Some(name), refused)?),
+) -> Result<PatternText, Fault> {
+    let (text, words) = (pattern.text.as_str(), pattern.words.as_str());
+    let whole = Wish {
+        is_whole: true,
+        ..wish
+    };
+    match adapt(alloc, notes, text, words, whole)? {
+        Ok(text) => {
+            let words = String::from_str(alloc, words)?;
+            Ok(PatternText { text, words })
+        }
+        Err(refused) => {
+            let advice = refused.reason.advice();
+            Err(refusal(alloc, text, words, refused, advice)?)
+        }
     }
 }
 
@@ -145,35 +196,68 @@ fn adapt_definition(
 pub fn adapt_all(
     alloc: Global,
     library: &mut Library<'_>,
-    given: &[PatternText],
+    given: &RunTexts,
     wish: Wish,
 ) -> Result<Adapted, Fault> {
     let texts: Vec<&str> = given
+        .patterns
         .iter()
+        .chain(given.start.iter())
         .map(|pattern| pattern.text.as_str())
         .collect(alloc)?;
     let patterns = texts.as_slice();
     let mut notes = Vec::new(alloc);
     for source in &used_sources(alloc, library, patterns)? {
-        if let Some(text) = library.grok.definition(source.name) {
-            let rewritten = adapt_definition(alloc, &mut notes, *source, text, wish)?;
-            library.store(*source, rewritten.as_str())?;
-        }
+        adapt_definition(alloc, library, &mut notes, *source, wish)?;
     }
-    let mut texts = Vec::new(alloc);
-    for pattern in given {
-        let (text, words) = (pattern.text.as_str(), pattern.words.as_str());
-        let whole = Wish {
-            is_whole: true,
-            ..wish
-        };
-        match adapt(alloc, &mut notes, text, words, whole)? {
-            Ok(text) => {
-                let words = String::from_str(alloc, words)?;
-                texts.push(PatternText { text, words })?;
-            }
-            Err(refused) => return Err(refusal(alloc, text, words, None, refused)?),
-        }
+    let mut patterns = Vec::new(alloc);
+    for pattern in &given.patterns {
+        patterns.push(adapt_pattern(alloc, &mut notes, pattern, wish)?)?;
     }
+    let start = match &given.start {
+        Some(start) => Some(adapt_pattern(alloc, &mut notes, start, wish)?),
+        None => None,
+    };
+    let texts = RunTexts { patterns, start };
     Ok(Adapted { texts, notes })
+}
+
+/// Returns the names of the user's definitions that no other definition of the user uses, in byte order: those that are for
+/// whole texts, and not for parts of them.
+///
+/// # Errors
+///
+/// If an allocation fails.
+pub fn own_wholes<'a>(alloc: Global, library: &Library<'a>) -> Result<Vec<&'a str>, AllocError> {
+    let own = library.own_sources(alloc)?;
+    let mut used = Vec::new(alloc);
+    for source in &own {
+        if let Some(text) = library.grok.definition(source.name) {
+            push_names(&mut used, text)?;
+        }
+    }
+    let mut wholes = Vec::new(alloc);
+    for source in &own {
+        if !used.contains(&source.name) {
+            wholes.push(source.name)?;
+        }
+    }
+    Ok(wholes)
+}
+
+/// Rewrites the user's definitions. One that has a part without a form for the engine stays as it is.
+///
+/// # Errors
+///
+/// If an allocation fails.
+pub fn adapt_own(alloc: Global, library: &mut Library<'_>, wish: Wish) -> Result<(), AllocError> {
+    for source in &library.own_sources(alloc)? {
+        let Some(text) = library.grok.definition(source.name) else {
+            continue;
+        };
+        if let Outcome::Rewritten(Rewritten { text, .. }) = rewrite(alloc, text, wish)? {
+            library.store(*source, text.as_str())?;
+        }
+    }
+    Ok(())
 }

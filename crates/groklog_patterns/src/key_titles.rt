@@ -2,67 +2,178 @@
 
 use crate::library::Library;
 use crate::pattern_text::PatternText;
-use grok::{Pattern, WrittenByte};
+use grok::{ByteLocation, Location, Pattern, WrittenByte};
 use std::alloc::{AllocError, Global};
+use std::collections::BTreeMap;
 
-/// How many characters of a definition are shown at most.
+/// How many characters of each part of a title are shown at most.
 const MOST_SHOWN: usize = 100;
 
-/// Returns the definition, which is cut if it is long.
-fn shortened(alloc: Global, definition: &str) -> Result<String, AllocError> {
+/// How many keys have a title with a placeholder at most. A pattern is measured once for all of them, but
+/// to find a placeholder and its definition, the texts on the way to it are read, each up to there.
+const MOST_PLACED: usize = 200;
+
+/// A key, and its index among all keys.
+#[derive(Clone, Copy)]
+struct Key<'k> {
+    index: usize,
+    name: &'k str,
+}
+
+/// A pattern with its text, and the byte positions in the expanded text where its groups begin.
+#[derive(Drop)]
+struct Source<'p> {
+    text: &'p str,
+    pattern: &'p Pattern,
+    /// Where the group of each name begins.
+    starts: BTreeMap<&'p str, usize>,
+}
+
+/// Returns the text, which is cut if it is long.
+fn shortened(alloc: Global, text: &str) -> Result<String, AllocError> {
     let mut part = String::new(alloc);
-    for c in definition.chars().take(MOST_SHOWN) {
+    for c in text.chars().take(MOST_SHOWN) {
         part.push(c)?;
     }
-    if part.len() < definition.len() {
+    if part.len() < text.len() {
         part.push_str("...")?;
     }
     Ok(part)
 }
 
-/// Returns the byte position in the expanded text where the group of a key begins.
-fn start_of_group(
-    alloc: Global,
-    pattern: &Pattern,
-    key: &str,
-) -> Result<Option<usize>, AllocError> {
-    let names = pattern.group_names();
-    let name = pattern.group_of(key).and_then(|group| names.get(group));
-    let Some(Some(name)) = name else {
-        return Ok(None);
-    };
-    let group = format!(in alloc; "(?<{name}>")?;
-    Ok(pattern.text().find(group.as_str()))
+/// Returns the byte position where the group of each name begins in an expanded text, which is read once.
+fn starts_of_groups(alloc: Global, expanded: &str) -> Result<BTreeMap<&str, usize>, AllocError> {
+    let mut starts = BTreeMap::new(alloc);
+    let mut parts = expanded.split("(?<");
+    let mut start = parts.next().unwrap_or("").len();
+    for part in parts {
+        if let Some((name, _)) = part.split_once(">")
+            && !starts.contains_key(&name)
+        {
+            starts.insert(name, start)?;
+        }
+        start = start.saturating_add("(?<".len()).saturating_add(part.len());
+    }
+    Ok(starts)
 }
 
-/// Returns the key with its placeholder in the pattern, or in the definition that has it, and with the
-/// definition of the placeholder's name. A group that was written by hand has its key alone.
+/// Returns where the placeholder stands to whose group a byte belongs, or `None` if the byte was copied.
+fn placeholder_of(written: ByteLocation<'_>) -> Option<Location<'_>> {
+    let ByteLocation { location, part } = written;
+    match part {
+        WrittenByte::OfGroup => Some(location),
+        WrittenByte::Copied(_) => None,
+    }
+}
+
+impl<'p> Source<'p> {
+    /// Takes a pattern and its text.
+    fn new(
+        alloc: Global,
+        text: &'p PatternText,
+        pattern: &'p Pattern,
+    ) -> Result<Source<'p>, AllocError> {
+        Ok(Source {
+            text: text.text.as_str(),
+            pattern,
+            starts: starts_of_groups(alloc, pattern.text())?,
+        })
+    }
+
+    /// Returns the byte position in the expanded text where the group of a key begins.
+    fn start(&self, key: &str) -> Option<usize> {
+        let group = self.pattern.group_of(key)?;
+        let name = self.pattern.group_names().get(group)?;
+        let name = name.as_ref()?;
+        self.starts.get(&name.as_str()).copied()
+    }
+
+    /// Returns for each key where the placeholder stands whose value it is, or `None` if its group was
+    /// written by hand.
+    fn placeholders(
+        &self,
+        alloc: Global,
+        library: &'p Library<'_>,
+        keys: &[Key<'_>],
+        with_alias_only: bool,
+    ) -> Result<Vec<Option<Location<'p>>>, AllocError> {
+        let mut starts = Vec::new(alloc);
+        for key in keys {
+            // No text has a byte at the greatest position.
+            starts.push(self.start(key.name).unwrap_or(usize::MAX))?;
+        }
+        let found = library
+            .grok
+            .locate_bytes(self.text, with_alias_only, &starts)?;
+        let mut locations = Vec::new(alloc);
+        for written in found {
+            let location = match written {
+                Some(written) => placeholder_of(written),
+                None => None,
+            };
+            locations.push(location)?;
+        }
+        Ok(locations)
+    }
+}
+
+/// Returns the key with its placeholder, which stands at this location, and with the definition of the
+/// placeholder's name.
 fn title_of(
     alloc: Global,
     library: &Library<'_>,
-    (text, pattern): (&PatternText, &Pattern),
+    location: &Location<'_>,
     key: &str,
-    with_alias_only: bool,
 ) -> Result<String, AllocError> {
-    let text = text.text.as_str();
-    if let Some(start) = start_of_group(alloc, pattern, key)?
-        && let Some(written) = library.grok.locate_byte(text, with_alias_only, start)?
-        && let WrittenByte::OfGroup = written.part
-    {
-        let location = written.location;
-        let (start, end) = (location.range.start, location.range.end);
-        let placeholder = location.text.get(start..end).unwrap_or("");
-        let upto = location.text.get(..end).unwrap_or("");
-        if let Some((name, definition)) = library.grok.definitions_of(upto)?.as_slice().last() {
-            let definition = shortened(alloc, definition)?;
-            return format!(in alloc; "{key}: {placeholder}, where {name}={definition}");
+    let (start, end) = (location.range.start, location.range.end);
+    let placeholder = location.text.get(start..end).unwrap_or("");
+    let upto = location.text.get(..end).unwrap_or("");
+    let mut title = shortened(alloc, key)?;
+    if let Some((name, definition)) = library.grok.definitions_of(upto)?.as_slice().last() {
+        let placeholder = shortened(alloc, placeholder)?;
+        let (name, definition) = (shortened(alloc, name)?, shortened(alloc, definition)?);
+        let words = format!(in alloc; ": {placeholder}, where {name}={definition}")?;
+        title.push_str(words.as_str())?;
+    }
+    Ok(title)
+}
+
+/// Gives the keys whose placeholder stands somewhere a title with it.
+fn add_placeholders(
+    alloc: Global,
+    library: &Library<'_>,
+    titles: &mut Vec<String>,
+    keys: &[Key<'_>],
+    locations: &[Option<Location<'_>>],
+) -> Result<(), AllocError> {
+    for (key, location) in keys.iter().zip(locations) {
+        if let (Some(location), Some(title)) = (location, titles.get_mut(key.index)) {
+            *title = title_of(alloc, library, location, key.name)?;
         }
     }
-    String::from_str(alloc, key)
+    Ok(())
+}
+
+/// Returns the keys that a pattern has, and the others.
+fn keys_of<'k>(
+    alloc: Global,
+    pattern: &Pattern,
+    keys: &[Key<'k>],
+) -> Result<(Vec<Key<'k>>, Vec<Key<'k>>), AllocError> {
+    let (mut own, mut others) = (Vec::new(alloc), Vec::new(alloc));
+    for key in keys {
+        if pattern.group_of(key.name).is_some() {
+            own.push(*key)?;
+        } else {
+            others.push(*key)?;
+        }
+    }
+    Ok((own, others))
 }
 
 /// Returns the title of each key: by which placeholder the first pattern that has the key finds it, and
-/// what that is defined as.
+/// what that is defined as. A group that was written by hand has its key alone, and so has a key after many
+/// others. Each part of a title that is long is cut.
 ///
 /// # Errors
 ///
@@ -74,15 +185,19 @@ pub fn titles_of(
     keys: &[&str],
     with_alias_only: bool,
 ) -> Result<Vec<String>, AllocError> {
-    let mut titles = Vec::new(alloc);
-    for key in keys {
-        let mut sources = texts.iter().zip(patterns);
-        let source = sources.find(|(_, pattern)| pattern.group_of(key).is_some());
-        let title = match source {
-            Some(source) => title_of(alloc, library, source, key, with_alias_only)?,
-            None => String::from_str(alloc, key)?,
-        };
-        titles.push(title)?;
+    let (mut titles, mut rest) = (Vec::new(alloc), Vec::new(alloc));
+    for (index, name) in keys.iter().enumerate() {
+        titles.push(shortened(alloc, name)?)?;
+        if index < MOST_PLACED {
+            rest.push(Key { index, name })?;
+        }
+    }
+    for (text, pattern) in texts.iter().zip(patterns) {
+        let (own, others) = keys_of(alloc, pattern, &rest)?;
+        let source = Source::new(alloc, text, pattern)?;
+        let locations = source.placeholders(alloc, library, &own, with_alias_only)?;
+        add_placeholders(alloc, library, &mut titles, &own, &locations)?;
+        rest = others;
     }
     Ok(titles)
 }

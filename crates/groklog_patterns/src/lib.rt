@@ -31,11 +31,13 @@ mod stops;
 mod written_definitions;
 
 pub use common::list_common_definitions;
+pub use common_definitions::{LineFormat, line_formats};
 pub use compiled::{compile, compile_all};
+pub use diagnosis::bare_name;
 pub use explanation::explain;
-pub use from_logstash::{Adapted, adapt_all};
+pub use from_logstash::{Adapted, adapt_all, adapt_own, own_wholes};
 pub use key_titles::titles_of;
-pub use library::{DefinitionFile, Library};
-pub use pattern_text::{PatternText, ordinal, patterns_of, start_pattern};
+pub use library::{DefinitionFile, Library, Limit};
+pub use pattern_text::{PatternText, RunTexts, ordinal, patterns_of, start_pattern};
 pub use stop_report::Explainer;
 pub use written_definitions::definition_lines;

@@ -1,13 +1,15 @@
 //! Builds the library of definitions that patterns are compiled with: the default definitions, the
 //! common definitions, those from files, and those from the words after `-D`.
-ghost use Rattle.std.specs.Prelude.{◌≡◌, OnOk, OnErr};
+ghost use Rattle.std.specs.Prelude.{◌≡◌, ◌/◌, OnOk, OnErr};
 ghost use Rattle.std.specs.FinMap as finite;
+ghost use Rattle.grok.specs.Measured.{measure_view};
+ghost use Rattle.groklog_patterns.specs.Compiled.{IsPastOrNot};
 
 use crate::common::add_common_definitions;
 use crate::definition::name_of_spaced;
 use crate::definitions::{Definition, Origin, read_file, read_word};
 use crate::excerpt::add_excerpt;
-use grok::{Grok, patterns};
+use grok::{Grok, Measure, patterns};
 use groklog_input::{Fault, Report};
 use std::alloc::{AllocError, Global};
 use std::collections::BTreeMap;
@@ -26,12 +28,52 @@ pub struct Source<'a> {
     pub origin: Origin<'a>,
 }
 
+/// How many bytes a limit has for each group that it allows. The engine compares the name of each group with
+/// all others, so 4,000 of them take most of a second.
+const BYTES_FOR_A_GROUP: usize = 250;
+
+/// How large the expanded text of a pattern may be.
+#[derive(Clone, Copy)]
+pub struct Limit {
+    pub bytes: usize,
+    /// How many of its groups may be those of placeholders.
+    pub groups: usize,
+}
+
+impl Limit {
+    /// Returns the limit of this many bytes, and of a group for each 250 of them.
+    pub fn of_bytes(bytes: usize) -> Limit
+        ensures bytes { result.bytes ≡ bytes }
+        ensures groups { result.groups ≡ bytes / 250 }
+    {
+        Limit {
+            bytes,
+            groups: bytes / BYTES_FOR_A_GROUP,
+        }
+    }
+
+    /// Returns whether a pattern that was measured has no structural fault and is larger than this.
+    #[tactic(auto, using(crate::proofs::MeasuresDecide::measures_decide))]
+    pub fn is_past(self, measure: Measure<'_>) -> bool
+        ensures { IsPastOrNot self (measure_view measure.entry) result }
+    {
+        match measure {
+            Measure::Size { length, .. } if length > self.bytes => true,
+            Measure::Size { groups, .. } if groups > self.groups => true,
+            Measure::TooLong => true,
+            Measure::Size { .. } | Measure::Fault(_) => false,
+        }
+    }
+}
+
 /// Definitions, which `grok` has, and where each of them was given.
 #[derive(Drop)]
 pub struct Library<'a> {
     pub grok: Grok,
-    /// How many bytes the expanded text of a pattern may have.
-    pub most_bytes: usize,
+    /// How large the expanded text of a pattern may be.
+    pub limit: Limit,
+    /// Whether the common definitions are among them.
+    pub has_common: bool,
     sources: BTreeMap<&'a str, Source<'a>>,
 }
 
@@ -102,9 +144,10 @@ fn collect<'a>(
 }
 
 impl<'a> Library<'a> {
-    /// Makes a library of the default definitions.
+    /// Makes a library of the default definitions. `with_common` is whether the common ones will be added.
     fn with_default_definitions(
         alloc: Global,
+        with_common: bool,
         most_bytes: usize,
     ) -> Result<Library<'a>, AllocError> {
         let mut sources = BTreeMap::new(alloc);
@@ -115,15 +158,16 @@ impl<'a> Library<'a> {
         }
         Ok(Library {
             grok: Grok::default(alloc)?,
-            most_bytes,
+            limit: Limit::of_bytes(most_bytes),
+            has_common: with_common,
             sources,
         })
     }
 
     /// Makes the library with the default definitions, the common definitions if `with_common` is
     /// set, those of the files, and those of the words.
-    /// A later definition of a name replaces an earlier one. Patterns whose expanded text is longer than
-    /// `most_bytes` are refused.
+    /// A later definition of a name replaces an earlier one. Patterns are refused whose expanded text is longer
+    /// than `most_bytes`, or has more groups than a limit of this many bytes allows.
     ///
     /// # Errors
     ///
@@ -135,7 +179,7 @@ impl<'a> Library<'a> {
         words: &[&'a str],
         most_bytes: usize,
     ) -> Result<Library<'a>, Fault> {
-        let mut library = Library::with_default_definitions(alloc, most_bytes)?;
+        let mut library = Library::with_default_definitions(alloc, with_common, most_bytes)?;
         for definition in &collect(alloc, with_common, files, words)? {
             let Definition { name, text, origin } = *definition;
             library.store(Source { name, origin }, text)?;
@@ -159,5 +203,19 @@ impl<'a> Library<'a> {
     /// Returns where the definition of a name was given, or `None` if the name has no definition.
     pub fn source(&self, name: &str) -> Option<Source<'a>> {
         self.sources.get(name).copied()
+    }
+    /// Returns where each of the user's definitions was given, in the byte order of their names.
+    ///
+    /// # Errors
+    ///
+    /// If an allocation fails.
+    pub fn own_sources(&self, alloc: Global) -> Result<Vec<Source<'a>>, AllocError> {
+        let mut own = Vec::new(alloc);
+        for source in self.sources.values() {
+            if source.origin.is_own() {
+                own.push(*source)?;
+            }
+        }
+        Ok(own)
     }
 }

@@ -14,6 +14,15 @@ pub struct PatternText {
     pub words: String,
 }
 
+/// The patterns of a run.
+#[derive(Drop)]
+pub struct RunTexts {
+    /// Those that are searched for in each line or event.
+    pub patterns: Vec<PatternText>,
+    /// The one that is found in each line that begins an event, if events are answered.
+    pub start: Option<PatternText>,
+}
+
 /// Returns an ordinal number in digits, such as `2nd`.
 ///
 /// # Errors

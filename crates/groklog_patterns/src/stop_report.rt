@@ -105,6 +105,18 @@ fn push_fields(
     Ok(())
 }
 
+/// Returns the bracket with which a part of the expanded text begins, if it may be meant as the character: the
+/// `[` of a class without a quantifier, or a `(` without a `?` after it.
+fn bare_bracket(part: &str) -> Option<char> {
+    if part.starts_with('[') && part.ends_with(']') {
+        Some('[')
+    } else if part.starts_with('(') && !part.starts_with("(?") {
+        Some('(')
+    } else {
+        None
+    }
+}
+
 /// Returns whether two matches end at the same position.
 fn ends_alike(one: &Option<Found>, other: &Option<Found>) -> bool {
     match (one, other) {
@@ -112,6 +124,37 @@ fn ends_alike(one: &Option<Found>, other: &Option<Found>) -> bool {
         (None, None) => true,
         _ => false,
     }
+}
+
+/// Returns the bracket that the line has where the beginning ends, if the pattern goes on there with the same
+/// bracket, which isn't escaped: as that of the piece that isn't found, or of one of the `groups` around it of
+/// which nothing was found yet.
+fn bracket_in_line(
+    searched: &Searched<'_, '_>,
+    (line, stop): (&str, &Stop),
+    groups: &[Group],
+) -> Result<Option<char>, AllocError> {
+    let end = match &stop.found {
+        Some(found) => found.end,
+        None => 0,
+    };
+    let next = line.get(end..).unwrap_or("").chars().next();
+    let upto = searched.text_upto(stop.count);
+    let piece = searched.piece_at(stop.count);
+    if bare_bracket(upto.get(piece.start..).unwrap_or("")) == next {
+        return Ok(next);
+    }
+    for group in groups {
+        if bare_bracket(upto.get(group.start..).unwrap_or("")) == next
+            && ends_alike(
+                &searched.find(searched.pieces_before(group.start), line)?,
+                &stop.found,
+            )
+        {
+            return Ok(next);
+        }
+    }
+    Ok(None)
 }
 
 impl<'p, 'd> Explainer<'p, 'd> {
@@ -157,6 +200,7 @@ impl<'p, 'd> Explainer<'p, 'd> {
         report.push_str(if several { " comes furthest, and" } else { "" })?;
         report.push_str(" stops at ")?;
         push_stop(alloc, self.library, &mut report, searched, (line, &stop))?;
+        push_advice(alloc, &mut report, searched, (line, &stop))?;
         Ok(report)
     }
 }
@@ -202,6 +246,23 @@ fn push_stop(
         Some(found) => push_fields(alloc, report, searched, (line, found), &groups),
         None => Ok(()),
     }
+}
+
+/// Appends how to write the bracket at which the pattern stops, if the line has it there too.
+fn push_advice(
+    alloc: Global,
+    report: &mut String,
+    searched: &Searched<'_, '_>,
+    (line, stop): (&str, &Stop),
+) -> Result<(), AllocError> {
+    let groups = searched.groups_around(alloc, stop.count)?;
+    let Some(bracket) = bracket_in_line(searched, (line, stop), &groups)? else {
+        return Ok(());
+    };
+    let advice = format!(in alloc;
+        "  try: write \\{bracket} if you mean the {bracket} that the line has there\n"
+    )?;
+    report.push_str(advice.as_str())
 }
 
 /// Appends a piece in words, the line, and the pattern with carets under the piece.

@@ -5,7 +5,6 @@ use crate::pattern_text::PatternText;
 use grok::{ByteLocation, Location, Pattern, WrittenByte};
 use regex_beginnings::{Beginnings, Found, Group, Piece};
 use std::alloc::{AllocError, Global};
-use std::collections::BTreeMap;
 use std::ops::Range;
 
 /// A pattern, with the beginnings of the regular expression that it expands to.
@@ -15,8 +14,8 @@ pub struct Searched<'p, 'd> {
     pub text: &'p PatternText,
     with_alias_only: bool,
     pub beginnings: Beginnings<'p>,
-    /// The keys by the numbers of their groups.
-    keys: BTreeMap<usize, &'p str>,
+    /// The keys after the numbers of their groups, in the order of the groups.
+    keys: Vec<(usize, &'p str)>,
 }
 
 /// Where a pattern stops in a line: its longest beginning that finds something there.
@@ -128,18 +127,12 @@ impl<'p, 'd> Searched<'p, 'd> {
         pattern: &'p Pattern,
         with_alias_only: bool,
     ) -> Result<Searched<'p, 'd>, AllocError> {
-        let mut keys = BTreeMap::new(alloc);
-        for key in pattern.capture_names() {
-            if let Some(group) = pattern.group_of(key) {
-                keys.insert(group, key)?;
-            }
-        }
         Ok(Searched {
             library,
             text,
             with_alias_only,
             beginnings: Beginnings::new(alloc, pattern.text())?,
-            keys,
+            keys: pattern.keys_by_group()?,
         })
     }
 
@@ -159,7 +152,9 @@ impl<'p, 'd> Searched<'p, 'd> {
     /// Returns the key that has its values from the group with this number, or `None` if no key
     /// has.
     pub fn key(&self, group: usize) -> Option<&'p str> {
-        self.keys.get(&group).copied()
+        let found = self.keys.binary_search_by(|entry| entry.0.cmp(&group));
+        let (_, key) = self.keys.get(found.ok()?)?;
+        Some(*key)
     }
 
     /// Returns the piece at this index, with the characters after it that stand for themselves too.
@@ -177,6 +172,14 @@ impl<'p, 'd> Searched<'p, 'd> {
             end = next.upto.len();
         }
         first.start..end
+    }
+
+    /// Returns the expanded text up to the end of the piece at this index.
+    pub fn text_upto(&self, index: usize) -> &str {
+        match self.beginnings.pieces().get(index) {
+            Some(piece) => piece.upto,
+            None => "",
+        }
     }
 
     /// Returns the groups around the piece at this index, innermost first.
@@ -209,11 +212,12 @@ impl<'p, 'd> Searched<'p, 'd> {
     /// If an allocation fails.
     pub fn written(&self, alloc: Global, part: Range<usize>) -> Result<Location<'p>, AllocError> {
         let (grok, pattern) = (&self.library.grok, self.text.text.as_str());
-        let last = part.end.saturating_sub(1);
-        let (Some(first), Some(last)) = (
-            grok.locate_byte(pattern, self.with_alias_only, part.start)?,
-            grok.locate_byte(pattern, self.with_alias_only, last)?,
-        ) else {
+        let ends = [part.start, part.end.saturating_sub(1)];
+        let mut located = grok
+            .locate_bytes(pattern, self.with_alias_only, &ends)?
+            .into_iter()
+            .flatten();
+        let (Some(first), Some(last)) = (located.next(), located.next()) else {
             // This doesn't happen: each byte of the expanded text was written by something.
             return Ok(Location {
                 path: Vec::new(alloc),
@@ -246,7 +250,7 @@ impl<'p, 'd> Searched<'p, 'd> {
     }
 
     /// Returns how many pieces come before this byte position of the expanded text.
-    fn pieces_before(&self, position: usize) -> usize {
+    pub fn pieces_before(&self, position: usize) -> usize {
         let pieces = self.beginnings.pieces().iter();
         pieces
             .take_while(|piece: &&Piece<'_>| piece.start < position)

@@ -1,5 +1,8 @@
--- What a page lists.
-use Rattle.std.specs.Prelude.{Bool, true, false}
+-- What a page lists, and what its shares are.
+use Rattle.std.specs.Prelude.{ℕ, ◌==◌, Bool, true, false, List, [], ◌∷◌, ◌++◌, if◌then◌else◌}
+use Rattle.groklog_answers.specs.Searches.{matched_in, unmatched_in, broken_in}
+use Rattle.groklog_answers.specs.declared.searches.Searches.{Searches}
+use Rattle.groklog_views.specs.declared.page.Share.{Share}
 use Rattle.groklog_answers.specs.declared.layout.Lines.{Lines}
 use Rattle.groklog_answers.specs.declared.layout.Lines.TheVariants.{All, Matched, Unmatched}
 
@@ -8,3 +11,13 @@ abbrev pub lists_unmatched : Lines → Bool
 lists_unmatched All = true
 lists_unmatched Matched = false
 lists_unmatched Unmatched = true
+
+-- How many lines or events a share is about.
+abbrev pub share_count : Share → ℕ
+share_count share = share.count
+
+-- The shares of a page: how many lines or events each pattern was the first to match, how many none matched, and how many weren't
+-- UTF-8, if there are any.
+abbrev pub share_counts : Searches → List ℕ
+share_counts searches = matched_in searches ++ (unmatched_in searches
+    ∷ (if broken_in searches == 0 then [] else broken_in searches ∷ []))

@@ -1,49 +1,129 @@
-//! Counts the values of a key, for `--count`.
-ghost use Rattle.std.specs.Prelude.{◌≡◌, [], OnOk};
-ghost use Rattle.groklog_answers.specs.{patterns_in, first_match};
-ghost use Rattle.groklog_views.specs.KeyCounts.{value_in, CountsValue};
+//! Counts the values of keys, for `--count`.
+ghost use Rattle.std.specs.Prelude.{◌≡◌, ◌==◌, ℕ, List, [], None, IfOk, OnOk, is_none, option_map, string_bytes};
+ghost use Rattle.groklog_answers.specs.{patterns_in, first_match, found_text_of, count_of, others_of, most_of, AreByCount};
+ghost use Rattle.groklog_answers.specs.PlanViews.{names_of};
+ghost use Rattle.groklog_views.specs.KeyCounts.{value_in, list_in, counted_in, keys_text, CountsValue};
 
-use crate::unit::Unit;
 use grok_lines::{LineAnswers, SkipLines};
-use groklog_answers::{Searches, ValueCounts};
+use groklog_answers::{LineMatch, OutputFormat, Searches, ValueCounts, list_text, pairs_of_keys};
+use groklog_input::Unit;
 use std::alloc::{AllocError, Global};
 
-/// Counts the values of a key in the matches of lines. It has no answers.
+/// Counts the values of a key in the matches of lines, or those of several keys together. It has no
+/// answers.
 #[derive(Drop)]
 pub struct KeyCounts<'a> {
+    alloc: Global,
     pub searches: Searches<'a>,
-    pub key: &'a str,
+    /// The keys whose values are counted.
+    pub keys: Vec<&'a str>,
+    /// How the counts are written. The values of several keys are counted by what is written of them.
+    pub format: OutputFormat,
     pub counts: ValueCounts,
 }
 
+/// Returns the text of the values that these keys have in a match, or `None` if there is no match, or one of them has
+/// no value in it.
+fn list_in<'m>(
+    alloc: Global,
+    format: OutputFormat,
+    found: Option<LineMatch<'m>>,
+    keys: &[&'m str],
+) -> Result<Option<String>, AllocError>
+    ensures { IfOk result (λ text. option_map string_bytes text
+        ≡ list_in format (option_map found_text_of found.entry) (names_of keys.now)) }
+{
+    let Some(found) = found else {
+        return Ok(None);
+    };
+    match pairs_of_keys(alloc, found.matches, keys)? {
+        Some(pairs) => Ok(Some(list_text(alloc, format, &pairs)?)),
+        None => Ok(None),
+    }
+}
+
 impl<'a> KeyCounts<'a> {
-    /// Counts at most `most` different values of a key.
-    pub fn new(alloc: Global, searches: Searches<'a>, key: &'a str, most: usize) -> KeyCounts<'a>
+    /// Counts at most `most` different values of a key, or lists of values of several keys.
+    pub fn new(
+        alloc: Global,
+        searches: Searches<'a>,
+        keys: Vec<&'a str>,
+        format: OutputFormat,
+        most: usize,
+    ) -> KeyCounts<'a>
         ensures searches { result.searches ≡ searches.entry }
-        ensures key { result.key.now ≡ key.now }
+        ensures keys { result.keys ≡ keys.entry }
+        ensures format { result.format ≡ format }
+        ensures counts { (value : List ℕ) → count_of result.counts value ≡ None }
+        ensures others { others_of result.counts ≡ 0 }
+        ensures most { most_of result.counts ≡ most }
     {
         KeyCounts {
+            alloc,
             searches,
-            key,
+            keys,
+            format,
             counts: ValueCounts::new(alloc, most),
         }
     }
 
-    /// Counts a line, and the value that the key has in its match, if it has one.
+    /// Counts the value that the key has in the match of a line, if it has one. The key is the only one.
+    fn count_value(&mut self, key: &str, line: &str) -> Result<(), AllocError>
+        ensures { OnOk result (CountsValue self.old.counts self.new.counts
+            (value_in (first_match (patterns_in self.old.searches) line.now) key.now)) }
+    {
+        let Some(found) = self.searches.find(line)? else {
+            return Ok(());
+        };
+        match found.matches.get(key) {
+            Some(value) => self.counts.note(value),
+            None => Ok(()),
+        }
+    }
+
+    /// Counts the values that the keys have in the match of a line, if each of them has one.
+    fn count_list(&mut self, line: &str) -> Result<(), AllocError>
+        ensures { OnOk result (CountsValue self.old.counts self.new.counts
+            (list_in self.old.format (first_match (patterns_in self.old.searches) line.now)
+            (names_of self.old.keys.items))) }
+    {
+        let found = self.searches.find(line)?;
+        match list_in(self.alloc, self.format, found, &self.keys)? {
+            Some(text) => self.counts.note(text.as_str()),
+            None => Ok(()),
+        }
+    }
+
+    /// Counts a line, and what the keys have as their values in its match, if each of them has one.
     ///
     /// # Errors
     ///
     /// If an allocation fails.
     pub fn count(&mut self, line: &str) -> Result<(), AllocError>
         ensures { OnOk result (CountsValue self.old.counts self.new.counts
-            (value_in (first_match (patterns_in self.old.searches) line.now) self.old.key.now)) }
+            (counted_in self.old.format (first_match (patterns_in self.old.searches) line.now)
+            (names_of self.old.keys.items))) }
     {
-        let Some(found) = self.searches.find(line)? else {
-            return Ok(());
-        };
-        match found.matches.get(self.key) {
-            Some(value) => self.counts.note(value),
-            None => Ok(()),
+        if let [key] = self.keys.as_slice() {
+            let key = *key;
+            return self.count_value(key, line);
+        }
+        self.count_list(line)
+    }
+
+    /// Returns what was counted, as it is written: as JSON objects, or as records with a header. What came
+    /// most often comes first, and of that the first in byte order.
+    ///
+    /// # Errors
+    ///
+    /// If an allocation fails.
+    pub fn text(&self) -> Result<Vec<u8>, AllocError>
+        ensures { IfOk result (λ text. (pairs : List (List ℕ × ℕ)) × AreByCount self.now.counts pairs
+            × (text.items ≡ keys_text self.now.format (names_of self.now.keys.items) pairs)) }
+    {
+        match self.keys.as_slice() {
+            [_] => self.counts.text(self.format),
+            keys => self.counts.text_of_lists(self.format, keys),
         }
     }
 
@@ -52,7 +132,9 @@ impl<'a> KeyCounts<'a> {
     /// # Errors
     ///
     /// If an allocation fails.
-    pub fn note(&self, alloc: Global, unit: Unit) -> Result<Option<String>, AllocError> {
+    pub fn note(&self, alloc: Global, unit: Unit) -> Result<Option<String>, AllocError>
+        ensures { IfOk result (λ note. is_none note ≡ (others_of self.now.counts == 0)) }
+    {
         let others = self.counts.others();
         let word = unit.word(others);
         match others {

@@ -13,15 +13,14 @@
 #![tactic(auto)]
 
 mod key_counts;
+mod key_figures;
 mod located_fields;
 mod page;
 mod page_content;
 mod shown_lines;
-mod unit;
 
 pub use key_counts::KeyCounts;
 pub use located_fields::LocatedFields;
 pub use page::page_html;
 pub use page_content::{EXPLAINED, PageContent, Scope};
 pub use shown_lines::{legend_of, shown_line, shown_unmatched};
-pub use unit::Unit;

@@ -1,20 +1,19 @@
 //! Finds where in a line the values of keys are.
-ghost use Rattle.std.specs.Prelude.{◌≡◌, IfOk};
+ghost use Rattle.std.specs.Prelude.{◌≡◌, IfOk, OnOk, ◌+◌, map, option_map};
+ghost use Rattle.std.specs.List.{filter_map};
 ghost use Rattle.std.specs.Option.{is_some};
-ghost use Rattle.groklog_answers.specs.{patterns_in, first_match};
+ghost use Rattle.grok.specs.Answers.{value_of};
+ghost use Rattle.grok.specs.BorrowedMatches.{borrowed_line, borrowed_keys, borrowed_captures};
+ghost use Rattle.groklog_answers.specs.{patterns_in, next_number_in, first_match, first_index, HasCounted};
+ghost use Rattle.groklog_answers.specs.PlanViews.{names_of};
+ghost use Rattle.groklog_views.specs.Fields.{field_text, fields_text, numbered_value, numbers_at, values_at, found_values};
 
 use grok::{MatchesRef, Pattern};
 use groklog_answers::Searches;
 use marked_lines::Field;
 use std::alloc::{AllocError, Global};
+use std::collections::BTreeMap;
 use std::ops::Range;
-
-/// A key of a pattern, with its number among the keys of all patterns.
-#[derive(Clone, Copy)]
-struct NumberedKey<'p> {
-    number: usize,
-    key: &'p str,
-}
 
 /// Finds the matches of lines, and where in the line the values of the keys are.
 #[derive(Drop)]
@@ -24,72 +23,110 @@ pub struct LocatedFields<'a> {
     /// The keys of all patterns, each once. The keys of the first pattern come first, and those of one
     /// pattern in the order of their groups.
     pub keys: Vec<&'a str>,
-    /// The keys of each pattern, in the order of their groups. So a key comes after those whose groups
-    /// are around its own.
-    keys_of: Vec<Vec<NumberedKey<'a>>>,
+    /// The numbers of the keys of each pattern, in the order of their groups. So a key comes after those
+    /// whose groups are around its own.
+    numbers_of: Vec<Vec<usize>>,
 }
 
-/// Returns the keys of a pattern with their groups, in the order of the groups.
-fn keys_by_group<'p>(
-    alloc: Global,
-    pattern: &'p Pattern,
-) -> Result<Vec<(usize, &'p str)>, AllocError> {
-    let mut keys = Vec::new(alloc);
-    for key in pattern.capture_names() {
-        if let Some(group) = pattern.group_of(key) {
-            keys.push((group, key))?;
+/// Numbers the keys of patterns in the order in which they come.
+#[derive(Drop)]
+struct KeyNumbers<'p> {
+    keys: Vec<&'p str>,
+    numbers: BTreeMap<&'p str, usize>,
+    /// The keys that count, if not all do.
+    chosen: Option<BTreeMap<&'p str, ()>>,
+}
+
+impl<'p> KeyNumbers<'p> {
+    /// Begins with no key. If `fields` is given, only these keys count.
+    fn new(alloc: Global, fields: Option<&[&'p str]>) -> Result<KeyNumbers<'p>, AllocError> {
+        let mut chosen = None;
+        if let Some(fields) = fields {
+            let mut named = BTreeMap::new(alloc);
+            for field in fields {
+                named.insert(*field, ())?;
+            }
+            chosen = Some(named);
         }
+        Ok(KeyNumbers {
+            keys: Vec::new(alloc),
+            numbers: BTreeMap::new(alloc),
+            chosen,
+        })
     }
-    keys.sort()?;
-    Ok(keys)
-}
 
-/// Returns the number of a key, which is added to `keys` if it isn't there yet.
-fn number_of<'p>(keys: &mut Vec<&'p str>, key: &'p str) -> Result<usize, AllocError> {
-    if let Some(number) = keys.iter().position(|known| *known == key) {
-        return Ok(number);
-    }
-    let number = keys.len();
-    keys.push(key)?;
-    Ok(number)
-}
-
-/// Returns the keys of a pattern with their numbers, and adds them to `keys`. If `fields` is given, only
-/// these keys count.
-fn numbered_keys<'p>(
-    alloc: Global,
-    keys: &mut Vec<&'p str>,
-    pattern: &'p Pattern,
-    fields: Option<&[&str]>,
-) -> Result<Vec<NumberedKey<'p>>, AllocError> {
-    let mut numbered = Vec::new(alloc);
-    for (_, key) in &keys_by_group(alloc, pattern)? {
-        let is_chosen = match fields {
-            Some(fields) => fields.iter().any(|field| *field == *key),
+    /// Returns whether a key counts.
+    fn counts(&self, key: &'p str) -> bool {
+        match &self.chosen {
+            Some(chosen) => chosen.contains_key(&key),
             None => true,
-        };
-        if is_chosen {
-            let (number, key) = (number_of(keys, *key)?, *key);
-            numbered.push(NumberedKey { number, key })?;
         }
     }
-    Ok(numbered)
+
+    /// Returns the number of a key, which it gets if it has none yet.
+    fn number_of(&mut self, key: &'p str) -> Result<usize, AllocError> {
+        if let Some(number) = self.numbers.get(&key) {
+            return Ok(*number);
+        }
+        let number = self.keys.len();
+        self.numbers.insert(key, number)?;
+        self.keys.push(key)?;
+        Ok(number)
+    }
+
+    /// Returns the numbers of the keys of a pattern that count.
+    fn numbers_of(
+        &mut self,
+        alloc: Global,
+        pattern: &'p Pattern,
+    ) -> Result<Vec<usize>, AllocError> {
+        let mut numbers = Vec::new(alloc);
+        for (_, key) in &pattern.keys_by_group()? {
+            if self.counts(*key) {
+                numbers.push(self.number_of(*key)?)?;
+            }
+        }
+        Ok(numbers)
+    }
 }
 
-/// Returns the fields of a match that have these keys.
+/// Returns where a match has the value of the key with this number, or `None` if it has none.
+fn field_of(matches: MatchesRef<'_>, keys: &[&str], key: usize) -> Option<Field>
+    ensures { option_map (field_text (borrowed_line matches.entry)) result
+        ≡ numbered_value (value_of (borrowed_keys matches.entry) (borrowed_captures matches.entry)) (names_of keys.now) key }
+{
+    let name = keys.get(key)?;
+    let Range { start, end } = matches.range(name)?;
+    Some(Field { key, start, end })
+}
+
+/// Returns where a match has the values of the keys with these numbers, without those that have none.
 fn fields_in(
     alloc: Global,
     matches: MatchesRef<'_>,
-    keys: &[NumberedKey<'_>],
-) -> Result<Vec<Field>, AllocError> {
+    keys: &[&str],
+    numbers: &[usize],
+) -> Result<Vec<Field>, AllocError>
+    ensures { IfOk result (λ fields. fields_text (borrowed_line matches.entry) fields
+        ≡ values_at (value_of (borrowed_keys matches.entry) (borrowed_captures matches.entry)) (names_of keys.now) numbers.now) }
+{
     let mut fields = Vec::new(alloc);
-    for NumberedKey { number, key } in keys {
-        if let Some(Range { start, end }) = matches.range(key) {
-            let key = *number;
-            fields.push(Field { key, start, end })?;
+    'numbers: for number in numbers {
+        if let Some(field) = field_of(matches, keys, *number) {
+            fields.push(field)?;
         }
     }
     Ok(fields)
+}
+
+/// Returns the numbers of the keys of the pattern with this index.
+fn numbers_at(numbers_of: &[Vec<usize>], index: usize) -> &[usize]
+    ensures { result.now ≡ numbers_at numbers_of.now index }
+{
+    match numbers_of.get(index) {
+        Some(numbers) => numbers,
+        None => &[],
+    }
 }
 
 impl<'a> LocatedFields<'a> {
@@ -103,17 +140,21 @@ impl<'a> LocatedFields<'a> {
         alloc: Global,
         searches: Searches<'a>,
         patterns: &'a [Pattern],
-        fields: Option<&[&str]>,
-    ) -> Result<LocatedFields<'a>, AllocError> {
-        let (mut keys, mut keys_of) = (Vec::new(alloc), Vec::new(alloc));
+        fields: Option<&[&'a str]>,
+    ) -> Result<LocatedFields<'a>, AllocError>
+        ensures { IfOk result (λ located. located.searches ≡ searches.entry) }
+    {
+        let mut numbers = KeyNumbers::new(alloc, fields)?;
+        let mut numbers_of = Vec::new(alloc);
         for pattern in patterns {
-            keys_of.push(numbered_keys(alloc, &mut keys, pattern, fields)?)?;
+            numbers_of.push(numbers.numbers_of(alloc, pattern)?)?;
         }
+        let KeyNumbers { keys, .. } = numbers;
         Ok(LocatedFields {
             alloc,
             searches,
             keys,
-            keys_of,
+            numbers_of,
         })
     }
 
@@ -124,14 +165,17 @@ impl<'a> LocatedFields<'a> {
     ///
     /// If an allocation fails.
     pub fn find(&mut self, line: &str) -> Result<Option<Vec<Field>>, AllocError>
-        ensures { IfOk result (λ fields. is_some fields ≡ is_some (first_match (patterns_in self.old.searches) line.now)) }
+        ensures is_match { IfOk result (λ fields. is_some fields ≡ is_some (first_match (patterns_in self.old.searches) line.now)) }
+        ensures fields { IfOk result (λ fields. option_map (fields_text line.now) fields
+            ≡ found_values self.old (first_match (patterns_in self.old.searches) line.now) (first_index (patterns_in self.old.searches) line.now)) }
+        ensures number { OnOk result (next_number_in self.new.searches ≡ next_number_in self.old.searches + 1) }
+        ensures counted { OnOk result (HasCounted self.old.searches self.new.searches (first_index (patterns_in self.old.searches) line.now)) }
+        ensures patterns { patterns_in self.new.searches ≡ patterns_in self.old.searches }
     {
         let Some(found) = self.searches.find(line)? else {
             return Ok(None);
         };
-        match self.keys_of.get(found.index) {
-            Some(keys) => Ok(Some(fields_in(self.alloc, found.matches, keys)?)),
-            None => Ok(Some(Vec::new(self.alloc))),
-        }
+        let numbers = numbers_at(&self.numbers_of, found.index);
+        Ok(Some(fields_in(self.alloc, found.matches, &self.keys, numbers)?))
     }
 }

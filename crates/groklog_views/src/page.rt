@@ -1,9 +1,13 @@
 //! The page of `--html` as a text.
+ghost use Rattle.std.specs.Prelude.{◌≡◌, IfOk, map};
+ghost use Rattle.groklog_answers.specs.{matched_in};
+ghost use Rattle.groklog_views.specs.Pages.{share_count, share_counts};
 
+use crate::key_figures::{KeyValues, figures_of, stretches_of};
 use crate::located_fields::LocatedFields;
 use crate::page_content::{EXPLAINED, PageContent};
-use crate::unit::Unit;
-use groklog_answers::{Counted, Searches, ValueCounts};
+use groklog_answers::{Counted, Failure, Searches};
+use groklog_input::Unit;
 use marked_lines::Html;
 use std::alloc::{AllocError, Global};
 
@@ -63,35 +67,48 @@ struct Share<'w> {
     is_pattern: bool,
 }
 
-/// Returns how many lines or events each pattern matches, and how many none matches. `tags` has the tag of
-/// each pattern.
+/// Returns how many lines or events each pattern matches. `tags` has the tag of each pattern.
+fn pattern_shares<'o>(
+    alloc: Global,
+    tags: &[&'o str],
+    searches: &Searches<'_>,
+) -> Result<Vec<Share<'o>>, AllocError>
+    ensures { IfOk result (λ shares. map share_count shares.items ≡ matched_in searches.now) }
+{
+    let counts = searches.matched(alloc)?;
+    let mut shares = Vec::new(alloc);
+    'counts: for (number, count) in counts.iter().enumerate() {
+        shares.push(Share {
+            count: *count,
+            words: tags.get(number).copied().unwrap_or(""),
+            is_pattern: true,
+        })?;
+    }
+    Ok(shares)
+}
+
+/// Returns how many lines or events each pattern matches, how many none matches, and how many aren't UTF-8,
+/// if there are any. `tags` has the tag of each pattern.
 fn shares_of<'o>(
     alloc: Global,
     tags: &[&'o str],
     searches: &Searches<'_>,
-) -> Result<Vec<Share<'o>>, AllocError> {
-    let mut shares = Vec::new(alloc);
-    for (tag, count) in tags.iter().zip(&searches.matched(alloc)?) {
-        let (count, words, is_pattern) = (*count, *tag, true);
+) -> Result<Vec<Share<'o>>, AllocError>
+    ensures { IfOk result (λ shares. map share_count shares.items ≡ share_counts searches.now) }
+{
+    let mut shares = pattern_shares(alloc, tags, searches)?;
+    shares.push(Share {
+        count: searches.unmatched(),
+        words: Failure::NoMatch.words(),
+        is_pattern: false,
+    })?;
+    let broken = searches.broken();
+    if broken > 0 {
         shares.push(Share {
-            count,
-            words,
-            is_pattern,
+            count: broken,
+            words: Failure::NotUtf8.words(),
+            is_pattern: false,
         })?;
-    }
-    let others = [
-        (searches.unmatched(), "no match"),
-        (searches.broken(), "not UTF-8"),
-    ];
-    for (number, (count, words)) in others.iter().enumerate() {
-        if number == 0 || *count > 0 {
-            let (count, words, is_pattern) = (*count, *words, false);
-            shares.push(Share {
-                count,
-                words,
-                is_pattern,
-            })?;
-        }
     }
     Ok(shares)
 }
@@ -136,8 +153,8 @@ fn push_shares(
     html.push_markup("</table>\n")
 }
 
-/// Appends the row of a value, with a bar that compares its count with the greatest one.
-fn push_value(
+/// Appends a row with a bar that compares a count with the greatest one.
+fn push_count(
     alloc: Global,
     html: &mut Html,
     counted: Counted<'_>,
@@ -153,6 +170,13 @@ fn push_value(
     html.push_markup("</code></td></tr>\n")
 }
 
+/// Appends a paragraph.
+fn push_paragraph(html: &mut Html, text: &str) -> Result<(), AllocError> {
+    html.push_markup("<p>")?;
+    html.push_text(text)?;
+    html.push_markup("</p>\n")
+}
+
 /// Appends how many values aren't shown, if there are any.
 fn push_rest(alloc: Global, html: &mut Html, count: usize) -> Result<(), AllocError> {
     let rest = match count.saturating_sub(MOST_VALUES) {
@@ -160,51 +184,147 @@ fn push_rest(alloc: Global, html: &mut Html, count: usize) -> Result<(), AllocEr
         1 => String::from_str(alloc, "and 1 more value")?,
         more => format!(in alloc; "and {more} more values")?,
     };
-    html.push_markup("<p>")?;
-    html.push_text(rest.as_str())?;
-    html.push_markup("</p>\n")
+    push_paragraph(html, rest.as_str())
 }
 
-/// Appends a key with its commonest values.
+/// Appends the commonest values, of which there is one at least.
+fn push_commonest(
+    alloc: Global,
+    html: &mut Html,
+    sorted: &[Counted<'_>],
+) -> Result<(), AllocError> {
+    let greatest = sorted.first().map_or(0, |counted| counted.count);
+    html.push_markup("<table>\n")?;
+    for counted in sorted.iter().take(MOST_VALUES) {
+        push_count(alloc, html, *counted, greatest)?;
+    }
+    html.push_markup("</table>\n")?;
+    push_rest(alloc, html, sorted.len())
+}
+
+/// Appends the first and the last of some times, and how many there are over time.
+fn push_times(alloc: Global, html: &mut Html, times: &[String]) -> Result<(), AllocError> {
+    let (Some(first), Some(last)) = (times.first(), times.last()) else {
+        return Ok(());
+    };
+    let words = format!(in alloc; "from {first} to {last}")?;
+    push_paragraph(html, words.as_str())?;
+    let stretches = stretches_of(alloc, times)?;
+    let greatest = stretches.iter().map(|stretch| stretch.count).max();
+    html.push_markup("<table>\n")?;
+    for stretch in &stretches {
+        let (value, count) = (stretch.beginning, stretch.count);
+        push_count(alloc, html, Counted { value, count }, greatest.unwrap_or(0))?;
+    }
+    html.push_markup("</table>\n")
+}
+
+/// Appends what is worth seeing of the values of a key: of times how many there are over time, of numbers what they
+/// are like, and otherwise, or if a number came twice, the commonest values, unless all of many are different.
+fn push_values(
+    alloc: Global,
+    html: &mut Html,
+    values: &KeyValues,
+    sorted: &[Counted<'_>],
+) -> Result<(), AllocError> {
+    if let Some(times) = &values.times {
+        return push_times(alloc, html, times);
+    }
+    let figures = figures_of(alloc, sorted, values.total)?;
+    if let Some(figures) = figures {
+        let (least, median, p95) = (figures.least, figures.median, figures.p95);
+        let words = format!(in alloc;
+            "least {least}, median {median}, 95th percentile {p95}, greatest {}",
+            figures.greatest
+        )?;
+        push_paragraph(html, words.as_str())?;
+    }
+    let has_repeated = sorted.first().is_some_and(|counted| counted.count > 1);
+    if has_repeated || (figures.is_none() && sorted.len() <= MOST_VALUES) {
+        push_commonest(alloc, html, sorted)?;
+    }
+    Ok(())
+}
+
+/// Returns how many values there are, and how many different ones.
+fn totals_in_words(
+    alloc: Global,
+    total: u64,
+    sorted: &[Counted<'_>],
+) -> Result<String, AllocError> {
+    let different = sorted.len();
+    match sorted {
+        [one] if one.count == 1 => String::from_str(alloc, "1 value"),
+        [_] => format!(in alloc; "{total} values, all the same"),
+        [first, ..] if first.count == 1 => format!(in alloc;
+            "{total} values, all different, such as {}",
+            first.value
+        ),
+        _ => format!(in alloc; "{total} values, {different} different"),
+    }
+}
+
+/// Appends a key with what is worth seeing of its values, of which there is one at least.
 fn push_key(
     alloc: Global,
     html: &mut Html,
     (number, key): (usize, &str),
-    values: &ValueCounts,
+    values: &KeyValues,
 ) -> Result<(), AllocError> {
-    let sorted = values.sorted()?;
-    let greatest = match sorted.as_slice().first() {
-        Some(counted) => counted.count,
-        None => 0,
-    };
+    let sorted = values.counts.sorted()?;
     html.push_markup("<section>\n<h3><span class=\"")?;
     html.push_class(number)?;
     html.push_markup("\">")?;
     html.push_text(key)?;
-    html.push_markup("</span></h3>\n<table>\n")?;
-    for counted in sorted.iter().take(MOST_VALUES) {
-        push_value(alloc, html, *counted, greatest)?;
-    }
-    html.push_markup("</table>\n")?;
-    push_rest(alloc, html, sorted.len())?;
+    html.push_markup("</span></h3>\n")?;
+    let totals = totals_in_words(alloc, values.total, &sorted)?;
+    push_paragraph(html, totals.as_str())?;
+    push_values(alloc, html, values, &sorted)?;
     html.push_markup("</section>\n")
 }
 
-/// Appends each key with its commonest values.
+/// Appends the keys that have no value, if there are any.
+fn push_keys_without_value(
+    alloc: Global,
+    html: &mut Html,
+    keys: &[&str],
+    all_values: &[KeyValues],
+) -> Result<(), AllocError> {
+    let mut names = String::new(alloc);
+    for (key, values) in keys.iter().zip(all_values) {
+        if values.total == 0 {
+            names.push_str(if names.is_empty() {
+                "Keys without a value: "
+            } else {
+                ", "
+            })?;
+            names.push_str(key)?;
+        }
+    }
+    if names.is_empty() {
+        return Ok(());
+    }
+    push_paragraph(html, names.as_str())
+}
+
+/// Appends each key with what is worth seeing of its values.
 fn push_keys(
     alloc: Global,
     html: &mut Html,
     keys: &[&str],
-    all_values: &[ValueCounts],
+    all_values: &[KeyValues],
 ) -> Result<(), AllocError> {
     if keys.is_empty() {
         return Ok(());
     }
     html.push_markup("<h2>Keys</h2>\n<div class=\"keys\">\n")?;
     for ((number, key), values) in keys.iter().enumerate().zip(all_values) {
-        push_key(alloc, html, (number, *key), values)?;
+        if values.total > 0 {
+            push_key(alloc, html, (number, *key), values)?;
+        }
     }
-    html.push_markup("</div>\n")
+    html.push_markup("</div>\n")?;
+    push_keys_without_value(alloc, html, keys, all_values)
 }
 
 /// Appends the beginning of the page, with the names of its files.
@@ -255,7 +375,7 @@ fn push_items(alloc: Global, html: &mut Html, content: &PageContent) -> Result<(
 }
 
 /// Returns the page about these files: which share of the lines or events each pattern matches, the
-/// commonest values of each key, and the lines or events. `tags` has the tag of each pattern, by which the page
+/// values of each key, and the lines or events. `tags` has the tag of each pattern, by which the page
 /// calls it.
 ///
 /// # Errors

@@ -1,9 +1,10 @@
 //! What the page of `--html` shows of the first lines or events.
-ghost use Rattle.std.specs.Prelude.{◌≡◌, ◌<◌, ◌≤◌, ◌+◌, ◌^◌, OnOk, OnErr, true};
+ghost use Rattle.std.specs.Prelude.{◌≡◌, ◌==◌, [], ◌<◌, ◌≤◌, ◌+◌, ◌^◌, IfOk, OnOk, OnErr, true};
 ghost use Rattle.groklog_views.specs.Pages.{lists_unmatched};
 
-use crate::unit::Unit;
-use groklog_answers::{Lines, ValueCounts};
+use crate::key_figures::KeyValues;
+use groklog_answers::Lines;
+use groklog_input::Unit;
 use marked_lines::{Field, Html, runs_of};
 use std::alloc::{AllocError, Global};
 
@@ -28,8 +29,8 @@ pub struct PageContent {
     pub scope: Scope,
     /// For each key its title.
     titles: Vec<String>,
-    /// For each key how often its values came.
-    pub values: Vec<ValueCounts>,
+    /// For each key its values.
+    pub(crate) values: Vec<KeyValues>,
     /// The lines or events, as the items of a list.
     pub items: Html,
     /// How many lines or events were answered.
@@ -38,20 +39,41 @@ pub struct PageContent {
     pub is_full: bool,
 }
 
+/// Adds the values of these fields to those of their keys.
+fn note_fields(values: &mut [KeyValues], line: &str, fields: &[Field]) -> Result<(), AllocError> {
+    for field in fields {
+        if let Some(values) = values.get_mut(field.key) {
+            values.note(line.get(field.start..field.end).unwrap_or(""))?;
+        }
+    }
+    Ok(())
+}
+
+/// Appends a report, row by row.
+fn push_report(items: &mut Html, report: &str) -> Result<(), AllocError> {
+    items.push_markup("<pre>")?;
+    for (i, row) in report.trim_end().split('\n').enumerate() {
+        items.push_markup(if i > 0 { "\n" } else { "" })?;
+        items.push_text(row)?;
+    }
+    items.push_markup("</pre>")
+}
+
 impl PageContent {
     /// Makes the content of a page about no lines. `titles` has the title of each key.
     ///
     /// # Errors
     ///
     /// If an allocation fails.
-    pub fn new(
-        alloc: Global,
-        scope: Scope,
-        titles: Vec<String>,
-    ) -> Result<PageContent, AllocError> {
+    pub fn new(alloc: Global, scope: Scope, titles: Vec<String>) -> Result<PageContent, AllocError>
+        ensures scope { IfOk result (λ content. content.scope ≡ scope) }
+        ensures items { IfOk result (λ content. content.items ≡ []) }
+        ensures count { IfOk result (λ content. content.count ≡ 0) }
+        ensures full { IfOk result (λ content. content.is_full ≡ (scope.most == 0)) }
+    {
         let mut values = Vec::new(alloc);
         for _ in &titles {
-            values.push(ValueCounts::new(alloc, scope.most))?;
+            values.push(KeyValues::new(alloc, scope.most))?;
         }
         Ok(PageContent {
             alloc,
@@ -92,7 +114,12 @@ impl PageContent {
     }
 
     /// Begins the item of the line with this number, or of the event whose first line has it.
-    fn begin_item(&mut self, number: u64) -> Result<(), AllocError> {
+    fn begin_item(&mut self, number: u64) -> Result<(), AllocError>
+        ensures titles { self.new.titles ≡ self.old.titles }
+        ensures scope { self.new.scope ≡ self.old.scope }
+        ensures count { self.new.count ≡ self.old.count }
+        ensures full { self.new.is_full ≡ self.old.is_full }
+    {
         let number = format!(in self.alloc; "{number}")?;
         self.items.push_markup("<li value=\"")?;
         self.items.push_text(number.as_str())?;
@@ -116,12 +143,12 @@ impl PageContent {
         number: u64,
         line: &str,
         fields: &[Field],
-    ) -> Result<(), AllocError> {
-        for field in fields {
-            if let Some(values) = self.values.get_mut(field.key) {
-                values.note(line.get(field.start..field.end).unwrap_or(""))?;
-            }
-        }
+    ) -> Result<(), AllocError>
+        ensures scope { self.new.scope ≡ self.old.scope }
+        ensures count { self.new.count ≡ self.old.count }
+        ensures full { self.new.is_full ≡ self.old.is_full }
+    {
+        note_fields(&mut self.values, line, fields)?;
         if matches!(self.scope.lines, Lines::Unmatched) {
             return Ok(());
         }
@@ -138,23 +165,17 @@ impl PageContent {
     /// # Errors
     ///
     /// If an allocation fails.
-    pub fn add_unmatched(
-        &mut self,
-        number: u64,
-        line: &str,
-        report: &str,
-    ) -> Result<(), AllocError> {
+    pub fn add_unmatched(&mut self, number: u64, line: &str, report: &str) -> Result<(), AllocError>
+        ensures scope { self.new.scope ≡ self.old.scope }
+        ensures count { self.new.count ≡ self.old.count }
+        ensures full { self.new.is_full ≡ self.old.is_full }
+    {
         self.begin_item(number)?;
         self.items.push_markup("<code class=\"unmatched\">")?;
         self.items.push_text(line)?;
         self.items.push_markup("</code>")?;
         if !report.is_empty() {
-            self.items.push_markup("<pre>")?;
-            for (i, row) in report.trim_end().split('\n').enumerate() {
-                self.items.push_markup(if i > 0 { "\n" } else { "" })?;
-                self.items.push_text(row)?;
-            }
-            self.items.push_markup("</pre>")?;
+            push_report(&mut self.items, report)?;
         }
         self.items.push_markup("</li>\n")
     }

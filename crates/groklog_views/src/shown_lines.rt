@@ -1,4 +1,6 @@
 //! Shows a line on a terminal, with its fields marked in colours or by letters under them.
+ghost use Rattle.std.specs.Prelude.{◌≡◌, true, IfOk, string_bytes};
+ghost use Rattle.groklog_views.specs.Shown.{unmatched_shown, IsColoured};
 
 use groklog_input::visible;
 use marked_lines::{Field, Run, letter_of, push_coloured, push_letters, runs_of};
@@ -38,7 +40,9 @@ pub fn legend_of(alloc: Global, keys: &[&str], is_coloured: bool) -> Result<Stri
 /// # Errors
 ///
 /// If an allocation fails.
-pub fn shown_unmatched(alloc: Global, line: &str, is_coloured: bool) -> Result<String, AllocError> {
+pub fn shown_unmatched(alloc: Global, line: &str, is_coloured: bool) -> Result<String, AllocError>
+    ensures { IfOk result (λ shown. string_bytes shown ≡ unmatched_shown is_coloured line.now) }
+{
     let line = visible(alloc, line)?;
     if is_coloured {
         format!(in alloc; "\u{1b}[2m{line}\u{1b}[0m\n")
@@ -77,7 +81,9 @@ pub fn shown_line(
     line: &str,
     fields: &[Field],
     is_coloured: bool,
-) -> Result<String, AllocError> {
+) -> Result<String, AllocError>
+    ensures { IfOk result (λ shown. is_coloured ≡ true → IsColoured line.now fields.now (string_bytes shown)) }
+{
     let runs = runs_of(alloc, line, fields)?;
     let mut shown = String::new(alloc);
     if is_coloured {

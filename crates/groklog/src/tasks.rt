@@ -1,0 +1,235 @@
+//! Does the task of a run: one search of each line or event, and one writer or view of what was found.
+
+use crate::inputs::{Outcome, answer_each, answer_inputs};
+use crate::log_lines::LogLines;
+use crate::output::{show_note, write_bytes, write_output};
+use crate::page::Page;
+use crate::read_files::ReadFiles;
+use crate::run::PAGE;
+use crate::show::Show;
+use crate::suggest::{Sample, report_of_sample};
+use crate::summary::summary_of;
+use crate::terminal::is_coloured;
+use crate::whole_file::WholeFile;
+use crate::why::Why;
+use grok::Pattern;
+use grok_lines::SkipLines;
+use groklog_answers::{LogAnswers, NamedPattern, Searches, header_of};
+use groklog_input::{Fault, FormedAnswers};
+use groklog_options::{
+    AnswerOptions, CountOptions, Options, PageOptions, ShownOptions, Task, layout_of,
+};
+use groklog_patterns::{Explainer, Library, PatternText, explain, titles_of};
+use groklog_views::{KeyCounts, LocatedFields, PageContent, Scope, page_html};
+use std::alloc::AllocError;
+
+/// A run whose patterns are compiled, before it reads a line.
+#[derive(Clone, Copy)]
+pub struct Run<'r, 'a, 'd> {
+    pub rt: &'r HostRuntime,
+    pub options: &'a Options<'a>,
+    pub library: &'a Library<'d>,
+    /// The texts of the patterns.
+    pub texts: &'a [PatternText],
+    pub patterns: &'a [Pattern],
+    /// The pattern of `--start`, if events are answered.
+    pub start: Option<&'a Pattern>,
+    /// The patterns with their tags and plans.
+    pub named: &'a [NamedPattern<'a>],
+    /// The keys of patterns that are written, or `None` if all are.
+    pub fields: Option<&'a [&'a str]>,
+    /// The files that are read, of which none is written over.
+    pub read: &'a ReadFiles,
+}
+
+/// How the reading of a run ended, with the counts of its lines or events.
+#[derive(Drop)]
+struct Ended<'a> {
+    searches: Searches<'a>,
+    outcome: Outcome,
+}
+
+impl<'r, 'a, 'd> Run<'r, 'a, 'd> {
+    /// Does the task, and then reports the counts of the lines or events if that is wanted.
+    ///
+    /// # Errors
+    ///
+    /// If an allocation, a file or the output fails.
+    pub fn perform(self) -> Result<Outcome, Fault> {
+        let ended = match &self.options.task {
+            Task::Answers(answers) => self.answer(answers)?,
+            Task::Counts(counts) => self.count(counts)?,
+            Task::Shown(shown) => self.show(shown)?,
+            Task::Page(page) => self.write_page(page)?,
+            Task::Reasons(most) => self.explain_lines(*most)?,
+            Task::Explanation => return self.explain_patterns(),
+            // They compile no patterns.
+            Task::Suggestions(_) | Task::List(_) => return Ok(Outcome::AllRead),
+        };
+        if self.options.has_summary {
+            let (names, unit) = (&self.options.patterns, self.options.unit());
+            let line = summary_of(self.rt.alloc(), &ended.searches, names, unit)?;
+            // The run goes on if the line can't be written.
+            let _ = eprintln!(self.rt; "groklog: {line}");
+        }
+        Ok(ended.outcome)
+    }
+
+    /// Reads all lines or events. Returns what was done with them, and how that ended.
+    fn read<A: LogLines<'a> + SkipLines + Drop>(
+        self,
+        lines: A,
+    ) -> Result<(A, Result<Outcome, Fault>), AllocError> {
+        answer_each(self.rt, self.options, self.start, lines)
+    }
+
+    /// Returns what finds the matches of lines or events.
+    fn searches(self) -> Result<Searches<'a>, AllocError> {
+        Searches::new(self.rt.alloc(), self.named)
+    }
+
+    /// Returns what finds where the values of keys are.
+    fn located(self) -> Result<LocatedFields<'a>, AllocError> {
+        LocatedFields::new(
+            self.rt.alloc(),
+            self.searches()?,
+            self.patterns,
+            self.fields,
+        )
+    }
+
+    /// Returns what explains where the patterns stop.
+    fn explainer(self) -> Result<Explainer<'a, 'd>, AllocError> {
+        Explainer::new(
+            self.rt.alloc(),
+            self.library,
+            self.texts,
+            self.patterns,
+            !self.options.is_all,
+        )
+    }
+
+    /// Writes the answers.
+    fn answer(self, answers: &'a AnswerOptions<'a>) -> Result<Ended<'a>, Fault> {
+        let alloc = self.rt.alloc();
+        let layout = layout_of(answers, self.fields);
+        if self.options.task.has_records() {
+            write_bytes(self.rt, &header_of(alloc, &layout)?)?;
+        }
+        let (answers, outcome) = self.read(LogAnswers::new(alloc, self.named, layout)?)?;
+        let outcome = outcome?;
+        let searches = answers.searches;
+        Ok(Ended { searches, outcome })
+    }
+
+    /// Counts the values of keys, and writes them with their counts.
+    fn count(self, options: &CountOptions<'a>) -> Result<Ended<'a>, Fault> {
+        let alloc = self.rt.alloc();
+        let keys = Vec::from_slice(alloc, &options.keys)?;
+        let counts = KeyCounts::new(alloc, self.searches()?, keys, options.format, options.most);
+        let (counts, outcome) = self.read(counts)?;
+        let outcome = outcome?;
+        write_bytes(self.rt, &counts.text()?)?;
+        if let Some(note) = counts.note(alloc, self.options.unit())? {
+            show_note(self.rt, note.as_str())?;
+        }
+        let searches = counts.searches;
+        Ok(Ended { searches, outcome })
+    }
+
+    /// Shows the lines or events with their fields marked.
+    fn show(self, options: &ShownOptions<'a>) -> Result<Ended<'a>, Fault> {
+        let is_coloured = is_coloured(self.rt, options.colours)?;
+        let show = Show::new(self.rt, self.located()?, options.lines, is_coloured);
+        write_output(self.rt, show.legend()?.as_str())?;
+        let (show, answered) = self.read(show)?;
+        let outcome = show.output.outcome(answered)?;
+        let searches = show.located.searches;
+        Ok(Ended { searches, outcome })
+    }
+
+    /// Reads the first lines or events, and writes a page about them to a file.
+    fn write_page(self, options: &PageOptions<'a>) -> Result<Ended<'a>, Fault> {
+        let alloc = self.rt.alloc();
+        let located = self.located()?;
+        let titles = titles_of(
+            alloc,
+            self.library,
+            (self.texts, self.patterns),
+            &located.keys,
+            !self.options.is_all,
+        )?;
+        let scope = Scope {
+            unit: self.options.unit(),
+            lines: options.lines,
+            most: options.most,
+        };
+        let content = PageContent::new(alloc, scope, titles)?;
+        let (page, outcome) = self.read(Page::new(located, self.explainer()?, content))?;
+        let outcome = outcome?;
+        let tags: Vec<&str> = self.named.iter().map(|named| named.tag).collect(alloc)?;
+        let html = page_html(
+            alloc,
+            &self.options.files,
+            &tags,
+            &page.located,
+            &page.content,
+        )?;
+        let file = WholeFile {
+            option: PAGE,
+            name: options.file,
+            read: self.read,
+        };
+        file.write(self.rt, outcome, html.as_str())?;
+        let searches = page.located.searches;
+        Ok(Ended { searches, outcome })
+    }
+
+    /// Explains the first lines or events that don't match, and writes how many more there are.
+    fn explain_lines(self, most: u64) -> Result<Ended<'a>, Fault> {
+        let unit = self.options.unit();
+        let why = Why::new(self.rt, self.searches()?, self.explainer()?, unit, most);
+        let (why, answered) = self.read(why)?;
+        let outcome = why.output.outcome(answered)?;
+        write_output(self.rt, why.rest(self.rt.alloc())?.as_str())?;
+        let searches = why.searches;
+        Ok(Ended { searches, outcome })
+    }
+
+    /// Writes the explanation of each pattern.
+    fn explain_patterns(self) -> Result<Outcome, Fault> {
+        let with_alias_only = !self.options.is_all;
+        for (text, pattern) in self.texts.iter().zip(self.patterns) {
+            let text = text.text.as_str();
+            let lines = explain(
+                self.rt.alloc(),
+                self.library,
+                text,
+                pattern,
+                with_alias_only,
+            )?;
+            write_output(self.rt, lines.as_str())?;
+        }
+        Ok(Outcome::AllRead)
+    }
+}
+
+/// Takes the first lines of the files that the options name, or of standard input, and writes which
+/// patterns are suggested for them.
+///
+/// # Errors
+///
+/// If an allocation or the output fails.
+pub fn suggest(
+    rt: &HostRuntime,
+    options: &Options<'_>,
+    library: &Library<'_>,
+    most: u64,
+) -> Result<Outcome, Fault> {
+    let sample = Sample::new(rt.alloc(), most);
+    let mut formed = FormedAnswers::new(rt.alloc(), sample, options.form);
+    let outcome = answer_inputs(rt, options, &mut formed)?;
+    let report = report_of_sample(rt.alloc(), options, library, &formed.answers)?;
+    write_output(rt, report.text.as_str())?;
+    Ok(outcome.with_found(options, report.has_pattern))
+}

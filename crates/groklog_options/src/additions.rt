@@ -1,0 +1,40 @@
+//! What options add to the fields of an answer.
+
+use clap::ArgMatches;
+use groklog_answers::{Added, Addition};
+use std::alloc::{AllocError, Global};
+
+/// What can be added, in the order in which an answer has it.
+const ADDITIONS: [Addition; 5] = [
+    Addition::Number,
+    Addition::File,
+    Addition::Failed,
+    Addition::Tag,
+    Addition::Line,
+];
+
+/// Returns the name of the option that adds this. Its value is the key.
+pub fn option_of(what: Addition) -> &'static str {
+    match what {
+        Addition::Number => "number",
+        Addition::File => "file",
+        Addition::Failed => "failed",
+        Addition::Tag => "tag",
+        Addition::Line => "keep",
+    }
+}
+
+/// Returns what the command line adds, in the order in which an answer has it.
+///
+/// # Errors
+///
+/// If an allocation fails.
+pub fn added_of<'a>(alloc: Global, matches: &ArgMatches<'a>) -> Result<Vec<Added<'a>>, AllocError> {
+    let mut added = Vec::new(alloc);
+    for what in ADDITIONS {
+        if let Some(key) = matches.get_str(option_of(what)) {
+            added.push(Added { what, key })?;
+        }
+    }
+    Ok(added)
+}

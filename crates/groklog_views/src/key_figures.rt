@@ -1,0 +1,237 @@
+//! What the values of a key are like, all together.
+ghost use Rattle.std.specs.Prelude.{Some, OnOk};
+ghost use Rattle.groklog_views.specs.KeyCounts.{CountsValue};
+
+use groklog_answers::{Counted, ValueCounts};
+use std::alloc::{AllocError, Global};
+use std::cmp::OrderedFloat;
+
+/// How many bars over time there are at most.
+const MOST_STRETCHES: usize = 24;
+
+/// What numbers are like. Each figure is one of the numbers, by the nearest-rank method: the median is the first
+/// one in order that half of all numbers don't exceed.
+#[derive(Clone, Copy)]
+pub(crate) struct NumberFigures<'c> {
+    pub(crate) least: &'c str,
+    pub(crate) median: &'c str,
+    pub(crate) p95: &'c str,
+    pub(crate) greatest: &'c str,
+}
+
+/// A number, how it is written, and how often it came.
+#[derive(Clone, Copy)]
+struct CountedNumber<'c> {
+    number: OrderedFloat<f64>,
+    counted: Counted<'c>,
+}
+
+/// Returns the number that a text is, or `None` if it is none. Only a text with a digit is one, so `nan` isn't.
+fn number_of(text: &str) -> Option<OrderedFloat<f64>> {
+    if !text.as_bytes().iter().any(|b| b.is_ascii_digit()) {
+        return None;
+    }
+    let number: f64 = fast_float::parse(text).ok()?;
+    Some(OrderedFloat(number))
+}
+
+/// Returns the values as numbers, from the least to the greatest, or `None` if one of them is none.
+fn numbers_of<'c>(
+    alloc: Global,
+    values: &[Counted<'c>],
+) -> Result<Option<Vec<CountedNumber<'c>>>, AllocError> {
+    let mut numbers = Vec::new(alloc);
+    for counted in values {
+        let Some(number) = number_of(counted.value) else {
+            return Ok(None);
+        };
+        let counted = *counted;
+        numbers.push(CountedNumber { number, counted })?;
+    }
+    numbers.sort_by_key(|number| number.number)?;
+    Ok(Some(numbers))
+}
+
+/// Returns the number that this many percent of `total` numbers don't exceed, and no smaller one does so.
+fn percentile<'c>(numbers: &[CountedNumber<'c>], total: u64, percent: u64) -> &'c str {
+    let rank = (total / 100).saturating_mul(percent);
+    let rank = rank.saturating_add((total % 100).saturating_mul(percent).div_ceil(100));
+    let mut passed = 0u64;
+    for number in numbers {
+        passed = passed.saturating_add(number.counted.count);
+        if passed >= rank {
+            return number.counted.value;
+        }
+    }
+    ""
+}
+
+/// Returns what these values, `total` together, are like as numbers, or `None` if there are none or one of them isn't
+/// a number.
+///
+/// # Errors
+///
+/// If an allocation fails.
+pub(crate) fn figures_of<'c>(
+    alloc: Global,
+    values: &[Counted<'c>],
+    total: u64,
+) -> Result<Option<NumberFigures<'c>>, AllocError> {
+    let Some(numbers) = numbers_of(alloc, values)? else {
+        return Ok(None);
+    };
+    let (Some(least), Some(greatest)) = (numbers.as_slice().first(), numbers.as_slice().last())
+    else {
+        return Ok(None);
+    };
+    Ok(Some(NumberFigures {
+        least: least.counted.value,
+        median: percentile(&numbers, total, 50),
+        p95: percentile(&numbers, total, 95),
+        greatest: greatest.counted.value,
+    }))
+}
+
+/// Returns whether two bytes are the digits of an hour, from `00` to `23`.
+fn is_hour(tens: u8, ones: u8) -> bool {
+    match tens {
+        b'0' | b'1' => ones.is_ascii_digit(),
+        b'2' => matches!(ones, b'0'..=b'3'),
+        _ => false,
+    }
+}
+
+/// Returns whether two bytes are the digits of a minute, from `00` to `59`.
+fn is_minute(tens: u8, ones: u8) -> bool {
+    matches!(tens, b'0'..=b'5') && ones.is_ascii_digit()
+}
+
+/// Returns whether a time of day, such as `06:25`, begins at this byte. No digit stands around it, and no point
+/// before it, as in an address with a port.
+fn is_time_at(bytes: &[u8], start: usize) -> bool {
+    let before = bytes.get(..start).and_then(|before| before.last());
+    let Some([a, b, b':', c, d, after @ ..]) = bytes.get(start..) else {
+        return false;
+    };
+    let stands_alone = match before {
+        Some(before) => !before.is_ascii_digit() && *before != b'.',
+        None => true,
+    };
+    let ends = match after.first() {
+        Some(after) => !after.is_ascii_digit(),
+        None => true,
+    };
+    stands_alone && ends && is_hour(*a, *b) && is_minute(*c, *d)
+}
+
+/// Returns whether a text has a time of day in it.
+fn has_time_of_day(text: &str) -> bool {
+    let bytes = text.as_bytes();
+    (0..bytes.len()).any(|start| is_time_at(bytes, start))
+}
+
+/// The values of a key.
+#[derive(Drop)]
+pub(crate) struct KeyValues {
+    alloc: Global,
+    /// How many there are.
+    pub(crate) total: u64,
+    /// How often each of them came.
+    pub(crate) counts: ValueCounts,
+    /// All of them in the order in which they were read, if each has a time of day.
+    pub(crate) times: Option<Vec<String>>,
+}
+
+impl KeyValues {
+    /// Makes the values of a key that has none yet. At most `most` different ones are counted.
+    pub(crate) fn new(alloc: Global, most: usize) -> KeyValues {
+        KeyValues {
+            alloc,
+            total: 0,
+            counts: ValueCounts::new(alloc, most),
+            times: Some(Vec::new(alloc)),
+        }
+    }
+
+    /// Adds a value.
+    ///
+    /// # Errors
+    ///
+    /// If an allocation fails.
+    pub(crate) fn note(&mut self, value: &str) -> Result<(), AllocError>
+        ensures { OnOk result (CountsValue self.old.counts self.new.counts (Some value.now)) }
+    {
+        if !has_time_of_day(value) {
+            self.times = None;
+        }
+        if let Some(times) = &mut self.times {
+            times.push(String::from_str(self.alloc, value)?)?;
+        }
+        self.total = self.total.saturating_add(1);
+        self.counts.note(value)
+    }
+}
+
+/// Times that came one after another and begin alike, and how many there are.
+#[derive(Clone, Copy)]
+pub(crate) struct Stretch<'t> {
+    pub(crate) beginning: &'t str,
+    pub(crate) count: u64,
+}
+
+/// Cuts each time after this many bytes, and returns the stretches of those that begin alike, or `None` if there
+/// are too many.
+fn stretches_at<'t>(
+    alloc: Global,
+    times: &'t [String],
+    cut: usize,
+) -> Result<Option<Vec<Stretch<'t>>>, AllocError> {
+    let mut stretches: Vec<Stretch<'t>> = Vec::new(alloc);
+    for time in times {
+        let beginning = time.as_str().get(..cut).unwrap_or(time.as_str());
+        if let Some(last) = stretches.last_mut()
+            && last.beginning == beginning
+        {
+            last.count = last.count.saturating_add(1);
+            continue;
+        }
+        if stretches.len() == MOST_STRETCHES {
+            return Ok(None);
+        }
+        let count = 1;
+        stretches.push(Stretch { beginning, count })?;
+    }
+    Ok(Some(stretches))
+}
+
+/// Returns whether a time can be cut after this many bytes: at its end, or before a byte that is neither a letter
+/// nor a digit.
+fn is_cut(time: &str, cut: usize) -> bool {
+    match time.as_bytes().get(cut) {
+        Some(b) => !b.is_ascii_alphanumeric(),
+        None => true,
+    }
+}
+
+/// Returns the times over time: all of them are cut after the same number of bytes, the greatest one with which
+/// at most 24 stretches begin alike. There are none if no number is small enough.
+///
+/// # Errors
+///
+/// If an allocation fails.
+pub(crate) fn stretches_of<'t>(
+    alloc: Global,
+    times: &'t [String],
+) -> Result<Vec<Stretch<'t>>, AllocError> {
+    let Some(first) = times.first() else {
+        return Ok(Vec::new(alloc));
+    };
+    for cut in (1..=first.len()).rev() {
+        if is_cut(first.as_str(), cut)
+            && let Some(stretches) = stretches_at(alloc, times, cut)?
+        {
+            return Ok(stretches);
+        }
+    }
+    Ok(Vec::new(alloc))
+}
