@@ -7,13 +7,6 @@ use std::test::Fail;
 
 /// Texts, and for each of their pieces a line with its range, its text and, if it is a placeholder, its parts.
 const SPLITS: &[(&str, &str)] = &[
-    ("%%{name}", "0..8 %%{name}\n"),
-    (
-        "%%%{name}",
-        "0..2 %%\n2..9 %{name} name=name alias= extract= definition=\n",
-    ),
-    ("%", "0..1 %\n"),
-    ("(%){2}", "0..1 (\n1..6 %){2}\n"),
     (
         "%{N=a=b:%}",
         "0..10 %{N=a=b:%} name=N alias= extract= definition=a=b:%\n",

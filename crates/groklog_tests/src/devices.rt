@@ -54,19 +54,17 @@ impl Read for Input<'_> {
     }
 }
 
-/// A writer that takes at most `most` bytes in each call and `room` bytes in all. After these it fails with this kind of
-/// error, or takes no byte.
+/// A writer that takes `room` bytes in all. After these it fails with this kind of error, or takes no byte.
 #[derive(Drop)]
 struct Output {
     taken: Vec<u8>,
-    most: usize,
     room: usize,
     failure: Option<ErrorKind>,
 }
 
 impl Write for Output {
     fn write(&mut self, buf: &[u8]) -> io::Result<usize> {
-        let count = buf.len().min(self.most).min(self.room);
+        let count = buf.len().min(self.room);
         if count == 0
             && let Some(kind) = self.failure
         {
@@ -107,7 +105,6 @@ fn check(
     });
     let mut output = Output {
         taken: Vec::new(rt.alloc()),
-        most: 50_000,
         room,
         failure: writing,
     };
@@ -116,13 +113,6 @@ fn check(
     assert_eq!(rt; ending.as_str(), expected);
     assert_eq!(rt; output.taken.as_slice(), taken);
     Ok(())
-}
-
-/// A body that reads nothing, or that writes nothing, would be seen here.
-#[test]
-fn each_line_is_answered(rt: HostRuntime) -> Result<(), Fail> {
-    check(&rt, (b"p\n\xff\nq", None), (9, None), "all", b"p\xffq")?;
-    check(&rt, (b"", None), (0, None), "all", b"")
 }
 
 /// The reason is that of the read that failed, and not that of the one before, which was interrupted. The line that
@@ -167,21 +157,13 @@ fn a_write_takes_no_byte_or_fails(rt: HostRuntime) -> Result<(), Fail> {
         (1, Some(ErrorKind::StorageFull)),
         "groklog: can't write the answers: no storage space\n  try: free some space, or write to another disk\n",
         b"p",
-    )
-}
-
-/// The answer is longer than what is held back, and is written in several calls.
-#[test]
-fn a_long_answer(rt: HostRuntime) -> Result<(), Fail> {
-    let line = vec![in rt.alloc(); b'a'; 150_000]?;
-    let sent = vec![in rt.alloc(); b'a'; 120_000]?;
-    check(&rt, (&line, None), (150_000, None), "all", &line)?;
+    )?;
     check(
         &rt,
-        (&line, None),
-        (120_000, Some(ErrorKind::BrokenPipe)),
-        "enough",
-        &sent,
+        (b"p\nq\n", None),
+        (1, Some(ErrorKind::QuotaExceeded)),
+        "groklog: can't write the answers: quota exceeded\n  try: free some space, or write to another disk\n",
+        b"p",
     )
 }
 
@@ -190,8 +172,13 @@ fn a_long_answer(rt: HostRuntime) -> Result<(), Fail> {
 fn words_of_the_system(rt: HostRuntime) -> Result<(), Fail> {
     for (number, expected) in [
         (5, "input/output error"),
+        (6, "no such device or address"),
         (9, "bad file descriptor"),
         (13, "permission denied"),
+        (19, "no such device"),
+        (23, "too many open files in the system"),
+        (24, "too many open files"),
+        (117, "the file system is damaged"),
         (121, "system error 121"),
     ] {
         let failure = Failure::of(&io::Error::from_raw_os_error(number));

@@ -39,14 +39,6 @@ fn check_widths(
 }
 
 #[test]
-fn narrow_devices_change_no_answer(rt: HostRuntime) -> Result<(), Fail> {
-    for case in CASES {
-        check_widths(&rt, &case, false, false);
-    }
-    Ok(())
-}
-
-#[test]
 fn interrupted_calls_change_no_answer(rt: HostRuntime) -> Result<(), Fail> {
     for case in CASES {
         check_widths(&rt, &case, true, false);

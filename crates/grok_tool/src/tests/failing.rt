@@ -1,119 +1,13 @@
-//! Tests each command on devices that fail: no byte is lost without an error.
-use super::cases::{CASES, Case, KEYED, LINES, check_run};
+//! Tests each command on devices that fail: no byte is lost without an error, and a device that failed isn't called again. What
+//! was answered before a read failed is a clause of `run`.
+use super::cases::{CASES, Case, LINES, check_run};
 use super::devices::{Failing, FakeReader, FakeWriter};
 use super::outcome::{Ending, Outcome, check_outcome, outcome_of};
 use std::process::Abort;
 use std::test::Fail;
 
-/// A run whose reader fails.
-#[derive(Clone, Copy)]
-struct FailedRead {
-    name: &'static str,
-    words: &'static [&'static str],
-    input: &'static [u8],
-    /// `before[n]` is all that the program has written when it has read `n` bytes of the input: the answers to the lines
-    /// that end within them.
-    before: &'static [&'static str],
-}
-
-const FAILED_READS: &[FailedRead] = &[
-    FailedRead {
-        name: "answers, and a last line that is not UTF-8",
-        words: &["match", KEYED],
-        input: b"p\n#\n\xff",
-        before: &[
-            "",
-            "",
-            "k=p\n\n",
-            "k=p\n\n",
-            "k=p\n\nno match\n\n",
-            "k=p\n\nno match\n\n",
-        ],
-    },
-    FailedRead {
-        name: "answers, and a last line without a line feed",
-        words: &["match", "(?<k>.)"],
-        input: b"p\nq",
-        before: &["", "", "k=p\n\n", "k=p\n\n"],
-    },
-    FailedRead {
-        name: "objects, and a last line that is not UTF-8",
-        words: &["json", KEYED],
-        input: b"p\n#\n\xff",
-        before: &[
-            "",
-            "",
-            "{\"k\":\"p\"}\n",
-            "{\"k\":\"p\"}\n",
-            "{\"k\":\"p\"}\nnull\n",
-            "{\"k\":\"p\"}\nnull\n",
-        ],
-    },
-    FailedRead {
-        name: "objects, and a last line without a line feed",
-        words: &["json", "(?<k>.)"],
-        input: b"p\nq",
-        before: &["", "", "{\"k\":\"p\"}\n", "{\"k\":\"p\"}\n"],
-    },
-];
-
-/// Runs the row on a reader that returns one byte in each call, and that fails as `failing` says, first at call
-/// number `bad`. Checks that the run reports a failed read, that it has written the answers `expected`, and that it
+/// Runs a case that reads, on a reader that always fails. Checks that the run reports a failed read, writes nothing, and
 /// doesn't read again.
-fn check_failed_read(
-    rt: &(impl Abort + AllocGlobal),
-    row: &FailedRead,
-    failing: Failing,
-    bad: usize,
-    expected: &str,
-) {
-    let mut reader = FakeReader::new(row.input);
-    reader.most = 1;
-    reader.failing = failing;
-    let outcome = outcome_of(rt, row.words, reader, FakeWriter::new(rt.alloc()), expected);
-    check_outcome(
-        rt,
-        row.name,
-        outcome,
-        Outcome {
-            ending: Ending::Read,
-            reads: bad.saturating_add(1),
-            taken: expected.len(),
-            ..outcome
-        },
-    );
-}
-
-/// Runs the row on readers that return 0, 1, 2 and so on bytes of the input, up to all of them, and after that fail.
-/// For each number of bytes, one reader fails for good, one would block, and one fails for good and is interrupted in
-/// every second call before.
-fn check_failed_reads(rt: &(impl Abort + AllocGlobal), row: &FailedRead) {
-    assert_eq!(rt;
-        row.before.len(),
-        row.input.len().saturating_add(1),
-        "{}",
-        row.name
-    );
-    for (given, expected) in row.before.iter().enumerate() {
-        check_failed_read(rt, row, Failing::since(given), given, expected);
-        check_failed_read(rt, row, Failing::blocking_at(given), given, expected);
-        let bad = given.saturating_mul(2);
-        let mut failing = Failing::since(bad);
-        failing.interrupts = true;
-        check_failed_read(rt, row, failing, bad, expected);
-    }
-}
-
-#[test]
-fn a_failed_read(rt: HostRuntime) -> Result<(), Fail> {
-    for row in FAILED_READS {
-        check_failed_reads(&rt, row);
-    }
-    Ok(())
-}
-
-/// Runs a case that reads, on a reader that always fails. Checks that the run reports a failed read and writes
-/// nothing.
 fn check_first_read(rt: &(impl Abort + AllocGlobal), case: &Case, reader: FakeReader<'_>) {
     let outcome = outcome_of(rt, case.words, reader, FakeWriter::new(rt.alloc()), "");
     check_outcome(
@@ -122,6 +16,7 @@ fn check_first_read(rt: &(impl Abort + AllocGlobal), case: &Case, reader: FakeRe
         outcome,
         Outcome {
             ending: Ending::Read,
+            reads: 1,
             writes: 0,
             ..outcome
         },
@@ -188,34 +83,6 @@ fn check_failed_writes(rt: &(impl Abort + AllocGlobal), case: &Case) {
 fn a_failed_write(rt: HostRuntime) -> Result<(), Fail> {
     for case in CASES {
         check_failed_writes(&rt, &case);
-    }
-    Ok(())
-}
-
-/// Runs a case on writers that accept all bytes of a call and fail from one call on, for each call in turn. Checks that
-/// no call is made after the first one that fails.
-fn check_failed_answers(rt: &(impl Abort + AllocGlobal), case: &Case) {
-    for bad in 0..case.expected_writes() {
-        let mut writer = FakeWriter::new(rt.alloc());
-        writer.failing = Failing::since(bad);
-        let outcome = outcome_of(rt, case.words, FakeReader::new(LINES), writer, case.output);
-        check_outcome(
-            rt,
-            case.name,
-            outcome,
-            Outcome {
-                ending: Ending::Write,
-                writes: bad.saturating_add(1),
-                ..outcome
-            },
-        );
-    }
-}
-
-#[test]
-fn a_failed_write_of_an_answer(rt: HostRuntime) -> Result<(), Fail> {
-    for case in CASES {
-        check_failed_answers(&rt, &case);
     }
     Ok(())
 }
