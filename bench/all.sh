@@ -49,4 +49,4 @@ echo
 echo
 echo '## Reports of groklog'
 echo
-"$here/reports.py"
+"$here/costs.py"

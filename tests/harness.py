@@ -11,14 +11,15 @@ import os
 import resource
 import subprocess
 import sys
+import tempfile
 import threading
 
 ROOT = os.path.dirname(os.path.dirname(os.path.abspath(__file__)))
 SECONDS = 60  # a run that takes longer is ended, and its test fails
 
 # The exit statuses of both programs: a pattern or a definition has a fault, the words of the command line are wrong, or reading,
-# writing or an allocation failed.
-FAULT, USAGE, FAILURE = 1, 2, 3
+# writing or an allocation failed. The last is groklog's with --exit-status: nothing was found.
+FAULT, USAGE, FAILURE, NOTHING = 1, 2, 3, 4
 
 
 class Wrong(Exception):
@@ -77,6 +78,27 @@ def expect(done, status, stdout=None, stderr=b""):
         raise Wrong(f"it wrote something else: {difference(done.stdout, right)}")
     if done.stderr != stderr:
         raise Wrong(f"it complained otherwise: {difference(done.stderr, stderr)}")
+
+
+class Cost:
+    """A run that has ended: its status, what it complained, the seconds of the processor that it took, and its greatest memory in MB.
+    The system counts that of this script too, which the program replaces."""
+
+    def __init__(self, status, complaint, seconds, megabytes):
+        self.status, self.complaint, self.seconds, self.megabytes = status, complaint, seconds, megabytes
+
+
+def cost(name, words, given=b"", **how):
+    """Runs a program to its end with this input, and returns what that costs. Its output is dropped."""
+    with tempfile.TemporaryFile() as source, tempfile.TemporaryFile() as complaint:
+        source.write(given)
+        source.seek(0)
+        limit = functools.partial(resource.setrlimit, resource.RLIMIT_CPU, (SECONDS, SECONDS))
+        program = subprocess.Popen([built(name), *words], stdin=source, stdout=subprocess.DEVNULL, stderr=complaint, preexec_fn=limit, **how)
+        _, status, used = os.wait4(program.pid, 0)
+        program.returncode = os.waitstatus_to_exitcode(status)
+        complaint.seek(0)
+        return Cost(program.returncode, complaint.read(), used.ru_utime + used.ru_stime, used.ru_maxrss / 1024)
 
 
 def children_seconds():

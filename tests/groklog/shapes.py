@@ -1,5 +1,5 @@
 """Patterns, definitions and lines of a given size that make the reports of groklog do the most work. `tests/groklog/run` checks
-that no report takes long, and `bench/reports.py` measures each."""
+that no report takes long, and `bench/costs.py` measures each."""
 from harness import FAILURE, FAULT
 
 
@@ -34,7 +34,8 @@ def nested(size, start, middle, end=")"):
 def logstash(pattern, definitions="", status=0):
     """Rewrites a pattern, and drops what has no form. Groups in one another end with `FAULT`, since `regex` refuses more than
     250 levels."""
-    return Run(["--from-logstash", "--loose", "-d", "definitions", "--explain", "--", pattern], definitions, "", status)
+    limit = ["--max-expansion", "2000000"]
+    return Run(["--from-logstash", "--loose", *limit, "-d", "definitions", "--explain", "--", pattern], definitions, "", status)
 
 
 def uses(count):
@@ -145,8 +146,8 @@ KEYS = {
 STOPS = {
     "a long literal under --why": lambda size: Run(["--why", "--", "a" * (size // 2) + "b"], lines="a" * (size // 2) + "c\n"),
     "many pieces under --why": lambda size: Run(["--why", "--", repeated(size, "[a-f]+,")], lines="a," * 40 + "x\n"),
-    "many placeholders under --why": lambda size: Run(["--why", "--", repeated(size, lambda n: f"%{{USER:k{n}}},")],
-                                                      lines="a," * 40 + " x\n"),
+    "many placeholders under --why": lambda size: Run(
+        ["--why", "--max-expansion", "3000000", "--", repeated(size, lambda n: f"%{{USER:k{n}}},")], lines="a," * 40 + " x\n"),
     "nested groups under --why": lambda size: Run(
         ["--why", "--", "a" * (size // 2) + "(?:" * 200 + "b" + ")" * 200], lines="a" * (size // 2) + "c\n"),
     "many patterns under --why": lambda size: Run(
@@ -164,4 +165,35 @@ SAMPLES = {
         ["--suggest"], lines="".join(f"a{n}b {n * 7919 % 1000} {'xyz'[n % 3]}={n}\n" for n in range(size // 18))),
 }
 
-SHAPES = {**LOGSTASH, **FAULTS, **NOTES, **KEYS, **STOPS, **SAMPLES}
+
+def patterns(size, words, part):
+    """A run with many patterns, of which each is what `part` returns for its number."""
+    return Run([*words, *(word for n in range(size // 14) for word in ("-e", part(n)))], lines="a1b\n")
+
+
+PATTERNS = {
+    "many patterns": lambda size: patterns(size, [], lambda n: f"%{{USER:k{n}}}"),
+    "many patterns under --fields": lambda size: patterns(
+        size // 2, ["--fields", ",".join(f"k{n}" for n in range(size // 28))], lambda n: f"%{{USER:k{n}}}"),
+    "many patterns under --csv": lambda size: patterns(size, ["--csv"], lambda n: f"%{{USER:k{n}}}"),
+    "many patterns under --show": lambda size: patterns(size, ["--show"], lambda n: f"%{{USER:k{n}}}"),
+    "many patterns under --html": lambda size: patterns(size, ["--html", "/dev/null"], lambda n: f"%{{USER:k{n}}}"),
+}
+
+SHAPES = {**LOGSTASH, **FAULTS, **NOTES, **KEYS, **STOPS, **SAMPLES, **PATTERNS}
+
+# What asks for another task than JSON.
+MODES = {
+    "JSON": [], "`--all`": ["--all"], "`--typed`": ["--typed"], "`--logstash`": ["--logstash"], "`--csv`": ["--csv"],
+    "`--pairs`": ["--pairs"], "`--nested`": ["--nested"], "`--merge`": ["--merge"], "`--count`": ["--count", "k"],
+    "`--fields`": ["--fields", "k"], "`--show`": ["--show"], "`--html`": ["--html", "/dev/null"], "`--why`": ["--why"],
+    "`--explain`": ["--explain"], "`--from-logstash`": ["--from-logstash"], "`--start`": ["--start", "%{USER}"],
+}
+
+
+def doubling(level):
+    """The words that define D0, and D1 up to this level, of which each uses the one before it twice."""
+    words = ["-D", "D0=x"]
+    for number in range(1, level + 1):
+        words += ["-D", f"D{number}=%{{D{number - 1}}}%{{D{number - 1}}}"]
+    return words

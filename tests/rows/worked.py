@@ -561,9 +561,6 @@ KEYED = r"(?<k>[a-z]\s?)"
 RUNS = [
     (["split", "Hello, %{name}!"], "Hello, \n%{name}\n!\n"),
     (["split", "a%{b c}d"], "a\n<error InvalidCharacter(' ')>\n"),
-    (["split", "%{né}"], "<error InvalidCharacter('é')>\n"),
-    (["split", "é%{A}"], "é\n%{A}\n"),
-    (["split", ""], ""),
     (["split", "-a"], "-a\n"),
     (["split", "a%{b}%{c!}"], "a\n%{b}\n<error InvalidCharacter('!')>\n"),
     measured("%{A}%{A}", "A=a"),

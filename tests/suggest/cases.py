@@ -1,0 +1,138 @@
+"""Short logs, one of each kind that gets an answer of its own, with the whole report that is right for it. Each report says what somebody
+wants who doesn't know the log: written by hand from the lines, before the program ran on them."""
+from dataclasses import dataclass, field
+
+
+@dataclass
+class Case:
+    name: str
+    why: str
+    lines: str | bytes
+    report: str
+    words: list = field(default_factory=lambda: ["log"])
+    status: int = 0
+    notes: str = ""
+
+    @property
+    def files(self):
+        name = self.words[-1]
+        return {name: self.lines}
+
+
+def rows(*rows, unit="lines"):
+    """The rows of patterns that match some of the lines alone."""
+    return f"{unit}  fields\n" + "".join(f"{lines:>5}  {fields:>6}  {command}\n" for lines, fields, command in rows)
+
+
+def proposal(count, command, of=None, unit="lines", shares=None):
+    """The report if no definition matches more than half of the lines."""
+    of = of or count
+    what = f"these patterns match {count} of {of} {unit} ({' + '.join(map(str, shares))})" if shares else \
+        f"this pattern matches {count} of {of} {unit}"
+    return f"no definition matches more than half of the {of} {unit}\n{what}:\n{command}\n"
+
+
+FAIL2BAN = """\
+2026-11-28 06:25:05,899 fail2ban.filter         [1234]: INFO    [sshd] Found 192.0.2.10 - 2026-11-28 06:25:05
+2026-11-28 06:25:06,001 fail2ban.actions        [1234]: NOTICE  [sshd] Ban 192.0.2.10
+2026-11-28 06:35:06,120 fail2ban.actions        [1234]: NOTICE  [sshd] Unban 192.0.2.10
+2026-11-28 06:40:11,310 fail2ban.filter         [1234]: INFO    [nginx-http-auth] Found 198.51.100.7 - 2026-11-28 06:40:11
+2026-11-28 06:41:00,002 fail2ban.jail           [1234]: INFO    Jail 'sshd' started
+"""
+SQUID = "1764311105.12{}    217 192.0.2.17 TCP_MISS/200 3456 GET http://www.example.com/ alice HIER_DIRECT/198.51.100.4 text/html\n"
+KLOG = "I1128 06:25:0{}.123456    2201 controller.go:123] Starting controller {}\n"
+REDIS = "2201:M 28 Nov 2026 06:25:0{}.123 * Ready to accept connections\n"
+DOOR = "door {} opened by card 12{}\n"
+COMBINED = '192.0.2.{} - - [28/Nov/2026:06:25:0{} +0000] "GET /a HTTP/1.1" 200 51{} "-" "curl/8.5.0"'
+LOGIN = "Nov 28 06:25:0{} web1 auth[12]: user={} action=login ms={}\n"
+TRACE = """\
+2026-11-28 06:25:01,123 INFO worker started
+2026-11-28 06:25:02,123 ERROR job 12 failed
+Traceback (most recent call last):
+  File "a.py", line 3, in f
+ValueError: no
+2026-11-28 06:25:03,123 INFO worker stopped
+"""
+ERRORS = "11/28/2026 6:25:0{} AM {} {} disk\n"
+OWN = ["2f alice\n", "ab bob\n", "77 eve\n"]
+
+CASES = [
+    Case("a time, a level and no host", "a level after a time isn't a host", FAIL2BAN, proposal(
+        5, r"groklog '^%{TIMESTAMP_ISO8601:timestamp} %{NOTSPACE:field} +\[%{INT:pid:int}\]: %{LOGLEVEL:level} +%{GREEDYDATA:message}$' log")),
+    Case("several formats in one log", "one command with a pattern for each, also for the lines of no known format",
+         "".join(SQUID.format(n) for n in range(6)) + "".join(KLOG.format(n, n) for n in range(6))
+         + "".join(REDIS.format(n) for n in range(5)) + "".join(DOOR.format(n, n) for n in range(3)),
+         rows((6, 12, "groklog '^%{SQUID3}$' log"), (6, 6, "groklog '^%{KLOG}$' log"), (5, 5, "groklog '^%{REDISLOG}$' log"))
+         + proposal(20, "groklog -e '^%{SQUID3}$' -e '^%{KLOG}$' -e '^%{REDISLOG}$' "
+                        "-e '^door %{INT:number:int} opened by card %{INT:number2:int}$' log", shares=[6, 6, 5, 3])),
+    Case("a known format and a number", "the format is kept", "".join(COMBINED.format(n, n, n) + f" 0.0{n}\n" for n in range(1, 5)),
+         rows((4, 12, "groklog '^%{COMBINEDAPACHELOG} %{NUMBER:number:float}$' log"))),
+    Case("a known format and a word", "the format is kept",
+         "".join(COMBINED.format(n, n, n) + f" {'hit' if n % 2 else 'miss'}\n" for n in range(1, 5)),
+         rows((4, 12, "groklog '^%{COMBINEDAPACHELOG} %{WORD:word}$' log"))),
+    Case("keys and values after the head of syslog", "values take their keys",
+         "".join(LOGIN.format(n, user, n * 7) for n, user in enumerate(["bob", "alice", "eve"])),
+         rows((3, 6, "groklog '^%{SYSLOGBASE} user=%{WORD:user} action=login ms=%{INT:ms:int}$' log"),
+              (3, 5, "groklog '^%{SYSLOGLINE}$' log"), (3, 5, "groklog '^%{JOURNALLINE}$' log"))),
+    Case("a date with the name of a month", "no month and no host is literal",
+         "".join(f"Nov 28 2026 06:25:0{n} fw1 : built connection {1000 + n}\n" for n in range(4)),
+         proposal(4, "groklog '^%{TIMESTAMP_MONTHNAME:timestamp} %{WORD:word} : built connection %{INT:number:int}$' log")),
+    Case("a date in brackets", "no date is literal",
+         "".join(f'[28/Nov/2026 06:25:0{n}] "GET /polls/{n}/ HTTP/1.1" 200 {1200 + n}\n' for n in range(4)),
+         proposal(4, r"groklog '^\[%{TIMESTAMP_MONTHNAME:timestamp}\] %{QS:quoted} %{INT:number:int} %{INT:number2:int}$' log")),
+    Case("a time of twelve hours", "it is one time with one key",
+         "".join(ERRORS.format(n, level, 40 + n) for n, level in enumerate(["Error", "Warning", "Error"])),
+         proposal(3, "groklog '^%{DATESTAMP_12H:timestamp} %{LOGLEVEL:level} %{INT:number:int} disk$' log")),
+    Case("six words", "they are no fields of another program's log",
+         "".join(f"user {user} logged in from 10.0.0.{n}\n" for n, user in enumerate(["alice", "bob", "eve"])),
+         proposal(3, "groklog '^user %{WORD:word} logged in from %{IP:ip}$' log")),
+    Case("a % before a quote", "it is no beginning of a placeholder", 'use %"a b" 1 at 12:00:01 z\n' * 3,
+         proposal(3, "groklog '^use [%]%{QS:quoted} %{INT:number:int} at %{TIME:timestamp} z$' log")),
+    Case("levels of different lengths, and units", "blanks that some lines lack, and a number without its unit",
+         "".join(f"[{level}] took {n * 3}ms, {n}.5MB used\n" for n, level in enumerate(["INFO ", "ERROR", "WARN "])),
+         proposal(3, r"groklog '^\[%{LOGLEVEL:level} *\] took %{INT:number:int}ms, %{NUMBER:number2:float}MB used$' log")),
+    Case("events of several lines", "--start, and patterns for events", TRACE, "the lines are parts of 3 events\n" + proposal(
+        3, r"groklog --start '^%{TIMESTAMP_ISO8601}' '^%{TIMESTAMP_ISO8601:timestamp} %{LOGLEVEL:level} %{GREEDYDATA:message}"
+           r"(?:\n(?<more>(?s:.*)))?$' log", unit="events")),
+    Case("lines of JSON", "jq", '{"level":"info","n":1}\n{"level":"warn","n":2}\n',
+         "these lines are JSON objects, which jq reads:\njq -c . log\n"),
+    Case("comma-separated values with names", "mlr", "time,host,status,ms\n06:25:01,a,200,4\n06:25:02,b,404,9\n06:25:03,a,200,1\n",
+         "each line has 4 values, after their names in the first line, which mlr reads:\nmlr --icsv --ojson cat log\n"),
+    Case("tab-separated values with names", "mlr", "time\thost\tstatus\tms\n06:25:01\ta\t200\t4\n06:25:02\tb\t404\t9\n06:25:03\ta\t200\t1\n",
+         "each line has 4 values, after their names in the first line, which mlr reads:\nmlr --itsv --ojson cat log\n"),
+    Case("comma-separated values without names", "mlr, and a pattern that takes each value",
+         '06:25:01,"a b",200,\n06:25:02,"c, d",404,x\n06:25:03,"e",200,\n',
+         "each line has 4 values, which mlr reads, too:\nmlr --icsv --implicit-csv-header --ojson cat log\n"
+         + proposal(3, "groklog '^%{TIME:timestamp},%{QS:quoted},%{INT:number:int},%{CSVVALUE:field}$' log")),
+    Case("lines that end in carriage returns", "--crlf", "".join(f"door {n} opened at 06:25:0{n}\r\n" for n in range(3)),
+         proposal(3, "groklog --crlf '^door %{INT:number:int} opened at %{TIME:timestamp}$' log"),
+         notes="groklog: lines end in a carriage return: use --crlf\n"),
+    Case("a definition with keys written by hand", "it is tried, and a part of it isn't", "".join(OWN),
+         rows((3, 2, "groklog --no-common -D 'LL=%{HEX} (?<b>[a-z]+)' -D 'HEX=(?<a>[0-9a-f]+)' '^%{LL}$' log")),
+         words=["--no-common", "-D", "LL=%{HEX} (?<b>[a-z]+)", "-D", "HEX=(?<a>[0-9a-f]+)", "log"]),
+    Case("a definition for Logstash", "it is rewritten, and the command has the options", "".join(OWN),
+         rows((3, 2, "groklog --no-common --from-logstash --loose -D 'LL=(?<a>\\h+) (?<b>[a-z]+)(?!x)' '^%{LL}$' log")),
+         words=["--no-common", "--from-logstash", "--loose", "-D", r"LL=(?<a>\h+) (?<b>[a-z]+)(?!x)", "log"]),
+    Case("a file whose name begins with -", "it is no option", DOOR.format(1, 1) * 2 + DOOR.format(2, 2),
+         proposal(3, "groklog '^door %{INT:number:int} opened by card %{INT:number2:int}$' -- --html=x.log"),
+         words=["--", "--html=x.log"]),
+    Case("definitions that grow", "a definition is measured before it is expanded", DOOR.format(1, 1) * 2 + DOOR.format(2, 2),
+         proposal(3, "groklog -D D0=x " + " ".join(f"-D 'D{n + 1}=%{{D{n}:k}}%{{D{n}:k}}'" for n in range(30))
+                  + " '^door %{INT:number:int} opened by card %{INT:number2:int}$' log"),
+         words=[word for n in range(31) for word in ("-D", f"D{n}=" + (f"%{{D{n - 1}:k}}%{{D{n - 1}:k}}" if n else "x"))] + ["log"]),
+    Case("a very long line", "it isn't looked at", "a" * 100_000 + "\n" + DOOR.format(1, 1) + DOOR.format(2, 2),
+         "1 line is longer than 64 KiB, and wasn't looked at\n"
+         + proposal(2, "groklog '^door %{INT:number:int} opened by card %{INT:number2:int}$' log")),
+    Case("a header", "its lines don't count", "#Version: 1.0\n#Fields: time door\n" + "".join(f"06:25:0{n} door {n}\n" for n in range(3)),
+         proposal(3, "groklog '^%{TIME:timestamp} %{WORD:word} %{INT:number:int}$' log")),
+    Case("a file of gzip", "the hint of a run", b"\x1f\x8b\x08\x00\xff\n", "there are no lines to suggest a pattern for\n",
+         notes="groklog: log looks like a file of gzip: use zcat FILE | groklog ..\n"),
+    Case("a file in UTF-16", "the hint of a run", "door 1 opened\n".encode("utf-16"), "there are no lines to suggest a pattern for\n",
+         notes="groklog: log looks like UTF-16: use iconv -f UTF-16 -t UTF-8 FILE | groklog ..\n"),
+    Case("a file in Latin-1", "the hint of a run", "T\u00fcr 1\n".encode("latin-1"), "there are no lines to suggest a pattern for\n",
+         notes="groklog: line 1 of log isn't UTF-8, so it has no fields: use --lossy, or for another encoding "
+               "iconv -f LATIN1 -t UTF-8 FILE | groklog ..\n"),
+    Case("a missing file", "the others are read", DOOR.format(1, 1) + DOOR.format(2, 2),
+         proposal(2, "groklog '^door %{INT:number:int} opened by card %{INT:number2:int}$' nowhere log"), words=["nowhere", "log"], status=3,
+         notes="groklog: there is no file nowhere\n  try: check its name, and the folder that you are in\n"),
+]
