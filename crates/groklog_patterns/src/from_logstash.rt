@@ -131,6 +131,7 @@ fn adapt(
 ) -> Result<Result<String, Refused>, AllocError> {
     match rewrite(alloc, text, wish)? {
         Outcome::Refused(refused) => Ok(Err(refused)),
+        Outcome::Kept => Ok(Ok(String::from_str(alloc, text)?)),
         Outcome::Rewritten(Rewritten { text, changes }) => {
             for change in &changes {
                 notes.push(format!(in alloc; "in {location}, {change}")?)?;

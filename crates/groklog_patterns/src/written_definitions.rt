@@ -34,7 +34,7 @@ impl Lines {
     }
 
     /// Adds a line. If it is a definition, that is rewritten if need be. If it is a comment or empty, or if
-    /// nothing changes in its definition, it stays as it is.
+    /// its definition is kept, it stays as it is.
     fn push_line(&mut self, line: &str, end: &str) -> Result<(), AllocError> {
         let (Some(wish), Some((name, text))) = (self.wish, read_definition(skip_blanks(line)))
         else {
@@ -45,11 +45,9 @@ impl Lines {
                 let why = format!(in self.alloc; "{}", refused.reason)?;
                 self.push_refused(line, end, why.as_str())
             }
+            Outcome::Kept => self.push(line, end),
             Outcome::Rewritten(rewritten) => {
                 let new = rewritten.text.as_str();
-                if new == text {
-                    return self.push(line, end);
-                }
                 let line = format!(in self.alloc; "{name}={new}")?;
                 self.push(line.as_str(), end)
             }

@@ -2,10 +2,11 @@
 //! for `regex`.
 //!
 //! [`read`] cuts a text into tokens. Their spellings, one after another, are the text, so nothing is
-//! lost. [`rewrite`] writes a text that means the same, or refuses a part of it:
+//! lost. [`rewrite`] keeps a text, writes another one that means the same, or refuses a part of it:
 //!
 //! ```text
 //! match rewrite(alloc, "(?>%{INT:n})\\h", wish)? {
+//!     Outcome::Kept => ..
 //!     Outcome::Rewritten(Rewritten { text, changes }) => .. // (?:%{INT:n})[0-9A-Fa-f]
 //!     Outcome::Refused(Refused { reason, range }) => ..
 //! }

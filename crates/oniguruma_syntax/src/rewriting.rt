@@ -14,7 +14,9 @@ use std::ops::Range;
 /// What rewriting a text returns.
 #[derive(Drop)]
 pub enum Outcome {
-    /// The text for `regex`.
+    /// `regex` takes the text as it is: no part of it is written in another form.
+    Kept,
+    /// Another text, for `regex`.
     Rewritten(Rewritten),
     /// A part of the text has no form for `regex`.
     Refused(Refused),
@@ -81,21 +83,17 @@ fn rewrite_inlines(alloc: Global, nodes: &[Node<'_>], wish: Wish) -> Result<Vec<
     Ok(inlines)
 }
 
-/// Rewrites a text. One with a malformed placeholder stays as it is.
-fn rewrite_all(alloc: Global, text: &str, wish: Wish) -> Result<Rewritten, Stop> {
+/// Rewrites a text, or returns `None` if it has a malformed placeholder.
+fn rewrite_all(alloc: Global, text: &str, wish: Wish) -> Result<Option<Rewritten>, Stop> {
     let nodes = read(alloc, text)?;
     if nodes
         .iter()
         .any(|node| matches!(node.token, Token::Malformed(_)))
     {
-        // Whoever reads the placeholders of the text reports the malformed one.
-        return Ok(Rewritten {
-            text: String::from_str(alloc, text)?,
-            changes: Vec::new(alloc),
-        });
+        return Ok(None);
     }
     let inlines = rewrite_inlines(alloc, &nodes, wish)?;
-    rewrite_text(alloc, text, &nodes, &inlines, wish)
+    Ok(Some(rewrite_text(alloc, text, &nodes, &inlines, wish)?))
 }
 
 /// Returns this byte range of a text, or that of its end if it doesn't begin and end between characters
@@ -114,7 +112,9 @@ fn range_in(text: &str, range: Range<usize>) -> Range<usize>
 
 /// Rewrites a text of Oniguruma's syntax, with Ruby's options, for `regex`. Its placeholders stay,
 /// and their inline definitions are rewritten too. The new text means the same in each text without
-/// a line feed, except for the changes that are returned with it.
+/// a line feed, except for the changes that are returned with it. A text of which nothing has to be written
+/// in another form is kept, and so is one with a malformed placeholder: whoever reads its placeholders
+/// reports that.
 ///
 /// # Errors
 ///
@@ -123,7 +123,12 @@ pub fn rewrite(alloc: Global, text: &str, wish: Wish) -> Result<Outcome, AllocEr
     ensures { IfOk result (IsOutcomeOf text.now) }
 {
     match rewrite_all(alloc, text, wish) {
-        Ok(rewritten) => Ok(Outcome::Rewritten(rewritten)),
+        Ok(Some(rewritten)) => Ok(if rewritten.text.as_str() == text {
+            Outcome::Kept
+        } else {
+            Outcome::Rewritten(rewritten)
+        }),
+        Ok(None) => Ok(Outcome::Kept),
         Err(Stop::Refused(Refused { reason, range })) => {
             let range = range_in(text, range);
             Ok(Outcome::Refused(Refused { reason, range }))
