@@ -7,9 +7,7 @@ use groklog_input::visible;
 use groklog_options::Options;
 use groklog_patterns::{Library, own_wholes};
 use std::alloc::{AllocError, Global};
-use suggestions::{
-    Advice, Definitions, Fit, Format, Formats, LogKind, Suggestion, advise, kind_of_log,
-};
+use suggestions::{Advice, Definitions, Fit, Format, Formats, LogKind, Share, advise, kind_of_log};
 
 /// How many patterns are shown at most.
 const MOST_SHOWN: usize = 5;
@@ -224,17 +222,13 @@ fn unit_of(reading: Reading<'_>) -> &'static str {
 }
 
 /// Appends how many lines each of several patterns matches: `(60 + 60 + 52)`.
-fn push_shares(
-    alloc: Global,
-    report: &mut String,
-    patterns: &[Suggestion],
-) -> Result<(), AllocError> {
+fn push_shares(alloc: Global, report: &mut String, patterns: &[Share]) -> Result<(), AllocError> {
     if patterns.len() < 2 {
         return Ok(());
     }
     for (index, pattern) in patterns.iter().enumerate() {
         let before = if index == 0 { " (" } else { " + " };
-        let lines = pattern.fit.lines;
+        let lines = pattern.lines;
         let share = format!(in alloc; "{before}{lines}")?;
         report.push_str(share.as_str())?;
     }
@@ -256,7 +250,7 @@ fn push_together(
     let mut matched = 0usize;
     for pattern in patterns {
         texts.push(pattern.text.as_str())?;
-        matched = matched.saturating_add(pattern.fit.lines);
+        matched = matched.saturating_add(pattern.lines);
     }
     let words = match patterns {
         [] => return report.push_str("the lines have too little in common for a pattern\n"),

@@ -2,33 +2,39 @@
 
 use crate::compiled::compile_valid;
 use crate::definitions::Definitions;
-use crate::fits::{Fit, fit_of, lines_with, unfit_lines};
-use crate::proposals::{Continued, propose, propose_after};
+use crate::fits::{Candidate, Fit};
+use crate::proposals::{Continued, Proposal, propose, propose_after};
 use crate::starts::{events_of, start_of};
 use crate::text::whole_pattern;
 use crate::values::separator_of;
-use grok::Pattern;
 use std::alloc::{AllocError, Global};
 use std::cmp::Reverse;
 
-/// If a pattern leaves out at most one line of so many, it is for all of them.
+/// If a pattern leaves out at most one line in this many, it is for all of them.
 const LINES_FOR_ONE_LEFT: usize = 10;
 
-/// Of so many lines that a definition fits, one may lack what it needs.
+/// Of the lines that a definition fits, one in this many may lack what it needs.
 const LINES_FOR_ONE_UNSURE: usize = 4;
 
-/// One line of so many is enough for a definition to be used with others.
+/// One line in this many is enough for a definition to be used with others.
 const LINES_FOR_ONE_USE: usize = 50;
 
 /// How many definitions are used together at most.
 const MOST_TOGETHER: usize = 5;
 
-/// A pattern, and how it fits the lines. Of several patterns that are used together, it is how it fits those that the ones
-/// before it don't fit.
+/// A pattern, and how it fits the lines.
 #[derive(Drop)]
 pub struct Suggestion {
     pub text: String,
     pub fit: Fit,
+}
+
+/// One of several patterns that are used together.
+#[derive(Drop)]
+pub struct Share {
+    pub text: String,
+    /// How many lines it fits that the patterns before it don't fit.
+    pub lines: usize,
 }
 
 /// What is advised for lines.
@@ -42,15 +48,7 @@ pub struct Advice {
     /// most fields.
     pub alone: Vec<Suggestion>,
     /// Patterns to be used together, in this order, if no pattern alone is for all lines.
-    pub together: Vec<Suggestion>,
-}
-
-/// A pattern that may be suggested.
-#[derive(Drop)]
-struct Candidate {
-    text: String,
-    pattern: Pattern,
-    fit: Fit,
+    pub together: Vec<Share>,
 }
 
 /// A definition for whole lines.
@@ -79,27 +77,8 @@ fn sort(candidates: &mut Vec<Candidate>) -> Result<(), AllocError> {
     candidates.sort_by_key(|found| (Reverse(found.fit.lines), Reverse(found.fit.fields)))
 }
 
-/// Returns the pattern of a definition for whole lines, if it has keys and fits some of the lines.
-fn candidate_of(
-    alloc: Global,
-    definitions: Definitions<'_>,
-    text: String,
-    lines: &[&str],
-) -> Result<Option<Candidate>, AllocError> {
-    let compiled = compile_valid(definitions, text.as_str())?;
-    let Some(pattern) = compiled else {
-        return Ok(None);
-    };
-    let fit = fit_of(alloc, &pattern, lines)?;
-    if fit.lines == 0 || fit.fields == 0 {
-        return Ok(None);
-    }
-    Ok(Some(Candidate { text, pattern, fit }))
-}
-
 /// Returns whether three of four lines that a format fits are really of it.
 fn has_its_needs(
-    alloc: Global,
     definitions: Definitions<'_>,
     format: Format<'_>,
     candidate: &Candidate,
@@ -111,13 +90,17 @@ fn has_its_needs(
     let Some(needs) = compile_valid(definitions, needs)? else {
         return Ok(false);
     };
-    let sure = lines_with(alloc, &needs, lines)?;
-    let fit = fit_of(alloc, &candidate.pattern, &sure)?;
-    let all = candidate.fit.lines;
-    Ok(all.saturating_sub(fit.lines) <= all / LINES_FOR_ONE_UNSURE)
+    let mut matcher = needs.matcher()?;
+    let mut unsure = 0usize;
+    for (line, is_fit) in lines.iter().zip(&candidate.each) {
+        if *is_fit && matcher.find(line)?.is_none() {
+            unsure = unsure.saturating_add(1);
+        }
+    }
+    Ok(unsure <= candidate.fit.lines / LINES_FOR_ONE_UNSURE)
 }
 
-/// Returns the definitions that fit some of the lines.
+/// Returns the definitions that fit some of the lines, and find fields in them.
 fn fitting(
     alloc: Global,
     definitions: Definitions<'_>,
@@ -128,8 +111,9 @@ fn fitting(
     let mut found = Vec::new(alloc);
     for format in formats {
         let text = whole_pattern(alloc, format.name, are_events)?;
-        if let Some(candidate) = candidate_of(alloc, definitions, text, lines)?
-            && has_its_needs(alloc, definitions, *format, &candidate, lines)?
+        if let Some(candidate) = Candidate::new(alloc, definitions, text, lines)?
+            && candidate.fit.fields > 0
+            && has_its_needs(definitions, *format, &candidate, lines)?
         {
             found.push(candidate)?;
         }
@@ -143,56 +127,98 @@ fn are_few(left: usize, all: usize) -> bool {
     left <= all / LINES_FOR_ONE_LEFT || (left == 1 && all > 1)
 }
 
-/// Returns the candidate that fits most of the lines, with its index and its fit.
-fn best_of(
-    alloc: Global,
-    candidates: &[Candidate],
-    lines: &[&str],
-) -> Result<Option<(usize, Fit)>, AllocError> {
-    let mut best: Option<(usize, Fit)> = None;
-    for (index, candidate) in candidates.iter().enumerate() {
-        let fit = fit_of(alloc, &candidate.pattern, lines)?;
-        let most = match best {
-            Some((_, best)) => best.lines,
-            None => 0,
-        };
-        if fit.lines > most {
-            best = Some((index, fit));
-        }
-    }
-    Ok(best)
+/// Patterns that are used together, and the lines that none of them fits.
+#[derive(Drop)]
+struct Choice<'l> {
+    patterns: Vec<Share>,
+    left: Vec<&'l str>,
 }
 
-/// Chooses candidates until they fit almost all lines, each for most of the lines that those before it don't fit. Returns
-/// the lines that none of them fits.
+/// Returns how many of the lines that are left a candidate fits.
+fn count_left(candidate: &Candidate, is_left: &[bool]) -> usize {
+    let mut count = 0usize;
+    for (is_fit, is_left) in candidate.each.iter().zip(is_left) {
+        if *is_fit && *is_left {
+            count = count.saturating_add(1);
+        }
+    }
+    count
+}
+
+/// Returns the candidate that fits most of the lines that are left, and how many these are.
+fn best_of<'c>(candidates: &'c [Candidate], is_left: &[bool]) -> Option<(&'c Candidate, usize)> {
+    let mut best = None;
+    let mut most = 0usize;
+    for candidate in candidates {
+        let count = count_left(candidate, is_left);
+        if count > most {
+            most = count;
+            best = Some((candidate, count));
+        }
+    }
+    best
+}
+
+/// Returns for each line that it is left.
+fn all_of(alloc: Global, lines: &[&str]) -> Result<Vec<bool>, AllocError> {
+    let mut is_left = Vec::new(alloc);
+    for _ in lines {
+        is_left.push(true)?;
+    }
+    Ok(is_left)
+}
+
+/// Returns the lines that are left.
+fn lines_left<'l>(
+    alloc: Global,
+    lines: &[&'l str],
+    is_left: &[bool],
+) -> Result<Vec<&'l str>, AllocError> {
+    let mut left = Vec::new(alloc);
+    for (line, is_left) in lines.iter().zip(is_left) {
+        if *is_left {
+            left.push(*line)?;
+        }
+    }
+    Ok(left)
+}
+
+/// Takes the lines that a candidate fits from those that are left.
+fn take_fit(is_left: &mut [bool], candidate: &Candidate) {
+    for (is_left, is_fit) in is_left.iter_mut().zip(&candidate.each) {
+        if *is_fit {
+            *is_left = false;
+        }
+    }
+}
+
+/// Chooses candidates until they fit almost all lines, each for most of the lines that those before it don't fit.
 fn cover<'l>(
     alloc: Global,
     candidates: &[Candidate],
     lines: &[&'l str],
-    chosen: &mut Vec<Suggestion>,
-) -> Result<Vec<&'l str>, AllocError> {
-    let mut left = Vec::from_slice(alloc, lines)?;
+) -> Result<Choice<'l>, AllocError> {
+    let mut patterns = Vec::new(alloc);
+    let mut is_left = all_of(alloc, lines)?;
+    let mut count = lines.len();
     for _ in 0..MOST_TOGETHER {
-        if are_few(left.len(), lines.len()) {
+        if are_few(count, lines.len()) {
             break;
         }
-        let Some((index, fit)) = best_of(alloc, candidates, &left)? else {
+        let Some((candidate, fit)) = best_of(candidates, &is_left) else {
             break;
         };
-        let Some(candidate) = candidates.get(index) else {
-            break;
-        };
-        let are_enough = fit.lines > 1 || lines.len() == 1;
-        if !are_enough || fit.lines < lines.len() / LINES_FOR_ONE_USE {
+        let are_enough = fit > 1 || lines.len() == 1;
+        if !are_enough || fit < lines.len() / LINES_FOR_ONE_USE {
             break;
         }
-        left = unfit_lines(alloc, &candidate.pattern, &left)?;
-        chosen.push(Suggestion {
-            text: candidate.text.clone()?,
-            fit,
-        })?;
+        take_fit(&mut is_left, candidate);
+        count = count.saturating_sub(fit);
+        let text = candidate.text.clone()?;
+        patterns.push(Share { text, lines: fit })?;
     }
-    Ok(left)
+    let left = lines_left(alloc, lines, &is_left)?;
+    Ok(Choice { patterns, left })
 }
 
 /// Appends the pattern for lines that begin with a definition and then have more of one form.
@@ -220,13 +246,18 @@ fn add_continued(
         formats.beginnings
     };
     let found = propose_after(alloc, definitions, names, lines)?;
-    let Some(Continued { proposal, is_whole }) = found else {
+    let Some(
+        Continued {
+            candidate,
+            is_whole,
+        },
+    ) = found
+    else {
         return Ok(());
     };
     if (is_whole || !is_known)
-        && proposal.fit.lines >= best.lines
-        && proposal.fit.fields > best.fields
-        && let Some(candidate) = candidate_of(alloc, definitions, proposal.text, lines)?
+        && candidate.fit.lines >= best.lines
+        && candidate.fit.fields > best.fields
     {
         candidates.push(candidate)?;
         sort(candidates)?;
@@ -244,12 +275,14 @@ fn advise_on(
 ) -> Result<Advice, AllocError> {
     let mut candidates = candidates;
     add_continued(alloc, definitions, formats, lines, &mut candidates)?;
-    let mut together = Vec::new(alloc);
-    let left = cover(alloc, &candidates, lines, &mut together)?;
+    let Choice {
+        patterns: mut together,
+        left,
+    } = cover(alloc, &candidates, lines)?;
     if !are_few(left.len(), lines.len()) {
-        for proposal in propose(alloc, definitions, &left)? {
-            let (text, fit) = (proposal.text, proposal.fit);
-            together.push(Suggestion { text, fit })?;
+        for Proposal { text, fit } in propose(alloc, definitions, &left)? {
+            let lines = fit.lines;
+            together.push(Share { text, lines })?;
         }
     }
     let mut alone = Vec::new(alloc);
@@ -319,8 +352,7 @@ pub fn advise(
 ) -> Result<Advice, AllocError> {
     let lines = without_header(lines);
     let candidates = fitting(alloc, definitions, formats.lines, lines, false)?;
-    let mut chosen = Vec::new(alloc);
-    let left = cover(alloc, &candidates, lines, &mut chosen)?;
+    let left = cover(alloc, &candidates, lines)?.left;
     if !are_few(left.len(), lines.len())
         && let Some((events, start)) = events_in(alloc, definitions, lines)?
     {

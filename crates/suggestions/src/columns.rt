@@ -14,7 +14,7 @@ pub(crate) enum Content {
     Value,
 }
 
-/// What is known of the texts of a column.
+/// What the texts of a column have in common.
 #[derive(Clone, Copy)]
 pub(crate) struct Column<'l> {
     pub content: Content,

@@ -1,9 +1,11 @@
-//! Counts the lines that a pattern fits.
-ghost use Rattle.std.specs.Prelude.{◌≡◌, IfOk, count_by};
+//! Finds out which lines a pattern fits.
+ghost use Rattle.std.specs.Prelude.{◌≡◌, ◌<◌, IfOk, IfSome, count_by, map};
 ghost use Rattle.grok.specs.Answers.{walk};
 ghost use Rattle.grok.specs.BorrowedMatches.{borrowed_keys, borrowed_captures};
 ghost use Rattle.suggestions.specs.Fits.{tells, fits};
 
+use crate::compiled::compile_valid;
+use crate::definitions::Definitions;
 use grok::{Matcher, MatchesRef, Pattern};
 use std::alloc::{AllocError, Global};
 use std::collections::BTreeMap;
@@ -16,6 +18,23 @@ pub struct Fit {
     pub lines: usize,
     /// How many of its keys have a value in one of these lines that isn't empty.
     pub fields: usize,
+}
+
+/// Which of some lines a pattern fits, and how well.
+#[derive(Drop)]
+pub struct FittedLines {
+    /// Whether it fits each of the lines.
+    pub each: Vec<bool>,
+    pub fit: Fit,
+}
+
+/// A pattern, and which of some lines it fits.
+#[derive(Drop)]
+pub(crate) struct Candidate {
+    pub text: String,
+    pub fit: Fit,
+    /// Whether it fits each of the lines.
+    pub each: Vec<bool>,
 }
 
 /// A pattern that is searched for in many lines.
@@ -43,20 +62,38 @@ fn tells(matches: MatchesRef<'_>, line: &str) -> bool
     true
 }
 
-/// Notes the keys of a match that have a value.
-fn note_fields(found: &mut BTreeMap<&str, bool>, matches: MatchesRef<'_>) {
-    for (key, value) in matches.iter() {
-        if !value.is_empty()
-            && let Some(is_found) = found.get_mut(key)
-        {
-            *is_found = true;
+/// The keys of a pattern that have had no value yet.
+#[derive(Drop)]
+struct MissingKeys<'p> {
+    keys: BTreeMap<&'p str, ()>,
+}
+
+impl<'p> MissingKeys<'p> {
+    /// Takes all keys of a pattern.
+    fn of(alloc: Global, pattern: &'p Pattern) -> Result<MissingKeys<'p>, AllocError> {
+        let mut keys = BTreeMap::new(alloc);
+        for key in pattern.capture_names() {
+            keys.insert(key, ())?;
+        }
+        Ok(MissingKeys { keys })
+    }
+
+    /// Takes out the keys that have a value in a match.
+    fn note(&mut self, matches: MatchesRef<'_>) {
+        if self.keys.is_empty() {
+            return;
+        }
+        for (key, value) in matches.iter() {
+            if !value.is_empty() {
+                self.keys.remove(key);
+            }
         }
     }
 }
 
 impl<'p> Counter<'p> {
     /// Returns whether the pattern fits a line, and notes the keys that have a value if it does.
-    fn fits(&mut self, line: &str, found: &mut BTreeMap<&str, bool>) -> Result<bool, AllocError>
+    fn fits(&mut self, line: &str, missing: &mut MissingKeys<'_>) -> Result<bool, AllocError>
         ensures fits { IfOk result (λ is_fit. is_fit ≡ fits self.old.matcher line.now) }
         ensures same { self.new.matcher ≡ self.old.matcher }
     {
@@ -65,7 +102,7 @@ impl<'p> Counter<'p> {
             Some(matches) => {
                 let is_fit = tells(matches, line);
                 if is_fit {
-                    note_fields(found, matches);
+                    missing.note(matches);
                 }
                 Ok(is_fit)
             }
@@ -73,71 +110,103 @@ impl<'p> Counter<'p> {
     }
 }
 
-/// Counts the lines that a pattern fits, and the fields that it finds in them.
-///
-/// # Errors
-///
-/// If an allocation fails.
-pub fn fit_of(alloc: Global, pattern: &Pattern, lines: &[&str]) -> Result<Fit, AllocError>
-    ensures { IfOk result (λ fit. fit.lines ≡ count_by (λ line. fits pattern.now line.now) lines.now) }
+/// Returns for each line whether a pattern fits it, and notes the keys that have a value in one of these lines.
+fn fits_each(
+    alloc: Global,
+    pattern: &Pattern,
+    lines: &[&str],
+    missing: &mut MissingKeys<'_>,
+) -> Result<Vec<bool>, AllocError>
+    ensures { IfOk result (λ each. each.items ≡ map (λ line. fits pattern.now line.now) lines.now) }
 {
-    let mut found = BTreeMap::new(alloc);
-    for key in pattern.capture_names() {
-        found.insert(key, false)?;
-    }
     let matcher = pattern.matcher()?;
     let mut counter = Counter { matcher };
-    let mut count = 0usize;
+    let mut each = Vec::new(alloc);
     'lines: for line in lines {
-        if counter.fits(line, &mut found)? {
+        let is_fit = counter.fits(line, missing)?;
+        each.push(is_fit)?;
+    }
+    Ok(each)
+}
+
+/// Counts the lines that are fit.
+fn count(each: &[bool]) -> usize
+    ensures { result ≡ count_by (λ is_fit. is_fit) each.now }
+{
+    let mut count = 0usize;
+    'each: for is_fit in each {
+        if *is_fit {
             count += 1;
         }
     }
-    let fields = found.values().filter(|is_found| **is_found).count();
-    Ok(Fit {
-        lines: count,
-        fields,
+    count
+}
+
+/// Returns which lines a pattern fits, and how well.
+///
+/// # Errors
+///
+/// If an allocation fails.
+pub fn fitted_lines(
+    alloc: Global,
+    pattern: &Pattern,
+    lines: &[&str],
+) -> Result<FittedLines, AllocError>
+    ensures each { IfOk result (λ fitted. fitted.each.items ≡ map (λ line. fits pattern.now line.now) lines.now) }
+    ensures lines { IfOk result (λ fitted. fitted.fit.lines ≡ count_by (λ is_fit. is_fit) fitted.each.items) }
+{
+    let mut missing = MissingKeys::of(alloc, pattern)?;
+    let all = missing.keys.len();
+    let each = fits_each(alloc, pattern, lines, &mut missing)?;
+    let fields = all.saturating_sub(missing.keys.len());
+    let lines = count(&each);
+    Ok(FittedLines {
+        fit: Fit { lines, fields },
+        each,
     })
 }
 
-/// Returns the lines that a pattern doesn't fit.
-///
-/// # Errors
-///
-/// If an allocation fails.
-pub(crate) fn unfit_lines<'l>(
-    alloc: Global,
-    pattern: &Pattern,
-    lines: &[&'l str],
-) -> Result<Vec<&'l str>, AllocError> {
-    let mut found = BTreeMap::new(alloc);
-    let matcher = pattern.matcher()?;
-    let mut counter = Counter { matcher };
-    let mut unfit = Vec::new(alloc);
-    for line in lines {
-        if !counter.fits(line, &mut found)? {
-            unfit.push(*line)?;
+impl Candidate {
+    /// Compiles a pattern, and finds out which of the lines it fits. Returns `None` if it can't be compiled, or fits no
+    /// line.
+    ///
+    /// # Errors
+    ///
+    /// If an allocation fails.
+    pub(crate) fn new(
+        alloc: Global,
+        definitions: Definitions<'_>,
+        text: String,
+        lines: &[&str],
+    ) -> Result<Option<Candidate>, AllocError>
+        ensures { IfOk result (λ found. IfSome found (λ candidate. 0 < candidate.fit.lines)) }
+    {
+        let Some(pattern) = compile_valid(definitions, text.as_str())? else {
+            return Ok(None);
+        };
+        let FittedLines { each, fit } = fitted_lines(alloc, &pattern, lines)?;
+        if fit.lines == 0 {
+            return Ok(None);
         }
+        Ok(Some(Candidate { text, fit, each }))
     }
-    Ok(unfit)
-}
 
-/// Returns the lines in which a pattern finds something.
-///
-/// # Errors
-///
-/// If an allocation fails.
-pub(crate) fn lines_with<'l>(
-    alloc: Global,
-    pattern: &Pattern,
-    lines: &[&'l str],
-) -> Result<Vec<&'l str>, AllocError> {
-    let mut matcher = pattern.matcher()?;
-    let mut found = Vec::new(alloc);
-    for line in lines {
-        if matcher.find(line)?.is_some() {
-            found.push(*line)?;
+    /// Returns those of the lines that it doesn't fit.
+    ///
+    /// # Errors
+    ///
+    /// If an allocation fails.
+    pub(crate) fn unfit_lines<'l>(
+        &self,
+        alloc: Global,
+        lines: &[&'l str],
+    ) -> Result<Vec<&'l str>, AllocError> {
+        let mut unfit = Vec::new(alloc);
+        for (line, is_fit) in lines.iter().zip(&self.each) {
+            if !*is_fit {
+                unfit.push(*line)?;
+            }
         }
+        Ok(unfit)
     }
-    Ok(found)
 }

@@ -9,7 +9,7 @@ use std::alloc::{AllocError, Global};
 /// The key of what comes after a definition.
 const TAIL: &str = "what_comes_after_it";
 
-/// One line of so many may begin with something else.
+/// One line in this many may begin with something else.
 const LINES_FOR_ONE_OTHER: usize = 10;
 
 /// A definition that is looked for at the beginning of lines.

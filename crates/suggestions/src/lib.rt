@@ -1,7 +1,7 @@
 //! Finds patterns for lines of a log: how well a pattern fits them, and a pattern for lines that no
 //! known definition fits.
 //!
-//! [`fit_of`] counts the lines that a pattern fits. [`propose`] cuts each line into tokens (what a
+//! [`fitted_lines`] says which lines a pattern fits. [`propose`] cuts each line into tokens (what a
 //! definition recognizes, words, blanks, and marks such as brackets), aligns the lines by their
 //! tokens, and writes what they have in common as patterns:
 //!
@@ -26,9 +26,9 @@ mod text;
 mod tokens;
 mod values;
 
-pub use advice::{Advice, Format, Formats, Suggestion, advise};
+pub use advice::{Advice, Format, Formats, Share, Suggestion, advise};
 pub use compiled::compile_valid;
 pub use definitions::Definitions;
-pub use fits::{Fit, fit_of};
+pub use fits::{Fit, FittedLines, fitted_lines};
 pub use proposals::{Proposal, propose};
 pub use values::{LogKind, kind_of_log};

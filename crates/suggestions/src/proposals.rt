@@ -2,15 +2,13 @@
 ghost use Rattle.std.specs.Prelude.{◌≡◌, ◌+◌, ◌<◌, ◌≤◌, All, IfOk, IfSome, OnOk, vec_len};
 
 use crate::align::{Row, Template, align, count_kind};
-use crate::compiled::compile_valid;
 use crate::definitions::Definitions;
-use crate::fits::{Fit, fit_of, unfit_lines};
+use crate::fits::{Candidate, Fit};
 use crate::heads::{LineView, longest_head};
 use crate::recognizer::Recognizer;
 use crate::text::{RestForm, pattern_text};
 use crate::tokens::{Cutter, Kind};
 use crate::values::{separator_of, template_of_values};
-use grok::Pattern;
 use std::alloc::{AllocError, Global};
 use std::collections::BTreeMap;
 
@@ -20,10 +18,10 @@ const MOST_PATTERNS: usize = 3;
 /// How many lines are aligned at most: the first ones. What comes of them is tried on all lines.
 const MOST_ALIGNED: usize = 1000;
 
-/// Of how many lines one may be left out, because it differs from the others.
+/// One line in this many may be left out, because it differs from the others.
 const LINES_FOR_ONE_SPARE: usize = 20;
 
-/// If the patterns leave out at most one line of so many, no further pattern is proposed.
+/// If the patterns leave out at most one line in this many, no further pattern is proposed.
 const LINES_FOR_ONE_LEFT: usize = 10;
 
 /// A pattern for some lines.
@@ -36,22 +34,14 @@ pub struct Proposal {
 
 /// A pattern for lines that begin with a definition and then have more.
 #[derive(Drop)]
-pub struct Continued {
-    pub proposal: Proposal,
+pub(crate) struct Continued {
+    pub candidate: Candidate,
     /// Whether what comes after the definition has one form, without a rest that is anything.
     pub is_whole: bool,
 }
 
-/// A proposal that is compiled.
-#[derive(Drop)]
-struct Candidate {
-    text: String,
-    pattern: Pattern,
-    fit: Fit,
-}
-
-/// Compiles the pattern of a template, with the rest in this form, and counts the lines that it
-/// fits. Returns `None` if it can't be compiled, or fits no line.
+/// Compiles the pattern of a template, with the rest in this form. Returns `None` if it can't be compiled, or fits no
+/// line.
 fn compile_candidate(
     definitions: Definitions<'_>,
     view: &LineView<'_>,
@@ -63,14 +53,7 @@ fn compile_candidate(
 {
     let alloc = view.alloc;
     let text = pattern_text(alloc, definitions.grok, template, form, &view.frame)?;
-    let Some(pattern) = compile_valid(definitions, text.as_str())? else {
-        return Ok(None);
-    };
-    let fit = fit_of(alloc, &pattern, lines)?;
-    if fit.lines == 0 {
-        return Ok(None);
-    }
-    Ok(Some(Candidate { text, pattern, fit }))
+    Candidate::new(alloc, definitions, text, lines)
 }
 
 /// Returns the candidate of a template that fits most lines: the first of them, if there are several.
@@ -269,7 +252,7 @@ pub fn propose(
         let Some(candidate) = next_candidate(definitions, &view, &mut cutter, &left)? else {
             break;
         };
-        left = unfit_lines(alloc, &candidate.pattern, &left)?;
+        left = candidate.unfit_lines(alloc, &left)?;
         let Candidate { text, fit, .. } = candidate;
         push_fitting(&mut proposals, Proposal { text, fit })?;
     }
@@ -282,13 +265,13 @@ pub fn propose(
 /// # Errors
 ///
 /// If an allocation fails.
-pub fn propose_after(
+pub(crate) fn propose_after(
     alloc: Global,
     definitions: Definitions<'_>,
     names: &[&str],
     lines: &[&str],
 ) -> Result<Option<Continued>, AllocError>
-    ensures { IfOk result (λ found. IfSome found (λ continued. 0 < continued.proposal.fit.lines)) }
+    ensures { IfOk result (λ found. IfSome found (λ continued. 0 < continued.candidate.fit.lines)) }
 {
     let Some(head) = longest_head(alloc, definitions, names, lines)? else {
         return Ok(None);
@@ -299,10 +282,11 @@ pub fn propose_after(
     let mut cutter = Cutter::new(alloc, recognizer.search(alloc)?);
     let template = template_of(&view, &mut cutter, aligned_of(&begun))?;
     let is_whole = !template.has_rest && !template.columns.is_empty();
-    let Some(candidate) = best_candidate(definitions, &view, &template, &begun)? else {
+    let Some(candidate) = best_candidate(definitions, &view, &template, lines)? else {
         return Ok(None);
     };
-    let Candidate { text, fit, .. } = candidate;
-    let proposal = Proposal { text, fit };
-    Ok(Some(Continued { proposal, is_whole }))
+    Ok(Some(Continued {
+        candidate,
+        is_whole,
+    }))
 }

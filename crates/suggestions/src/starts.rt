@@ -12,7 +12,7 @@ use std::alloc::{AllocError, Global};
 /// How many bytes may come before the time with which an event begins.
 const MOST_BEFORE: usize = 16;
 
-/// One line of so many may have a time and not be a start; at least one of so many, and two, have none.
+/// One line in this many may have a time and not be a start. At least one in this many, and two, have none.
 const LINES_FOR_ONE_OTHER: usize = 20;
 
 /// How a line begins up to its first time.

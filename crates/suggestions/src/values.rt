@@ -14,10 +14,10 @@ const SEPARATORS: [char; 4] = ['\t', ',', ';', '|'];
 /// How many values a line has at least.
 const LEAST_VALUES: usize = 4;
 
-/// One line of so many may be no JSON object.
+/// One line in this many may be no JSON object.
 const LINES_FOR_ONE_NO_OBJECT: usize = 10;
 
-/// One line of so many may have another number of values.
+/// One line in this many may have another number of values.
 const LINES_FOR_ONE_OTHER: usize = 20;
 
 /// Cuts a line at a separator, but not inside double quotes (RFC 4180).
@@ -92,6 +92,9 @@ fn are_values(lines: &[&str], separator: char) -> bool {
         Some(first) => value_count(first_line(first), separator),
         None => 0,
     };
+    if count < LEAST_VALUES {
+        return false;
+    }
     let mut others = 0usize;
     for line in lines {
         let line = first_line(line);
@@ -99,7 +102,7 @@ fn are_values(lines: &[&str], separator: char) -> bool {
             others = others.saturating_add(1);
         }
     }
-    count >= LEAST_VALUES && others <= lines.len() / LINES_FOR_ONE_OTHER
+    others <= lines.len() / LINES_FOR_ONE_OTHER
 }
 
 /// Returns what separates the values of lines, or `None` if they aren't values between separators.

@@ -1,0 +1,9 @@
+use Rattle.std.proofs.Common.{◌≡◌, take, map}
+use Rattle.suggestions.specs.Fits.{fits}
+use Rattle.suggestions.proofs.fits.fits_each.Given as goal
+
+abbrev pub invariant-lines : goal.invariant-lines
+invariant-lines l = record {
+  each : l.each.items ≡ map (λ line. fits l.fn.pattern line.now) (take l.line-index l.lines);
+  same : l.counter.matcher ≡ l.fn.pattern;
+}
