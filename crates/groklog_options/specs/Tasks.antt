@@ -1,12 +1,18 @@
 -- What belongs to the task of a run.
-use Rattle.std.specs.Prelude.{◌≡◌, Bool, true, false, Option, Some, None, is_some, codes}
+use Rattle.std.specs.Prelude.{◌≡◌, ℕ, Bool, true, false, List, [], ◌∷◌, Option, Some, None, ⊤, codes, find, map, option_and_then, option_map, unwrap_or}
+use denote.Ref.{Bor}
 use Rattle.clap.specs.Matches.{first_value, matched_of}
 use Rattle.clap.specs.declared.parser.matches.Found.{Found}
+use Rattle.clap.specs.declared.parser.matches.ValueSource.{ValueSource}
+use Rattle.clap.specs.declared.parser.matches.ValueSource.TheVariants.{DefaultValue, CommandLine}
+use Rattle.groklog_answers.specs.Layouts.{added_pair}
+use Rattle.groklog_options.specs.Additions.{added_in}
 use Rattle.groklog_answers.specs.declared.layout.OutputFormat.{OutputFormat}
 use Rattle.groklog_answers.specs.declared.layout.OutputFormat.TheVariants.{Json, Pairs, Csv}
 use Rattle.groklog_options.specs.declared.task.PlanOptions.{PlanOptions}
 use Rattle.groklog_options.specs.declared.task.Task.{Task}
-use Rattle.groklog_options.specs.declared.task.Task.TheVariants.{Answers, Counts, Shown, Page, Reasons, Suggestions, Explanation, List}
+use Rattle.groklog_options.specs.declared.task.Task.TheVariants as task
+use Rattle.groklog_options.specs.declared.task.Task.TheVariants.{Answers, Counts, Shown, Page, Reasons, Suggestions, Explanation}
 
 -- Whether it uses patterns: suggestions and a list of definitions don't.
 abbrev pub has_patterns : Task → Bool
@@ -17,7 +23,7 @@ has_patterns (Page page) = true
 has_patterns (Reasons most) = true
 has_patterns (Suggestions most) = false
 has_patterns Explanation = true
-has_patterns (List text) = false
+has_patterns (task.List text) = false
 
 -- Whether these are records.
 abbrev pub is_csv : OutputFormat → Bool
@@ -34,7 +40,7 @@ has_records (Page page) = false
 has_records (Reasons most) = false
 has_records (Suggestions most) = false
 has_records Explanation = false
-has_records (List text) = false
+has_records (task.List text) = false
 
 -- Where values are written. Only answers say that.
 abbrev pub plan_of : Task → PlanOptions
@@ -45,17 +51,61 @@ plan_of (Page page) = record { is_nested = false; is_merged = false }
 plan_of (Reasons most) = record { is_nested = false; is_merged = false }
 plan_of (Suggestions most) = record { is_nested = false; is_merged = false }
 plan_of Explanation = record { is_nested = false; is_merged = false }
-plan_of (List text) = record { is_nested = false; is_merged = false }
+plan_of (task.List text) = record { is_nested = false; is_merged = false }
 
--- A task that options ask for in place of answers, by what was found of the words: it has the value of its own option. Without
--- `--count`, `--html` and `--list` it is none of these three, and answers are asked for by no option.
-abbrev pub IsAskedBy : Found → Option Task → Type 0
-IsAskedBy found None = (first_value found (codes "count") ≡ None) × (first_value found (codes "html") ≡ None) × (matched_of found (codes "list") ≡ None)
-IsAskedBy found (Some (Counts counts)) = is_some (first_value found (codes "count")) ≡ true
-IsAskedBy found (Some (Page page)) = first_value found (codes "html") ≡ Some page.file.now
-IsAskedBy found (Some (List text)) = is_some (matched_of found (codes "list")) ≡ true
-IsAskedBy found (Some (Answers answers)) = ⊥
-IsAskedBy found (Some (Shown shown)) = Unit {0}
-IsAskedBy found (Some (Reasons most)) = Unit {0}
-IsAskedBy found (Some (Suggestions most)) = Unit {0}
-IsAskedBy found (Some Explanation) = Unit {0}
+-- The keys of patterns that `--fields` names, or `None` if all count.
+abbrev pub fields_of : Task → Option (List (Bor (List ℕ)))
+fields_of (Answers answers) = option_map (λ keys. keys.items) answers.fields
+fields_of (Counts counts) = None
+fields_of (Shown shown) = option_map (λ keys. keys.items) shown.fields
+fields_of (Page page) = option_map (λ keys. keys.items) page.fields
+fields_of (Reasons most) = None
+fields_of (Suggestions most) = None
+fields_of Explanation = None
+fields_of (task.List text) = None
+
+-- ---- which words give which task
+
+-- Whether a value comes from the words, and not from a default.
+abbrev pub is_from_words : Option ValueSource → Bool
+is_from_words None = false
+is_from_words (Some DefaultValue) = false
+is_from_words (Some CommandLine) = true
+
+-- Whether an option stands among the words.
+abbrev pub is_given : Found → List ℕ → Bool
+is_given found option = is_from_words (option_and_then (λ matched. matched.source) (matched_of found option))
+
+-- The options that ask for a task.
+abbrev pub task_options : List (List ℕ)
+task_options = codes "list" ∷ codes "explain" ∷ codes "suggest" ∷ codes "why" ∷ codes "count" ∷ codes "html" ∷ codes "show" ∷ []
+
+-- The option that asks for this task. No option asks for answers.
+abbrev pub option_of : Task → Option (List ℕ)
+option_of (Answers answers) = None
+option_of (Counts counts) = Some (codes "count")
+option_of (Shown shown) = Some (codes "show")
+option_of (Page page) = Some (codes "html")
+option_of (Reasons most) = Some (codes "why")
+option_of (Suggestions most) = Some (codes "suggest")
+option_of Explanation = Some (codes "explain")
+option_of (task.List text) = Some (codes "list")
+
+-- THE TASK, by what was found of the words: that of the first of the options for tasks that stands among them, or else answers.
+abbrev pub IsAskedBy : Found → Task → Type 0
+IsAskedBy found task = option_of task ≡ find (is_given found) task_options
+
+-- The first value of an option, or the empty text if it has none.
+abbrev pub value_in : Found → List ℕ → List ℕ
+value_in found option = unwrap_or (first_value found option) []
+
+-- What the task takes from the words: what is added to answers, the file of a page, and the text of a list.
+abbrev pub HasItsValue : Found → Task → Type 0
+HasItsValue found (Answers answers) = map added_pair answers.added.items ≡ added_in found
+HasItsValue found (Counts counts) = ⊤
+HasItsValue found (Shown shown) = ⊤
+HasItsValue found (Page page) = page.file.now ≡ value_in found (codes "html")
+HasItsValue found (Reasons most) = ⊤
+HasItsValue found (Suggestions most) = ⊤
+HasItsValue found Explanation = ⊤
+HasItsValue found (task.List text) = text.now ≡ value_in found (codes "list")

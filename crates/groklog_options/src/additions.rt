@@ -1,4 +1,8 @@
 //! What options add to the fields of an answer.
+ghost use Rattle.std.specs.Prelude.{◌≡◌, map, IfOk};
+ghost use Rattle.clap.specs.Matches.{found_of};
+ghost use Rattle.groklog_answers.specs.Layouts.{added_pair};
+ghost use Rattle.groklog_options.specs.Additions.{added_in, option_of};
 
 use clap::ArgMatches;
 use groklog_answers::{Added, Addition};
@@ -14,7 +18,9 @@ const ADDITIONS: [Addition; 5] = [
 ];
 
 /// Returns the name of the option that adds this. Its value is the key.
-pub fn option_of(what: Addition) -> &'static str {
+pub fn option_of(what: Addition) -> &'static str
+    ensures { result.now ≡ option_of what }
+{
     match what {
         Addition::Number => "number",
         Addition::File => "file",
@@ -29,9 +35,12 @@ pub fn option_of(what: Addition) -> &'static str {
 /// # Errors
 ///
 /// If an allocation fails.
-pub fn added_of<'a>(alloc: Global, matches: &ArgMatches<'a>) -> Result<Vec<Added<'a>>, AllocError> {
+pub fn added_of<'a>(alloc: Global, matches: &ArgMatches<'a>) -> Result<Vec<Added<'a>>, AllocError>
+    ensures { IfOk result (λ added. map added_pair added.items ≡ added_in (found_of matches.now)) }
+{
     let mut added = Vec::new(alloc);
-    for what in ADDITIONS {
+    'additions: for what in &ADDITIONS {
+        let what = *what;
         if let Some(key) = matches.get_str(option_of(what)) {
             added.push(Added { what, key })?;
         }

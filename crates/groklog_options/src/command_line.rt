@@ -1,4 +1,7 @@
 //! Describes the command line: the options, and what its help says.
+ghost use Rattle.std.specs.Prelude.{◌≡◌};
+ghost use Rattle.clap.specs.Matches.{found_of};
+ghost use Rattle.groklog_options.specs.Tasks.{is_given};
 
 use clap::parser::ValueSource;
 use clap::{Arg, ArgAction, ArgMatches, Command, value_parser};
@@ -526,8 +529,10 @@ fn args_of<'a>(alloc: Global, options: &'a [CommandOption]) -> Result<Vec<Arg<'a
 }
 
 /// Returns whether an option stands on the command line.
-pub fn is_given(matches: &ArgMatches<'_>, name: &str) -> bool {
-    matches.value_source(name) == Some(ValueSource::CommandLine)
+pub fn is_given(matches: &ArgMatches<'_>, name: &str) -> bool
+    ensures { result ≡ is_given (found_of matches.now) name.now }
+{
+    matches!(matches.value_source(name), Some(ValueSource::CommandLine))
 }
 
 /// Returns the report that an option has no effect without one of these others.

@@ -170,6 +170,7 @@ pub fn check_keys(
             Ok(())
         }
         Task::Counts(counts) => check_list(alloc, patterns, "--count", &counts.keys),
-        _ => Ok(()),
+        Task::Shown(_) | Task::Page(_) | Task::Reasons(_) => Ok(()),
+        Task::Suggestions(_) | Task::Explanation | Task::List(_) => Ok(()),
     }
 }

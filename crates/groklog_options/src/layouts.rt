@@ -1,5 +1,6 @@
 //! How the answers of a run are written, by its options.
-ghost use Rattle.std.specs.Prelude.{◌≡◌, ◌≤◌, ◌++◌, length};
+ghost use Rattle.std.specs.Prelude.{◌≡◌, ◌≤◌, drop, length, take};
+ghost use Rattle.groklog_options.specs.Additions.{count_before, is_line};
 
 use crate::options::GivenPattern;
 use crate::task::AnswerOptions;
@@ -27,21 +28,32 @@ pub fn with_tags<'p>(
     Ok(named)
 }
 
+/// Returns whether this is the line itself.
+fn is_line(added: &Added<'_>) -> bool
+    ensures { result ≡ is_line added.now }
+{
+    matches!(added.what, Addition::Line)
+}
+
 /// Returns how many of these an answer has before the fields of patterns: all that come before the line.
 fn count_before(added: &[Added<'_>]) -> usize
-    ensures { result ≤ length added.now }
+    ensures count { result ≡ count_before added.now }
+    ensures within { result ≤ length added.now }
 {
-    added
-        .iter()
-        .position(|one| matches!(one.what, Addition::Line))
-        .unwrap_or(added.len())
+    'added: for (index, one) in added.iter().enumerate() {
+        if is_line(one) {
+            return index;
+        }
+    }
+    added.len()
 }
 
 /// Returns the layout that the options ask for, with these keys of patterns.
 pub fn layout_of<'a>(answers: &'a AnswerOptions<'a>, fields: Option<&'a [&'a str]>) -> Layout<'a>
     ensures lines { result.lines ≡ answers.now.lines }
     ensures format { result.format ≡ answers.now.format }
-    ensures added { result.before.now ++ result.after.now ≡ answers.now.added.items }
+    ensures before { result.before.now ≡ take (count_before answers.now.added.items) answers.now.added.items }
+    ensures after { result.after.now ≡ drop (count_before answers.now.added.items) answers.now.added.items }
     ensures typed { result.typed ≡ answers.now.is_typed }
     ensures drops_empty { result.drops_empty ≡ answers.now.drops_empty }
     ensures fields { result.fields ≡ fields.entry }

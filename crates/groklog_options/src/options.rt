@@ -1,13 +1,15 @@
 //! Reads the options of the program.
-ghost use Rattle.std.specs.Prelude.{◌≡◌, ◌<◌, ◌⊎◌, ◌↔◌, IfOk, IsTrue, MatchOption, is_some, length, true, unwrap_or, if◌then◌else◌};
+ghost use Rattle.std.specs.Prelude.{◌≡◌, ◌<◌, ◌⊎◌, ◌↔◌, IfOk, IsTrue, is_some, length, true, map, codes, unwrap_or, if◌then◌else◌};
 ghost use Rattle.groklog_input.specs.declared.unit.Unit.{Unit};
 ghost use Rattle.groklog_options.specs.OptionFaults.{IsOptionFault};
-ghost use Rattle.groklog_options.specs.Tasks.{IsAskedBy, has_patterns};
-ghost use Rattle.clap.specs.Matches.{first_value, found_of};
+ghost use Rattle.groklog_answers.specs.Layouts.{added_pair};
+ghost use Rattle.groklog_options.specs.Additions.{added_in};
+ghost use Rattle.groklog_options.specs.Tasks.{IsAskedBy, HasItsValue, has_patterns, value_in};
+ghost use Rattle.clap.specs.Matches.{found_of};
 ghost use Rattle.clap.specs.Values.{kind_of};
 
 use crate::additions::added_of;
-use crate::command_line::{describe, missing_partner};
+use crate::command_line::{describe, is_given, missing_partner};
 use crate::task::{
     AnswerOptions, Colours, CountOptions, PageOptions, PlanOptions, ShownOptions, Task,
 };
@@ -124,6 +126,18 @@ fn values_of<'a>(
     }
 }
 
+/// Returns the first value of an option, or the empty text if it has none.
+fn value_of<'a>(matches: &ArgMatches<'a>, option: &str) -> &'a str
+    ensures { result.now ≡ value_in (found_of matches.now) option.now }
+{
+    matches.get_str(option).unwrap_or("")
+}
+
+/// Returns the number that an option has. `clap` has read it.
+fn number_of(matches: &ArgMatches<'_>, option: &str) -> u64 {
+    matches.get_one(option).unwrap_or(0)
+}
+
 /// Returns which lines are answered, by `--matched` and `--unmatched`.
 fn chosen_lines(matches: &ArgMatches<'_>) -> Lines {
     if matches.get_flag("matched") {
@@ -196,23 +210,24 @@ fn given_words<'a>(alloc: Global, matches: &ArgMatches<'a>) -> Result<GivenWords
     Ok(GivenWords { patterns, files })
 }
 
-/// Returns the keys that this option names, which are separated by commas.
-fn keys_of<'a>(
+/// Returns keys that are separated by commas.
+fn split_keys(alloc: Global, keys: &str) -> Result<Vec<&str>, AllocError> {
+    let mut split = Vec::new(alloc);
+    for key in keys.split(',') {
+        split.push(key)?;
+    }
+    Ok(split)
+}
+
+/// Returns the keys after `--fields`, if it is given.
+fn fields_of<'a>(
     alloc: Global,
     matches: &ArgMatches<'a>,
-    option: &str,
-) -> Result<Option<Vec<&'a str>>, AllocError>
-    ensures { IfOk result (λ keys. let value = first_value (found_of matches.now) option.now in
-        MatchOption keys (value ≡ None) (λ _. is_some value ≡ true)) }
-{
-    let Some(words) = matches.get_str(option) else {
-        return Ok(None);
-    };
-    let mut keys = Vec::new(alloc);
-    for key in words.split(',') {
-        keys.push(key)?;
+) -> Result<Option<Vec<&'a str>>, AllocError> {
+    match matches.get_str("fields") {
+        Some(keys) => Ok(Some(split_keys(alloc, keys)?)),
+        None => Ok(None),
     }
-    Ok(Some(keys))
 }
 
 /// Returns where values are written, by `--nested` and `--merge`, for which `--logstash` stands too.
@@ -239,13 +254,15 @@ fn chosen_format(matches: &ArgMatches<'_>) -> OutputFormat {
 fn answer_options<'a>(
     alloc: Global,
     matches: &ArgMatches<'a>,
-) -> Result<AnswerOptions<'a>, AllocError> {
+) -> Result<AnswerOptions<'a>, AllocError>
+    ensures { IfOk result (λ answers. map added_pair answers.added.items ≡ added_in (found_of matches.now)) }
+{
     let is_logstash = matches.get_flag("logstash");
     Ok(AnswerOptions {
         lines: chosen_lines(matches),
         format: chosen_format(matches),
         added: added_of(alloc, matches)?,
-        fields: keys_of(alloc, matches, "fields")?,
+        fields: fields_of(alloc, matches)?,
         is_typed: is_logstash || matches.get_flag("typed"),
         drops_empty: is_logstash || matches.get_flag("no-empty"),
         plan: plan_options(matches),
@@ -253,48 +270,64 @@ fn answer_options<'a>(
     })
 }
 
-/// Returns the task of the option that asks for something in place of answers, if one does.
-fn other_task<'a>(alloc: Global, matches: &ArgMatches<'a>) -> Result<Option<Task<'a>>, AllocError>
-    ensures { IfOk result (IsAskedBy (found_of matches.now)) }
-{
-    Ok(if matches.contains_id("list") {
-        Some(Task::List(matches.get_str("list").unwrap_or("")))
-    } else if matches.get_flag("explain") {
-        Some(Task::Explanation)
-    } else if let Some(most) = matches.get_one("suggest") {
-        Some(Task::Suggestions(most))
-    } else if let Some(most) = matches.get_one("why") {
-        Some(Task::Reasons(most))
-    } else if let Some(keys) = keys_of(alloc, matches, "count")? {
-        Some(Task::Counts(CountOptions {
-            keys,
-            most: matches.get_one("max").unwrap_or(VALUES),
-            format: chosen_format(matches),
-        }))
-    } else if let Some(file) = matches.get_str("html") {
-        Some(Task::Page(PageOptions {
-            file,
-            lines: chosen_lines(matches),
-            fields: keys_of(alloc, matches, "fields")?,
-            most: matches.get_one("max").unwrap_or(PAGE_LINES),
-        }))
-    } else if matches.get_flag("show") {
-        Some(Task::Shown(ShownOptions {
-            lines: chosen_lines(matches),
-            fields: keys_of(alloc, matches, "fields")?,
-            colours: chosen_colours(matches),
-        }))
-    } else {
-        None
+/// Returns what is counted.
+fn count_options<'a>(
+    alloc: Global,
+    matches: &ArgMatches<'a>,
+) -> Result<CountOptions<'a>, AllocError> {
+    Ok(CountOptions {
+        keys: split_keys(alloc, value_of(matches, "count"))?,
+        most: matches.get_one("max").unwrap_or(VALUES),
+        format: chosen_format(matches),
     })
 }
 
-/// Returns the task of a run: to answer, unless an option asks for something else.
-fn task_of<'a>(alloc: Global, matches: &ArgMatches<'a>) -> Result<Task<'a>, AllocError> {
-    match other_task(alloc, matches)? {
-        Some(task) => Ok(task),
-        None => Ok(Task::Answers(answer_options(alloc, matches)?)),
-    }
+/// Returns what a page shows.
+fn page_options<'a>(alloc: Global, matches: &ArgMatches<'a>) -> Result<PageOptions<'a>, AllocError>
+    ensures { IfOk result (λ page. page.file.now ≡ value_in (found_of matches.now) (codes "html")) }
+{
+    Ok(PageOptions {
+        file: value_of(matches, "html"),
+        lines: chosen_lines(matches),
+        fields: fields_of(alloc, matches)?,
+        most: matches.get_one("max").unwrap_or(PAGE_LINES),
+    })
+}
+
+/// Returns how lines are shown.
+fn shown_options<'a>(
+    alloc: Global,
+    matches: &ArgMatches<'a>,
+) -> Result<ShownOptions<'a>, AllocError> {
+    Ok(ShownOptions {
+        lines: chosen_lines(matches),
+        fields: fields_of(alloc, matches)?,
+        colours: chosen_colours(matches),
+    })
+}
+
+/// Returns the task of a run: that of the option that asks for one, or else to answer.
+fn task_of<'a>(alloc: Global, matches: &ArgMatches<'a>) -> Result<Task<'a>, AllocError>
+    ensures task { IfOk result (IsAskedBy (found_of matches.now)) }
+    ensures value { IfOk result (HasItsValue (found_of matches.now)) }
+{
+    Ok(if is_given(matches, "list") {
+        Task::List(value_of(matches, "list"))
+    } else if is_given(matches, "explain") {
+        Task::Explanation
+    } else if is_given(matches, "suggest") {
+        Task::Suggestions(number_of(matches, "suggest"))
+    } else if is_given(matches, "why") {
+        Task::Reasons(number_of(matches, "why"))
+    } else if is_given(matches, "count") {
+        Task::Counts(count_options(alloc, matches)?)
+    } else if is_given(matches, "html") {
+        Task::Page(page_options(alloc, matches)?)
+    } else if is_given(matches, "show") {
+        Task::Shown(shown_options(alloc, matches)?)
+    } else {
+        Task::Answers(answer_options(alloc, matches)?)
+    })
 }
 
 /// Returns which lines are an event, if `--start` asks for events, or `Err` if they would have no line.

@@ -1,6 +1,6 @@
 //! What a run does, with what belongs to it.
-ghost use Rattle.std.specs.Prelude.{◌≡◌, ◌||◌};
-ghost use Rattle.groklog_options.specs.Tasks.{has_patterns, has_records, plan_of};
+ghost use Rattle.std.specs.Prelude.{◌≡◌, ◌||◌, option_map};
+ghost use Rattle.groklog_options.specs.Tasks.{fields_of, has_patterns, has_records, plan_of};
 
 use groklog_answers::{Added, Lines, OutputFormat};
 
@@ -24,9 +24,9 @@ pub enum Task<'a> {
     Shown(ShownOptions<'a>),
     /// It writes a page about the first lines or events to a file.
     Page(PageOptions<'a>),
-    /// It explains of so many lines or events why they don't match.
+    /// It explains why lines or events don't match, of this many at most.
     Reasons(u64),
-    /// It suggests patterns for so many lines.
+    /// It suggests patterns for the first lines, this many at most.
     Suggestions(u64),
     /// It explains the patterns, and reads no lines.
     Explanation,
@@ -118,12 +118,15 @@ impl<'a> Task<'a> {
     }
 
     /// Returns the keys of patterns that `--fields` names, or `None` if all count.
-    pub fn fields(&self) -> Option<&[&'a str]> {
+    pub fn fields(&self) -> Option<&[&'a str]>
+        ensures { option_map (λ keys. keys.now) result ≡ fields_of self.now }
+    {
         match self {
             Task::Answers(answers) => answers.fields.as_deref(),
             Task::Shown(shown) => shown.fields.as_deref(),
             Task::Page(page) => page.fields.as_deref(),
-            _ => None,
+            Task::Counts(_) | Task::Reasons(_) | Task::Suggestions(_) => None,
+            Task::Explanation | Task::List(_) => None,
         }
     }
 
