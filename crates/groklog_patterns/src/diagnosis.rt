@@ -304,7 +304,7 @@ fn advice_for_refusal(
     )
 }
 
-/// What is known of a regular expression that was read up to some character.
+/// Where in a regular expression a character stands: inside which brackets, and after what.
 #[derive(Clone, Copy)]
 struct ReadSoFar {
     /// How many character classes are open, one inside the other.
@@ -316,7 +316,7 @@ struct ReadSoFar {
 }
 
 impl ReadSoFar {
-    /// Returns what is known after the next character.
+    /// Returns the state after the next character.
     fn after(self, c: char) -> ReadSoFar {
         let classes = self.classes;
         let (is_escape, is_class_start) = (false, false);

@@ -123,7 +123,7 @@ fn push_all<'a>(all: &mut Vec<Use<'a>>, uses: &[Use<'a>]) -> Result<(), AllocErr
     Ok(())
 }
 
-/// What is known of a definition that a pattern uses.
+/// A definition that a pattern uses, and how far its uses are counted.
 #[derive(Clone, Copy)]
 struct Used<'a> {
     text: &'a str,
