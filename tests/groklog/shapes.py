@@ -1,5 +1,7 @@
 """Patterns, definitions and lines of a given size that make the reports of groklog do the most work. `tests/groklog/run` checks
 that no report takes long, and `bench/costs.py` measures each."""
+from random import Random
+
 from harness import FAILURE, FAULT
 
 
@@ -181,6 +183,34 @@ PATTERNS = {
 }
 
 SHAPES = {**LOGSTASH, **FAULTS, **NOTES, **KEYS, **STOPS, **SAMPLES, **PATTERNS}
+
+# Runs that take much more for their size if something is done again for each line, key or pattern, or if all of it is kept. Each has a
+# function that makes it, and how many seconds and MB it may take.
+
+PAGE = ["--html", "/dev/null"]
+APACHE_LINE = '192.0.2.17 - alice [07/Mar/2026:04:05:06 +0000] "GET /a?b=c HTTP/1.1" 200 2326 "-" "curl/8.5.0"\n'
+
+
+def stops(words):
+    """Lines that each stop at another one of 200 pieces, in random order. The engine takes much memory for each beginning."""
+    sizes = Random(7).sample(range(1, 200), 20)
+    return Run([*words, "--", "\\w" * 200 + "!"], lines="".join("a" * size + "\n" for size in sizes))
+
+
+COSTS = {
+    "lines under --show": (lambda: Run(["--show", "%{COMBINEDAPACHELOG}"], lines=APACHE_LINE * 10_000), 1, 100),
+    "lines under --html": (
+        lambda: Run([*PAGE, "--max", "10000", "%{COMBINEDAPACHELOG}"], lines=APACHE_LINE * 10_000), 1.5, 200),
+    "stops under --why": (lambda: stops(["--why=20"]), 4, 150),
+    "stops under --html": (lambda: stops(PAGE), 4, 150),
+    "one key under --html": (lambda: optional(PAGE, "(?:%{A:x})?" * 4000), 1.5, 100),
+    "keys in brackets under --html": (lambda: optional(PAGE, "".join(f"%{{A:[a][k{n}]}}" for n in range(3300))), 2, 100),
+    "a long inline definition under --html": (
+        lambda: Run([*PAGE, f"%{{A:k=[{'ab' * 50_000}]}}"], lines="a\n" * 1000), 1.5, 100),
+    "14,285 patterns under --fields": (lambda: PATTERNS["many patterns under --fields"](400_000), 2, 400),
+    "14,285 patterns under --html": (lambda: PATTERNS["many patterns under --html"](200_000), 3, 400),
+    "a word of 10 MB under --suggest": (lambda: Run(["--suggest"], lines="a" * 10_000_000 + "\n"), 1, 150),
+}
 
 # What asks for another task than JSON.
 MODES = {
