@@ -261,6 +261,7 @@ pub fn propose(
 
 /// Proposes a pattern for lines that begin with one of these definitions and then have more: the definition that takes
 /// most of the lines, and then what they have in common. Returns `None` if nine lines of ten don't begin with one of them.
+/// Both are found in the first lines, and the pattern is tried on all.
 ///
 /// # Errors
 ///
@@ -273,14 +274,15 @@ pub(crate) fn propose_after(
 ) -> Result<Option<Continued>, AllocError>
     ensures { IfOk result (λ found. IfSome found (λ continued. 0 < continued.candidate.fit.lines)) }
 {
-    let Some(head) = longest_head(alloc, definitions, names, lines)? else {
+    let aligned = aligned_of(lines);
+    let Some(head) = longest_head(alloc, definitions, names, aligned)? else {
         return Ok(None);
     };
     let view = LineView::after(alloc, lines, head)?;
-    let begun = view.begun(lines)?;
+    let begun = view.begun(aligned)?;
     let recognizer = Recognizer::new(alloc, definitions)?;
     let mut cutter = Cutter::new(alloc, recognizer.search(alloc)?);
-    let template = template_of(&view, &mut cutter, aligned_of(&begun))?;
+    let template = template_of(&view, &mut cutter, &begun)?;
     let is_whole = !template.has_rest && !template.columns.is_empty();
     let Some(candidate) = best_candidate(definitions, &view, &template, lines)? else {
         return Ok(None);
