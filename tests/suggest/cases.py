@@ -132,6 +132,9 @@ CASES = [
     Case("a file in Latin-1", "the hint of a run", "T\u00fcr 1\n".encode("latin-1"), "there are no lines to suggest a pattern for\n",
          notes="groklog: line 1 of log isn't UTF-8, so it has no fields: use --lossy, or for another encoding "
                "iconv -f LATIN1 -t UTF-8 FILE | groklog ..\n"),
+    Case("a word that a definition would cut", "the definition isn't what the lines begin with",
+         "".join(f'192.0.2.{n} - - [28/Nov/2026:06:25:0{n} +0000] "GET /{n} HTTP/1.1" 200 51{n}_ms\n' for n in range(4)),
+         proposal(4, r"groklog '^%{IP:ip} \- \- \[%{HTTPDATE:timestamp}\] %{QS:quoted} %{INT:number:int} %{WORD:word}$' log")),
     Case("a missing file", "the others are read", DOOR.format(1, 1) + DOOR.format(2, 2),
          proposal(2, "groklog '^door %{INT:number:int} opened by card %{INT:number2:int}$' nowhere log"), words=["nowhere", "log"], status=3,
          notes="groklog: there is no file nowhere\n  try: check its name, and the folder that you are in\n"),
