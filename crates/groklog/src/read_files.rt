@@ -36,12 +36,28 @@ fn identity_of(metadata: &Metadata) -> Identity {
     }
 }
 
-/// Returns whether these are two names of one file, or the same name.
-pub fn is_same_file(rt: &HostRuntime, a: &str, b: &str) -> bool {
+/// Returns the folder of a file, and its name there.
+pub fn folder_and_name(path: &str) -> (&str, &str) {
+    match path.rsplit_once('/') {
+        Some(("", name)) => ("/", name),
+        Some((folder, name)) => (folder, name),
+        None => (".", path),
+    }
+}
+
+/// Returns whether these are two names of one file or folder that is there.
+fn are_same(rt: &HostRuntime, a: &str, b: &str) -> bool {
     match (fs::metadata(rt, a), fs::metadata(rt, b)) {
         (Ok(a), Ok(b)) => identity_of(&a) == identity_of(&b),
-        _ => a == b,
+        _ => false,
     }
+}
+
+/// Returns whether these are two names of one file, also of one that isn't there yet.
+pub fn is_same_file(rt: &HostRuntime, a: &str, b: &str) -> bool {
+    let (folder, name) = folder_and_name(a);
+    let (other_folder, other_name) = folder_and_name(b);
+    are_same(rt, a, b) || (name == other_name && are_same(rt, folder, other_folder))
 }
 
 /// The files that a run reads: its logs, and its files of definitions. Pipes and terminals aren't among

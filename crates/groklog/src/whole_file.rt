@@ -2,7 +2,7 @@
 //! takes its place, so that whatever fails, even the system, the old file is as it was.
 
 use crate::inputs::Outcome;
-use crate::read_files::ReadFiles;
+use crate::read_files::{ReadFiles, folder_and_name};
 use groklog_input::{Failure, Fault, Report};
 use std::alloc::{AllocError, Global};
 use std::fs::{self, File, Metadata, OpenOptions};
@@ -98,11 +98,8 @@ fn is_link(rt: &HostRuntime, name: &str) -> bool {
 impl Replaced {
     /// Returns the folder that the file is in.
     fn folder(&self) -> &str {
-        match self.path.as_str().rsplit_once('/') {
-            Some(("", _)) => "/",
-            Some((folder, _)) => folder,
-            None => ".",
-        }
+        let (folder, _) = folder_and_name(self.path.as_str());
+        folder
     }
 
     /// Makes a new file beside it. If there is an old one, nobody else may read the new one yet.
