@@ -88,12 +88,12 @@ fn note_on_name(
     library: &Library<'_>,
     text: &PatternText,
 ) -> Result<Option<String>, AllocError> {
-    let Some(name) = bare_name(library, text.text.as_str()) else {
+    let (pattern, words) = (text.text.as_str(), text.words.as_str());
+    let Some(name) = bare_name(library, pattern) else {
         return Ok(None);
     };
-    let words = text.words.as_str();
     Ok(Some(format!(in alloc;
-        "{words} means the text {name} itself; for the definition of this name write '%{{{name}}}'"
+        "{words} means the text {pattern} itself; for the definition of this name write '%{{{name}}}'"
     )?))
 }
 
