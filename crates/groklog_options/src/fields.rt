@@ -1,6 +1,8 @@
 //! The keys of patterns that are written: those of `--fields`, or in records all of them.
-ghost use Rattle.std.specs.Prelude.{IfErr};
+ghost use Rattle.std.specs.Prelude.{◌≡◌, IfErr, IfOk, List, ℕ, None, Some, false, option_map};
 ghost use Rattle.groklog_options.specs.OptionFaults.{IsOptionFault};
+ghost use Rattle.groklog_options.specs.Tasks.{fields_of, has_records};
+ghost use denote.Ref.{Bor};
 
 use crate::keys::{check_list, key_set};
 use crate::task::Task;
@@ -28,7 +30,10 @@ pub fn chosen_fields<'p>(
     task: &Task<'p>,
     patterns: &'p [Pattern],
 ) -> Result<Option<Vec<&'p str>>, Fault>
-    ensures { IfErr result IsOptionFault }
+    ensures fault { IfErr result IsOptionFault }
+    ensures named { IfOk result (λ chosen. (keys : List (Bor (List ℕ))) → fields_of task.now ≡ Some keys
+        → option_map (λ names. names.items) chosen ≡ Some keys) }
+    ensures all { IfOk result (λ chosen. fields_of task.now ≡ None → has_records task.now ≡ false → chosen ≡ None) }
 {
     if let Some(fields) = task.fields() {
         check_list(alloc, patterns, "--fields", fields)?;
