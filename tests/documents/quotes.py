@@ -1,5 +1,5 @@
 #!/usr/bin/env python3
-"""Quotes the public calls of the library in crates/grok/CALLING.md, with their contracts as they stand in crates/grok/src.
+"""Quotes the public calls of the library in crates/grok/CALLING.md, with their contracts as they stand in the code.
 
     tests/documents/quotes.py       writes the quotes of that document again
 
@@ -16,6 +16,12 @@ sys.path.insert(0, os.path.dirname(os.path.abspath(__file__)) + "/..")
 from harness import ROOT, Wrong
 
 DOCUMENT = "crates/grok/CALLING.md"
+
+# The library, and the crate that its module `parser` is.
+CRATES = ["grok", "grok_parser"]
+
+# Public calls of that crate that the library doesn't export.
+INSIDE = ["fn malformation_at"]
 
 # What has braces that open and close nothing: comments, texts and characters.
 OPAQUE = re.compile(r"""//[^\n]*|r"[^"]*"|"(?:\\.|[^"\\])*"|'(?:\\u\{\w+\}|\\.|[^\\'\n])'""", re.S)
@@ -148,6 +154,11 @@ def calls(crate):
     return found
 
 
+def calls_of_library():
+    """The calls of the library, those of its module `parser` among them."""
+    return {key: call for crate in CRATES for key, call in calls(crate).items() if key not in INSIDE}
+
+
 def quoted_file(block):
     """A block of Rust with the line that links to its file: the file without its first comment."""
     text = read(os.path.normpath(f"{os.path.dirname(DOCUMENT)}/{block.group(2)}"))
@@ -156,7 +167,7 @@ def quoted_file(block):
 
 def written(document):
     """This text with its quotes as they have to be."""
-    known = calls("grok")
+    known = calls_of_library()
     named = []
 
     def quotes(block):

@@ -7,5 +7,4 @@ pub mod SettingOneName
 pub mod EntriesAreTable
 pub mod OneMoreInlineDefinition
 pub mod RoomIsLeft
-pub mod TextStandsAroundCharacter
 pub mod WrittenTextIsAppended

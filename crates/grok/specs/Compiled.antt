@@ -1,7 +1,7 @@
 -- What compiling a pattern returns.
 use Rattle.std.specs.Prelude.{◌≡◌, ◌≢◌, ℕ, ◌<◌, ◌^◌, Bool, List, [], ◌++◌, length, map, codes, Option, Some, None, Result, MatchResult}
 use Rattle.std.specs.FinMap as finite
-use Rattle.grok.specs.Texts.{IsFaultText}
+use Rattle.grok_parser.specs.Texts.{IsFaultText}
 use Rattle.grok.specs.Maps.{Texts}
 use Rattle.grok.specs.Tree.{Fault, MalformedPiece, Missing, TooDeep, Event, tree, first_structural}
 use Rattle.grok.specs.Keys.{TreeFault, Structural, Clash, first_fault, keys, capturing, extract_of}

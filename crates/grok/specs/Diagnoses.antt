@@ -11,14 +11,14 @@ use Rattle.grok.specs.Compiled.{expansion_of, Fits, CanBuild}
 use Rattle.grok.specs.FaultLocations.{Step, IsPieceAt, IsFaultOf, path_view}
 use Rattle.grok.specs.ByteLocations.{HasByte, IsByteLocation}
 use Rattle.grok.specs.ClashLocations.{IsClashAt}
-use Rattle.grok.specs.Malformations.{fault_of, IsMalformedAt}
+use Rattle.grok_parser.specs.Malformations.{fault_of, IsMalformedAt}
 use Rattle.grok.specs.Refusals.{IsAccepted, IsReasonFor, IsOfSyntax, IsOfBrackets}
 use Rattle.regex.specs.declared.error.Error.{Error}
 use Rattle.grok.specs.declared.location.Location.{Location}
 use Rattle.grok.specs.declared.locate_clash.Clash.{Clash}
 use Rattle.grok.specs.declared.locate_byte.WrittenByte.{WrittenByte}
 use Rattle.grok.specs.declared.locate_byte.WrittenByte.TheVariants.{Copied, OfGroup}
-use Rattle.grok.specs.declared.malformed.MalformedReason.{MalformedReason}
+use Rattle.grok_parser.specs.declared.malformed.MalformedReason.{MalformedReason}
 use Rattle.grok.specs.declared.why_refused.RefusalReason.{RefusalReason}
 use Rattle.grok.specs.declared.why_refused.RefusalReason.TheVariants.{Syntax, TooBig}
 use Rattle.grok.specs.declared.diagnose.Refused.{Refused}

@@ -1,7 +1,7 @@
 -- Where the first structural fault of a pattern stands: the placeholders that lead to it, and the byte range of the
 -- piece that has it.
 use Rattle.std.specs.Prelude.{◌≡◌, ℕ, zero, suc, List, [], ◌∷◌, ◌++◌, length, map, Option, Some, None}
-use Rattle.grok.specs.Pieces.{Piece, Regular, Placeholder, Malformed, pieces}
+use Rattle.grok_parser.specs.Pieces.{Piece, Regular, Placeholder, Malformed, pieces}
 use Rattle.grok.specs.Tree.{Definitions, Fault, TooDeep, Label, Meaning, Stored, Item, FaultItem, PlaceholderItem, items_of, events, inside, deepest, first_structural}
 use Rattle.grok.specs.declared.location.PathStep.{PathStep}
 use Rattle.grok.specs.declared.location.Location.{Location}

@@ -3,7 +3,7 @@ use Rattle.std.specs.Prelude.{◌≡◌, ◌↔◌, ℕ, zero, suc, ◌==◌, Bo
 use Rattle.std.specs.Option.{option_map}
 use Rattle.std.specs.Str.{bytes_eq}
 use Rattle.std.specs.Char.{is_ascii_digit}
-use Rattle.grok.specs.Ascii.{close_bracket, digit_zero, open_bracket}
+use Rattle.grok_parser.specs.Ascii.{close_bracket, digit_zero, open_bracket}
 use Rattle.grok.specs.Numeral.{numeral}
 use Rattle.grok.specs.Tree.{Definitions, is_absent, Label, Event, Text, Open, Close, FaultEvent, Fault, reached, first_structural, tree}
 

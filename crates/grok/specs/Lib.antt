@@ -1,11 +1,3 @@
-pub mod Ascii
-pub mod Pieces
-pub mod PlaceholderNames
-pub mod Views
-pub mod Grammar
-pub mod Tiles
-pub mod Joined
-pub mod Texts
 pub mod Numeral
 pub mod GeneratedNames
 pub mod Maps
@@ -37,20 +29,19 @@ pub mod CountedMeasures
 pub mod FaultLocations
 pub mod ByteLocations
 pub mod ClashLocations
-pub mod Malformations
 pub mod Diagnoses
 pub mod TreeLaws
 pub mod steps
 -- THE WORDS FOR CALLERS: every definition that a contract of a public call uses.
 -- pieces
-pub use Rattle.grok.specs.Pieces.{Piece, Regular, Placeholder, Malformed, Parts, pieces}
-pub use Rattle.grok.specs.Pieces.{is_name_byte, is_brace, pieces_at}
-pub use Rattle.grok.specs.PlaceholderNames.{is_name}
-pub use Rattle.grok.specs.Grammar.{ArePieces, NonePass}
-pub use Rattle.grok.specs.Views.{piece_view}
-pub use Rattle.grok.specs.Texts.{component_text, component_debug, fault_words, IsFaultText, IsPieceText}
-pub use Rattle.grok.specs.Tiles.{Tile}
-pub use Rattle.grok.specs.Joined.{AreRegular, AreWellFormed, joined_pieces}
+pub use Rattle.grok_parser.specs.Pieces.{Piece, Regular, Placeholder, Malformed, Parts, pieces}
+pub use Rattle.grok_parser.specs.Pieces.{is_name_byte, is_brace, pieces_at}
+pub use Rattle.grok_parser.specs.PlaceholderNames.{is_name}
+pub use Rattle.grok_parser.specs.Grammar.{ArePieces, NonePass}
+pub use Rattle.grok_parser.specs.Views.{piece_view}
+pub use Rattle.grok_parser.specs.Texts.{component_text, component_debug, fault_words, IsFaultText, IsPieceText}
+pub use Rattle.grok_parser.specs.Tiles.{Tile}
+pub use Rattle.grok_parser.specs.Joined.{AreRegular, AreWellFormed, joined_pieces}
 -- definitions, and the tree of a pattern
 -- (`Texts` of `Maps` is named by its path, since a file here has that name too)
 pub use Rattle.grok.specs.Maps.{texts_of, texts_code, set_all, pair_texts}
@@ -68,7 +59,7 @@ pub use Rattle.grok.specs.CountedMeasures.{IsCountedMeasure}
 pub use Rattle.grok.specs.FaultLocations.{IsFaultAt, IsFaultOf, path_view}
 pub use Rattle.grok.specs.ByteLocations.{HasByte, IsEventAt, IsByteLocation, LocatesByte}
 pub use Rattle.grok.specs.ClashLocations.{HasKeyAt, IsClashAt}
-pub use Rattle.grok.specs.Malformations.{IsMalformedAt}
+pub use Rattle.grok_parser.specs.Malformations.{IsMalformedAt}
 pub use Rattle.grok.specs.Diagnoses.{FindsDiagnosis, IsDiagnosis, IsFine, IsFirstStructural, IsFirstMalformed, IsFirstClashOf, IsRefusedAs, IsBlamed, IsRefusedPart, IsInnermost, AreNotToBlame, IsNotToBlame, IfPlaceholder, IfRefused, LeadsTo, IsTooLong, LocatesReason, IsOriginOf}
 -- errors, and what compiling returns
 pub use Rattle.grok.specs.Items.{fault_view}

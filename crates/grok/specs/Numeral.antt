@@ -1,7 +1,7 @@
 -- Numbers in decimal.
 use Rattle.std.specs.Prelude.{ℕ, zero, suc, ◌+◌, List, codes, map}
 use Rattle.std.specs.Int.Digits.{digits_of}
-use Rattle.grok.specs.Ascii.{digit_zero}
+use Rattle.grok_parser.specs.Ascii.{digit_zero}
 
 -- A number in decimal, of any length. (std's `decimal` has at most 64 digits, and a tree may have more
 -- placeholders than that can count.)

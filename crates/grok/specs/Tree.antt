@@ -2,8 +2,8 @@
 -- order.
 use Rattle.std.specs.Prelude.{ℕ, zero, suc, Bool, true, false, not, ◌&&◌, List, [], ◌∷◌, ◌++◌, if◌then◌else◌, Option, Some, None}
 use Rattle.std.specs.Str.{bytes_eq}
-use Rattle.grok.specs.declared.parser.GrokPatternError.{GrokPatternError}
-use Rattle.grok.specs.Pieces.{Parts, Piece, Regular, Placeholder, Malformed, pieces}
+use Rattle.grok_parser.specs.declared.malformed.GrokPatternError.{GrokPatternError}
+use Rattle.grok_parser.specs.Pieces.{Parts, Piece, Regular, Placeholder, Malformed, pieces}
 
 -- ---- what pieces stand for
 

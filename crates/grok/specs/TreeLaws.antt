@@ -1,6 +1,6 @@
 -- Laws of the definitions of placeholders, and of the faults of a tree.
 use Rattle.std.specs.Prelude.{codes, ◌≡◌, ◌⊎◌, ℕ, suc, ◌+◌, Bool, true, false, List, [], ◌∷◌, ◌++◌, length, Some, None, slice_get}
-use Rattle.grok.specs.Pieces.{Parts, Piece, Regular, Placeholder, Malformed, pieces}
+use Rattle.grok_parser.specs.Pieces.{Parts, Piece, Regular, Placeholder, Malformed, pieces}
 use Rattle.grok.specs.Tree.{Definitions, is_absent, Fault, Missing, label_of, Inline, resolved, PlaceholderItem, items_of, Event, Text, Open, Close, FaultEvent, tree, first_structural, reached}
 use Rattle.grok.specs.GeneratedNames.{named_head, unnamed_head}
 use Rattle.grok.specs.Expanded.{expanded}

@@ -6,8 +6,6 @@ pub mod CountedUses
 pub mod FirstClashes
 pub mod TreeClashes
 pub mod UseSearches
-pub mod Rest
-pub mod Readings
 pub mod KeyRanges
 pub mod Spans
 pub mod Sources

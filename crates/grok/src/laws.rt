@@ -7,10 +7,9 @@ ghost use Rattle.grok.specs.Named.{NoneNames};
 
 pub mod answers;
 pub mod keys;
-mod splitting;
 pub mod tree;
 
-pub use splitting::pieces;
+pub use grok_parser::laws::pieces;
 
 /// Laws of the definitions of a library.
 ///

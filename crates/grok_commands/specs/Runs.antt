@@ -4,7 +4,7 @@ use Rattle.std.specs.Io.KnownBytes.{Appends, Keeps}
 use Rattle.std.specs.FinMap as finite
 use Rattle.grok.specs.Strings.{regex_source, regex_names}
 use Rattle.grok.specs.declared.engine.regex_engine.RegexEngine.{RegexEngine}
-use Rattle.grok.specs.Pieces.{Piece, pieces}
+use Rattle.grok_parser.specs.Pieces.{Piece, pieces}
 use Rattle.grok.specs.Maps.{Texts}
 use Rattle.grok.specs.Engines.{engine_regex}
 use Rattle.grok.specs.RegexFinds.{captures_by, IsReadByDefault, MayRefuse}

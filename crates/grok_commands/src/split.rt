@@ -1,8 +1,8 @@
 //! The answers of `split`.
 ghost use Rattle.std.specs.Prelude.{◌≡◌, ◌⊎◌, OnOk, IfOk, IfErr, IsErrOf, string_bytes};
 ghost use Rattle.std.specs.Io.KnownBytes.{append_known};
-ghost use Rattle.grok.specs.Pieces.{pieces};
-ghost use Rattle.grok.specs.Views.{piece_view};
+ghost use Rattle.grok_parser.specs.Pieces.{pieces};
+ghost use Rattle.grok_parser.specs.Views.{piece_view};
 ghost use Rattle.grok_lines.specs.Errors.{IsWriteError};
 ghost use Rattle.grok_commands.specs.Answers.{HasAnswered, HasAnsweredFirst};
 ghost use Rattle.grok_commands.specs.Split.{IsPieceLine};

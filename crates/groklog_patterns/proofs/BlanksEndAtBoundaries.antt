@@ -4,7 +4,7 @@ use Rattle.std.specs.List.{prefix_len}
 use Rattle.std.specs.Str.{IsUtf8, IsCharBoundary}
 use Rattle.std.proofs.lemmas.List.Sums.{prefix_len-le-length, prefix_len_passes}
 use Rattle.std.proofs.lemmas.Bool.Decides.{nat_tests}
-use Rattle.grok.proofs.Pieces.RunsEndAtBoundaries.{IsCharBoundary-after_run}
+use Rattle.grok_parser.proofs.RunsEndAtBoundaries.{IsCharBoundary-after_run}
 use Rattle.groklog_patterns.specs.DefinitionTexts.{is_blank}
 
 blank_ascii : (b : ℕ) → is_blank b ≡ true → b < 128

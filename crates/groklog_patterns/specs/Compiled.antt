@@ -1,5 +1,5 @@
 -- What the pattern of a user is compiled to, or reported as.
-use Rattle.std.specs.Prelude.{◌≢◌, ℕ, ◌<◌, Bool, true, false, ⊤, ◌⊎◌, string_bytes}
+use Rattle.std.specs.Prelude.{◌≢◌, ◌<◌, Bool, true, false, ⊤, ◌⊎◌, string_bytes}
 use Rattle.grok.specs.Maps.{Texts}
 use Rattle.grok.specs.Answers.{PatternValue}
 use Rattle.grok.specs.Compiled.{IsPatternOf, IsCompileError, expansion_of}

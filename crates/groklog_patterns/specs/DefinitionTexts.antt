@@ -2,8 +2,8 @@
 use Rattle.std.specs.Prelude.{ℕ, Bool, false, ◌==◌, ◌||◌, ◌&&◌, not, List, [], ◌∷◌, Option, Some, None, if◌then◌else◌, length, drop}
 use Rattle.std.specs.Option.{option_map}
 use Rattle.std.specs.List.{prefix_len, take_while}
-use Rattle.grok.specs.Ascii.{equals_sign}
-use Rattle.grok.specs.Pieces.{is_name_byte}
+use Rattle.grok_parser.specs.Ascii.{equals_sign}
+use Rattle.grok_parser.specs.Pieces.{is_name_byte}
 
 -- The byte is a space or a tab.
 abbrev pub is_blank : ℕ → Bool

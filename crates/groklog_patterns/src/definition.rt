@@ -1,7 +1,7 @@
 //! Reads a definition as users write it, in a line of a file or in a word after `-D`.
 ghost use Rattle.std.specs.Prelude.{◌≡◌, drop, option_map};
 ghost use Rattle.std.specs.List.{prefix_len};
-ghost use Rattle.grok.specs.Ascii.{equals_sign};
+ghost use Rattle.grok_parser.specs.Ascii.{equals_sign};
 ghost use Rattle.grok.specs.Maps.{pair_texts};
 ghost use Rattle.groklog_patterns.specs.DefinitionTexts.{is_blank, without_blanks, begins_with, definition_after_blanks, definition_after, definition_of, is_spaced, name_of_spaced};
 

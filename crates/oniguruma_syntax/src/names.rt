@@ -3,7 +3,7 @@
 ghost use Rattle.std.specs.Prelude.{◌≡◌};
 ghost use Rattle.oniguruma_syntax.specs.Forms.{begins_name, continues_name, is_group_name};
 
-use grok::parser::{GrokComponent, grok_split};
+use grok_parser::parser::{GrokComponent, grok_split};
 use std::alloc::{AllocError, Global};
 
 /// The name of the inline definitions.

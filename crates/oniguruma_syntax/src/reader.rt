@@ -6,7 +6,7 @@ use crate::cut::split_after;
 use crate::flags::sets_extended;
 use crate::scan::{Mode, next_token};
 use crate::token::{Form, Mark, Node, Opening, Placeholder, Token};
-use grok::parser::{GrokComponent, grok_split};
+use grok_parser::parser::{GrokComponent, grok_split};
 use std::alloc::{AllocError, Global};
 
 /// A placeholder, and the byte of the text where it begins.

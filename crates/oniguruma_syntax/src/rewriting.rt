@@ -1,7 +1,6 @@
 //! Rewrites a text that was made for Oniguruma.
 ghost use Rattle.std.specs.Prelude.{IfOk};
-ghost use Rattle.grok.specs.Locations.{IsLocationIn};
-ghost use Rattle.oniguruma_syntax.specs.Outcomes.{IsOutcomeOf};
+ghost use Rattle.oniguruma_syntax.specs.Outcomes.{IsOutcomeOf, IsPartOf};
 
 use crate::reader::read;
 use crate::refusal::{Refused, Stop};
@@ -100,7 +99,7 @@ fn rewrite_all(alloc: Global, text: &str, wish: Wish) -> Result<Option<Rewritten
 /// of the text.
 #[tactic(auto, using(crate::proofs::EndsOfTexts::end_of_text))]
 fn range_in(text: &str, range: Range<usize>) -> Range<usize>
-    ensures { IsLocationIn text.now (result.start, result.end) }
+    ensures { IsPartOf text.now result.start result.end }
 {
     let Range { start, end } = range;
     if start <= end && text.is_char_boundary(start) && text.is_char_boundary(end) {

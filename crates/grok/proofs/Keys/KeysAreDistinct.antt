@@ -10,8 +10,8 @@ use Rattle.std.proofs.lemmas.Bool.{true≢false, cases_eq, cases_Bool, ne_eqb}
 use Rattle.std.proofs.lemmas.List.{append_cancel_right}
 use Rattle.std.proofs.lemmas.List.Sums.{sum_by-cons}
 use Rattle.std.proofs.lemmas.Int.Digits.{all_below_base_digits_of, same_from_digits_of}
-use Rattle.grok.specs.Pieces.{is_name_byte, Parts, Piece, Regular, Placeholder, Malformed, pieces}
-use Rattle.grok.specs.Grammar.{AllPass, ArePieces}
+use Rattle.grok_parser.specs.Pieces.{is_name_byte, Parts, Piece, Regular, Placeholder, Malformed, pieces}
+use Rattle.grok_parser.specs.Grammar.{AllPass, ArePieces}
 use Rattle.grok.specs.Tree.{Definitions, no_definitions, with_written, resolved, label_of, items_after, Item, TextItem, FaultItem, PlaceholderItem, items_of, events, inside, deepest, tree, meaning_text, Label, Event, Text, Open, Close, FaultEvent, is_absent, first_structural, reached}
 use Rattle.grok.specs.Keys.{is_capturing, base_key, numbered, key_after, keys_after, keys, capturing, how_often, is_among, first_fault_after, Structural, Clash, ends_in_number, has_numbered_alias, AreDistinct, ClashNeedsNumber, KeysAreDistinct}
 use Rattle.grok.specs.FirstFault.{OtherFaultIsStructural}
@@ -19,7 +19,7 @@ use Rattle.grok.specs.Numeral.{numeral}
 use Rattle.grok.specs.steps.CapturedSoFar.{taken_of}
 use Rattle.grok.proofs.Keys.NumberedKeysEndInNumber.{numbered_ends}
 use Rattle.grok.proofs.Texts.EqualBytesAreSameText.{same_text, text_same}
-use Rattle.grok.proofs.Pieces.PiecesAreUnique.{pieces_are}
+use Rattle.grok_parser.proofs.PiecesAreUnique.{pieces_are}
 
 -- ---- the last bracket
 unfoldable pub opens_bracket : List ℕ → Bool

@@ -3,7 +3,7 @@ use Rattle.std.proofs.Common.{◌≡◌, ℕ, List, [], ◌∷◌, ◌++◌, map
 use Rattle.std.specs.List.{All}
 use Rattle.std.proofs.lemmas.List.{map-append}
 use Rattle.grok.specs.declared.defs.spans.Span.{Span}
-use Rattle.grok.specs.Pieces.{Piece}
+use Rattle.grok_parser.specs.Pieces.{Piece}
 use Rattle.grok.specs.steps.Spans.{piece_in}
 
 pub one_more : (T : List ℕ) (spans : List Span) (span : Span) (p : Piece) (items rest all : List Piece) → map (piece_in T) spans ++ items ≡ all → items ≡ p ∷ rest → piece_in T span ≡ p → map (piece_in T) (spans ++ span ∷ []) ++ rest ≡ all

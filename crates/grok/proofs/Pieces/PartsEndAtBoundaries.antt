@@ -6,11 +6,11 @@ use Rattle.std.proofs.Math.Seq.{drop-append_seam, take-append_seam}
 use Rattle.std.proofs.lemmas.Str.{IsCharBoundary-start, IsCharBoundary-end, IsCharBoundary-after_ascii, IsCharBoundary-before_ascii}
 use Rattle.std.proofs.lemmas.List.Elements.{All-nil, All-cons}
 use Rattle.std.proofs.lemmas.Bool.Decides.{nat_tests}
-use Rattle.grok.specs.Pieces.{Parts, Piece, Regular, Placeholder, Malformed, pieces}
-use Rattle.grok.specs.Grammar.{or_empty, MayStand, HasByteAt, IsRegularPiece, Plain, Last, Percent, IsPlaceholder, ArePieces}
+use Rattle.grok_parser.specs.Pieces.{Parts, Piece, Regular, Placeholder, Malformed, pieces}
+use Rattle.grok_parser.specs.Grammar.{or_empty, MayStand, HasByteAt, IsRegularPiece, Plain, Last, Percent, IsPlaceholder, ArePieces}
 use Rattle.grok.specs.steps.Spans.{range_from, text_in, IsRangeOf, IsPartAt, PartsStand, PieceStands, IsPieceOf}
-use Rattle.grok.proofs.Pieces.WrittenPlaceholderIsRead.{after_name, last_byte, last_rest, written_is}
-use Rattle.grok.proofs.Pieces.PiecesAreUnique.{regular_within, placeholder_within, pieces_are}
+use Rattle.grok_parser.proofs.WrittenPlaceholderIsRead.{after_name, last_byte, last_rest, written_is}
+use Rattle.grok_parser.proofs.PiecesAreUnique.{regular_within, placeholder_within, pieces_are}
 
 -- a part that begins at a character boundary and is followed by an ASCII byte
 pub record EndsBefore (T : List ℕ) (from : ℕ) (part rest : List ℕ) : Type 0 where

@@ -2,12 +2,12 @@
 use Rattle.std.proofs.Common.{◌≡◌, ℕ, suc, Bool, true, false, cond, ◌&&◌, List, [], ◌∷◌, length, Option, Some, None, refl, sym, ◌∙◌, ap, subst, arith, length-append}
 use Rattle.std.specs.Prelude.{not}
 use Rattle.std.specs.Str.{bytes_eq}
-use Rattle.grok.specs.Pieces.{Parts, Piece, Regular, Placeholder, Malformed, pieces, is_brace}
-use Rattle.grok.specs.Grammar.{NonePass, MayDefine, or_empty, ArePieces}
-use Rattle.grok.specs.Joined.{joined_pieces, AreRegular}
+use Rattle.grok_parser.specs.Pieces.{Parts, Piece, Regular, Placeholder, Malformed, pieces, is_brace}
+use Rattle.grok_parser.specs.Grammar.{NonePass, MayDefine, or_empty, ArePieces}
+use Rattle.grok_parser.specs.Joined.{joined_pieces, AreRegular}
 use Rattle.grok.specs.Tree.{Definitions, no_definitions, with_written, resolved, label_of, is_absent, items_after, items_of, Item}
-use Rattle.grok.proofs.Pieces.PiecesAreUnique.{pieces_are}
-use Rattle.grok.proofs.Pieces.PieceLaws.{regular_pieces}
+use Rattle.grok_parser.proofs.PiecesAreUnique.{pieces_are}
+use Rattle.grok_parser.proofs.PieceLaws.{regular_pieces}
 use Rattle.grok.proofs.Sizes.TextsWithoutPlaceholders.{AreBytes, bytes_in, IsFlat, AreSound, IsSound}
 
 -- there are as many items as pieces

@@ -2,21 +2,21 @@
 use Rattle.std.proofs.Common.{◌≡◌, ℕ, Bool, List, [], ◌∷◌, ◌++◌, length, Option, Some, None, sym, ◌∙◌, ap, subst, arith}
 use Rattle.std.specs.Option.{option_map}
 use Rattle.std.specs.FinMap as finite
-use Rattle.grok.specs.declared.parser.GrokPatternError.{GrokPatternError}
+use Rattle.grok_parser.specs.declared.malformed.GrokPatternError.{GrokPatternError}
 use Rattle.grok.specs.Maps.{Texts}
-use Rattle.grok.specs.Pieces.{Piece, Regular, Placeholder, Malformed, Parts}
-use Rattle.grok.specs.Grammar.{ArePieces}
+use Rattle.grok_parser.specs.Pieces.{Piece, Regular, Placeholder, Malformed, Parts}
+use Rattle.grok_parser.specs.Malformations.{HasMalformedAt}
+use Rattle.grok_parser.specs.Grammar.{ArePieces}
 use Rattle.grok.specs.Tree.{Definitions, no_definitions, with_written, label_of, Fault, MalformedPiece, Item, FaultItem, resolved, items_after, tree, first_structural}
 use Rattle.grok.specs.Keys.{TreeFault, Structural, Clash, first_fault}
 use Rattle.grok.specs.FaultLocations.{Step, end_of_all, IsPieceAt, IsOwnFault, IsFaultAt, IsFaultOf}
 use Rattle.grok.specs.FaultLocations as faults
 use Rattle.grok.specs.ClashLocations.{IsFirstClash}
-use Rattle.grok.specs.steps.Readings.{HasMalformedAt}
 use Rattle.grok.specs.Diagnoses.{IsFirstStructural}
 use Rattle.grok.specs.declared.location.Location.{Location}
 use Rattle.grok.specs.declared.locate_clash.Clash as found
 use Rattle.grok.proofs.Keys.KeysAreDistinct.{other_fault_is_structural}
-use Rattle.grok.proofs.Pieces.PiecesAreUnique.{pieces_are}
+use Rattle.grok_parser.proofs.PiecesAreUnique.{pieces_are}
 
 -- if no clash is found, the first fault is none
 pub no_clash : (first : Option TreeFault) (clash : Option found.Clash) → IsFirstClash first clash → clash ≡ None → (key : List ℕ) → first ≡ Some (Clash key) → ⊥

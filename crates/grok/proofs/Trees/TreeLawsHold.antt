@@ -5,7 +5,7 @@ use Rattle.std.specs.Prelude.{not, nat_lt, slice_get}
 use Rattle.std.specs.Str.{bytes_eq}
 use Rattle.std.proofs.lemmas.Bool.{true≢false}
 use Rattle.std.proofs.lemmas.Slice.Eq.{bytes_eq-Decides}
-use Rattle.grok.specs.Pieces.{Parts, Piece, Regular, Placeholder, Malformed, pieces}
+use Rattle.grok_parser.specs.Pieces.{Parts, Piece, Regular, Placeholder, Malformed, pieces}
 use Rattle.grok.specs.Tree.{Definitions, no_definitions, with_written, is_absent, Fault, Missing, Label, label_of, Inline, Stored, resolved, placeholder_item, items_after, items_of, Item, Event, Text, Open, Close, FaultEvent, events, inside, deepest, tree, first_structural, reached}
 use Rattle.grok.specs.Measured.{Faulty, Sized, TooLong, size_within, fault_or, reaches}
 use Rattle.grok.specs.Expanded.{text_after, expanded, groups, nesting}

@@ -2,7 +2,7 @@
 use Rattle.std.proofs.Common.{◌≡◌, ℕ, cond, false, List, [], ◌∷◌, Some, None, refl}
 use Rattle.std.specs.Prelude.{codes}
 use Rattle.std.specs.Str.{bytes_eq}
-use Rattle.grok.specs.Pieces.{pieces_after, first_piece, regular_len, regular_skip, placeholder_at, alias_at, extract_at, close_at, definition_at, word_at}
+use Rattle.grok_parser.specs.Pieces.{pieces_after, first_piece, regular_len, regular_skip, placeholder_at, alias_at, extract_at, close_at, definition_at, word_at}
 use Rattle.grok.specs.Tree.{Definitions, tree, no_definitions}
 use Rattle.grok.specs.Keys.{keys, capturing, first_fault, Clash}
 use Rattle.grok.specs.Expanded.{expanded}

@@ -1,7 +1,7 @@
 -- What was read of a text whose items are taken with their byte ranges.
 use Rattle.std.specs.Prelude.{◌≡◌, List, ◌++◌, length, Some}
 use Rattle.std.specs.FinMap as finite
-use Rattle.grok.specs.Pieces.{Piece, pieces}
+use Rattle.grok_parser.specs.Pieces.{Piece, pieces}
 use Rattle.grok.specs.Tree.{Definitions, Stored, Inline, Item, TextItem, FaultItem, PlaceholderItem, items_of, items_after}
 use Rattle.grok.specs.Items.{written_in}
 use Rattle.grok.specs.FaultLocations.{end_of_all}

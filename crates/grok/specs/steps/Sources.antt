@@ -2,7 +2,7 @@
 use Rattle.std.specs.Prelude.{List, All, map}
 use Rattle.grok.specs.declared.defs.pieces.Source.{Source}
 use Rattle.grok.specs.declared.defs.pieces.Source.TheVariants.{Split, Kept}
-use Rattle.grok.specs.Pieces.{Piece}
+use Rattle.grok_parser.specs.Pieces.{Piece}
 use Rattle.grok.specs.steps.Spans.{piece_in, IsSpanOf}
 
 -- the remaining pieces

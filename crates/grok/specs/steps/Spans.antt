@@ -4,7 +4,7 @@ use Rattle.grok.specs.declared.defs.spans.TextRange.{TextRange}
 use Rattle.grok.specs.declared.defs.spans.PartRanges.{PartRanges}
 use Rattle.grok.specs.declared.defs.spans.Span.{Span}
 use Rattle.grok.specs.declared.defs.spans.Span.TheVariants.{Regular, Placeholder, Malformed}
-use Rattle.grok.specs.Pieces as spec
+use Rattle.grok_parser.specs.Pieces as spec
 
 -- ---- reading a span
 

@@ -1,11 +1,11 @@
 //! The pieces of a text, whether it is split now or was split before.
 ghost use Rattle.std.specs.Prelude.{◌≡◌};
-ghost use Rattle.grok.specs.Pieces.{pieces};
-ghost use Rattle.grok.specs.Views.{piece_view};
+ghost use Rattle.grok_parser.specs.Pieces.{pieces};
+ghost use Rattle.grok_parser.specs.Views.{piece_view};
 
 use crate::defs::definition::Definition;
 use crate::defs::spans::{Span, read_span};
-use crate::parser::{GrokComponent, GrokSplit, grok_split};
+use grok_parser::parser::{GrokComponent, GrokSplit, grok_split};
 use std::marker::Model;
 
 /// Where the pieces come from.
@@ -24,7 +24,7 @@ pub(crate) struct Pieces<'a> {
 // Contracts see the remaining pieces.
 impl<'a> Model for Pieces<'a> {
     ghost use Rattle.std.specs.Prelude.{List};
-    ghost use Rattle.grok.specs.Pieces.{Piece};
+    ghost use Rattle.grok_parser.specs.Pieces.{Piece};
 
     ghost Value = { List Piece };
 

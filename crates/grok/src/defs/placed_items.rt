@@ -3,7 +3,7 @@ ghost use Rattle.std.specs.Prelude.{◌≡◌, [], ◌∷◌, ◌++◌, List, If
 ghost use Rattle.std.specs.FinMap as finite;
 ghost use Rattle.grok.specs.Tree.{Definitions, Item as ItemView, items_of, meaning_text};
 ghost use Rattle.grok.specs.Items.{item_view, meaning_view};
-ghost use Rattle.grok.specs.Views.{piece_view};
+ghost use Rattle.grok_parser.specs.Views.{piece_view};
 ghost use Rattle.grok.specs.FaultLocations.{IsPieceAt, end_of};
 ghost use Rattle.grok.specs.steps.PlacedItems.{HasRead, IsOfLibrary, left_in};
 
@@ -11,7 +11,7 @@ use crate::defs::Grok;
 use crate::defs::definition::Definition;
 use crate::defs::items::{Item, Meaning, item_of};
 use crate::defs::pieces::{Pieces, pieces_kept, pieces_of};
-use crate::parser::GrokComponent;
+use grok_parser::parser::GrokComponent;
 use std::alloc::AllocError;
 use std::collections::BTreeMap;
 use std::mem;

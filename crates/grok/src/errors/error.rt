@@ -2,14 +2,14 @@
 ghost use Rattle.std.specs.Prelude.{◌≡◌, IfOk, Some, string_bytes};
 ghost use Rattle.grok.specs.Errors.{error_value, error_text};
 ghost use Rattle.grok.specs.declared.errors.error.Error.TheVariants.{Memory};
-ghost use Rattle.grok.specs.Texts.{IsFaultText};
+ghost use Rattle.grok_parser.specs.Texts.{IsFaultText};
 ghost use Rattle.grok.specs.Items.{fault_view};
 ghost use Rattle.grok.specs.Keys.{Clash};
 ghost use Rattle.grok.specs.Compiled.{IsFaultError, IsErrorOf, error_of_refusal};
 
 use crate::engine::Refusal;
 use crate::errors::fault::Fault;
-use crate::parser::GrokPatternError;
+use grok_parser::parser::GrokPatternError;
 use std::alloc::{AllocError, AllocFailed, Global};
 use std::{error, fmt};
 

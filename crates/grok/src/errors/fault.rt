@@ -1,6 +1,6 @@
 //! Faults of a pattern that are found before any engine reads it.
 
-use crate::parser::GrokPatternError;
+use grok_parser::parser::GrokPatternError;
 
 /// How many placeholders may be nested in one another: the outermost one and 1,022 further levels. One
 /// more is [`Fault::TooDeep`].

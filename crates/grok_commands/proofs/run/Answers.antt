@@ -1,7 +1,7 @@
 use Rattle.std.proofs.Common.{◌≡◌, ◌⊎◌, inl, inr, ℕ, List, Option, Some, None, Result, Ok, Err, OnOk, IfErr, IsErrOf, map, refl, subst}
 use Rattle.std.specs.FinMap as finite
 use Rattle.std.specs.Io.KnownBytes.{Keeps}
-use Rattle.grok.specs.Pieces.{pieces}
+use Rattle.grok_parser.specs.Pieces.{pieces}
 use Rattle.grok_commands.specs.Answers.{HasAnswered, HasAnsweredFirst}
 use Rattle.grok_commands.specs.Commands.{CommandValue, Split, Check, texts, command_of}
 use Rattle.grok_commands.specs.Library.{library_of}

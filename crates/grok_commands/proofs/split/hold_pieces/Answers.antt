@@ -1,7 +1,7 @@
 use Rattle.std.proofs.Common.{rules, string_bytes}
 use Rattle.std.specs.Io.KnownBytes.{Appends, append_known}
-use Rattle.grok.specs.Pieces.{pieces}
-use Rattle.grok.specs.Views.{piece_view}
+use Rattle.grok_parser.specs.Pieces.{pieces}
+use Rattle.grok_parser.specs.Views.{piece_view}
 use Rattle.grok_commands.specs.Split.{IsPieceLine}
 use Rattle.grok_commands.proofs.FirstAnswersHaveGoneOut.{answered_step}
 use Rattle.grok_commands.proofs.split.hold_pieces.Goals as goal

@@ -1,5 +1,5 @@
 use Rattle.std.specs.Io.KnownBytes.{append_known}
-use Rattle.grok.specs.Pieces.{pieces}
+use Rattle.grok_parser.specs.Pieces.{pieces}
 use Rattle.grok_commands.specs.Split.{IsPieceLine}
 use Rattle.grok_commands.proofs.FirstAnswersHaveGoneOut.{Answered}
 use Rattle.grok_commands.proofs.split.hold_pieces.Given as goal

@@ -1,8 +1,8 @@
 use Rattle.std.proofs.Common.{◌≡◌, ℕ, List, ◌∷◌, sym, ◌∙◌, ap, subst, rules}
 use Rattle.std.specs.FinMap as finite
 use mathlib.Core.Path.{fun_ext}
-use Rattle.grok.specs.Pieces.{Parts, Piece, Placeholder}
-use Rattle.grok.specs.Views.{piece_view}
+use Rattle.grok_parser.specs.Pieces.{Parts, Piece, Placeholder}
+use Rattle.grok_parser.specs.Views.{piece_view}
 use Rattle.grok.specs.Tree.{Definitions, Item, items_after, with_written, resolved, label_of}
 use Rattle.grok.specs.Items.{item_view, written_in}
 use Rattle.grok.proofs.defs.items.item_of.Goals as goal

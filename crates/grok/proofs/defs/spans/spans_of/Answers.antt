@@ -1,8 +1,8 @@
 use Rattle.std.proofs.Common.{◌≡◌, ◌∷◌, subst}
 use Rattle.std.specs.List.{All}
 use Rattle.std.proofs.lemmas.List.Elements.{All-nil, All-push}
-use Rattle.grok.specs.Pieces.{pieces}
-use Rattle.grok.specs.Views.{piece_view}
+use Rattle.grok_parser.specs.Pieces.{pieces}
+use Rattle.grok_parser.specs.Views.{piece_view}
 use Rattle.grok.specs.steps.Spans.{IsSpanOf, IsPieceOf}
 use Rattle.grok.proofs.Pieces.PartsEndAtBoundaries.{pieces_stand}
 use Rattle.grok.proofs.Pieces.OneMoreSpan.{one_more, All-later}

@@ -1,6 +1,6 @@
 use Rattle.std.proofs.Common.{◌≡◌, ◌++◌, map}
 use Rattle.std.specs.List.{All}
-use Rattle.grok.specs.Pieces.{pieces}
+use Rattle.grok_parser.specs.Pieces.{pieces}
 use Rattle.grok.specs.steps.Spans.{piece_in, IsSpanOf, IsPieceOf}
 use Rattle.grok.proofs.defs.spans.spans_of.Given as goal
 

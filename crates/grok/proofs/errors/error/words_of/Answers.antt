@@ -1,5 +1,5 @@
 use Rattle.std.proofs.Common.{refl, sym, subst}
-use Rattle.grok.specs.Texts.{IsFaultText}
+use Rattle.grok_parser.specs.Texts.{IsFaultText}
 use Rattle.grok.proofs.Texts.WrittenTextIsAppended.{written_is_appended}
 use Rattle.grok.proofs.errors.error.words_of.Goals as goal
 

@@ -1,8 +1,8 @@
 use Rattle.std.proofs.Common.{◌≡◌, ℕ, List, [], ◌∷◌, ◌++◌, refl, sym, ◌∙◌, ap, subst, arith, append_assoc, length-append}
 use Rattle.std.specs.FinMap as finite
-use Rattle.grok.specs.Pieces.{Piece}
+use Rattle.grok_parser.specs.Pieces.{Piece}
 use Rattle.grok.specs.Tree.{Definitions, Inline, Stored, Item, TextItem, FaultItem, PlaceholderItem, items_of, items_after}
-use Rattle.grok.specs.Views.{piece_view}
+use Rattle.grok_parser.specs.Views.{piece_view}
 use Rattle.grok.specs.Items.{item_view, written_in}
 use Rattle.grok.specs.FaultLocations.{end_of, end_of_all}
 use Rattle.grok.specs.steps.PlacedItems.{IsOfLibrary, left_in}

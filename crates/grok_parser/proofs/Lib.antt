@@ -1,0 +1,14 @@
+pub mod RunsEndAtBoundaries
+pub mod WordEndsDecideFaults
+pub mod TextBeginsWithOpening
+pub mod RestIsSuffix
+pub mod FirstPieceAndRest
+pub mod WorkedSplits
+pub mod RegularPieces
+pub mod WrittenPlaceholderIsRead
+pub mod ReadPlaceholderIsWritten
+pub mod PlaceholderFaults
+pub mod PiecesAreUnique
+pub mod PieceLaws
+pub mod MalformedHasReason
+pub mod TextStandsAroundCharacter

@@ -1,0 +1,3 @@
+-- Definitions that only private functions use.
+pub mod Rest
+pub mod Readings
