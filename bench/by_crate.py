@@ -1,11 +1,13 @@
 #!/usr/bin/env python3
-"""Runs a command that proves crates, and prints the processor seconds of each crate: its proof, that of its tests, and its edits.
+"""Runs a command that proves crates, and prints the processor seconds of each crate: its proof, that of its tests, and its edits. Then
+it prints those of each edit, the dearest first.
 
     bench/by_crate.py COMMAND [WORD]..
 
 For instance `bench/by_crate.py rt ci`, or `bench/by_crate.py bin/groklog --version`. It looks at the provers once a second, so the
-last second of each is missing. `rt ci` tries the edits of a crate over a second proof of it, which has a column of its own. The last
-row has the seconds of the whole command, the programs and scripts that it runs among them.
+last second of each is missing. `rt ci` tries the edits of a crate over a second proof of it, which has a column of its own, and then
+proves the crate once more, to see that what the edits left is sound. The last row has the seconds of the whole command, the programs
+and scripts that it runs among them.
 """
 import collections
 import os
@@ -18,10 +20,11 @@ import time
 TICKS = os.sysconf("SC_CLK_TCK")
 PROVERS = ("rattle", "antt-kernel", "clang", "ld.lld")
 KINDS = ("proof", "tests", "second", "edits")
+ROOT = os.path.dirname(os.path.dirname(os.path.realpath(__file__)))
 
 
 def work_of(process):
-    """The crate that a prover is at, and the kind of its work, or None if this process is none."""
+    """The crate that a prover is at, the kind of its work, and the number of the edit, or None if this process is none."""
     with open(f"/proc/{process}/comm", encoding="utf-8") as file:
         if not file.read().startswith(PROVERS):
             return None
@@ -31,9 +34,9 @@ def work_of(process):
     inside = re.search(r"/crates/(\w+)", folder)
     name = words[words.index("--crate-name") + 1] if "--crate-name" in words else inside and inside[1]
     if "/rt-edit-" in folder:
-        kept = words[words.index("--incremental") + 1] if "--incremental" in words else ""
-        return name, "second" if kept.endswith("/seed") else "edits"
-    return name, "tests" if "--test" in words else "proof"
+        kept = os.path.basename(words[words.index("--incremental") + 1]) if "--incremental" in words else ""
+        return (name, "second", "") if kept == "seed" else (name, "edits", kept)
+    return name, "tests" if "--test" in words else "proof", ""
 
 
 def look(session, works, seconds):
@@ -62,6 +65,18 @@ def table(works, seconds):
         print(f"| `{name}` |", " | ".join(f"{row[kind]:.0f}" if row[kind] >= 0.5 else "" for kind in KINDS), "|")
 
 
+def dearest_edits(works, seconds):
+    """A row for each edit, the dearest first."""
+    sums = collections.Counter()
+    for each, work in works.items():
+        if work and work[1] == "edits" and work[2].isdigit():
+            sums[work] += seconds[each]
+    print("\n| Edit | Seconds |\n|---|---|")
+    for (name, _, number), time_taken in sums.most_common():
+        edits = sorted(it for it in os.listdir(f"{ROOT}/crates/{name}/must-fail") if it.endswith(".edit"))
+        print(f"| `{name}/{edits[int(number)]}` | {time_taken:.0f} |")
+
+
 def main(*command):
     works, seconds, start = {}, {}, time.monotonic()
     running = subprocess.Popen(command, stdout=sys.stderr, start_new_session=True)
@@ -69,6 +84,7 @@ def main(*command):
         look(str(running.pid), works, seconds)
         time.sleep(1)
     table(works, seconds)
+    dearest_edits(works, seconds)
     used = resource.getrusage(resource.RUSAGE_CHILDREN)
     print(f"\nall: {used.ru_utime + used.ru_stime:.0f} processor seconds in {(time.monotonic() - start) / 60:.1f} minutes, status {running.returncode}")
 
