@@ -6,8 +6,7 @@ use crate::show::Show;
 use crate::suggest::Sample;
 use crate::why::Why;
 use grok_lines::{EventAnswers, EventStarts, LineHandler, SkipLines};
-use groklog_answers::{LogAnswers, Searches};
-use groklog_views::KeyCounts;
+use groklog_answers::{KeyCounts, LogAnswers, Searches};
 use std::alloc::{AllocError, Global};
 
 /// Whether the patterns of a run match any line or event.

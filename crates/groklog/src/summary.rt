@@ -1,4 +1,5 @@
-//! Counts for `--summary`.
+//! Counts of lines or events: those of `--summary`, and how many `--count` leaves out.
+ghost use Rattle.std.specs.Prelude.{◌≡◌, ◌==◌, IfOk, is_none};
 
 use groklog_answers::Searches;
 use groklog_input::{Unit, visible};
@@ -37,4 +38,24 @@ pub fn summary_of(
     }
     let word = unit.word(lines);
     format!(in alloc; "{lines} {word}, {parts}{unmatched} not matched, {broken} not UTF-8")
+}
+
+/// Returns a note on the lines or events whose values `--count` didn't count by themselves, or `None` if there are none.
+///
+/// # Errors
+///
+/// If an allocation fails.
+pub fn note_of_others(alloc: Global, others: u64, unit: Unit) -> Result<Option<String>, AllocError>
+    ensures { IfOk result (λ note. is_none note ≡ (others == 0)) }
+{
+    let word = unit.word(others);
+    match others {
+        0 => Ok(None),
+        1 => Ok(Some(format!(in alloc;
+            "1 more {word} has another value, which isn't counted: use a larger --max"
+        )?)),
+        others => Ok(Some(format!(in alloc;
+            "{others} more {word} have other values, which aren't counted: use a larger --max"
+        )?)),
+    }
 }

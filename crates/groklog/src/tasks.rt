@@ -8,19 +8,19 @@ use crate::read_files::ReadFiles;
 use crate::run::PAGE;
 use crate::show::Show;
 use crate::suggest::{Sample, report_of_sample};
-use crate::summary::summary_of;
+use crate::summary::{note_of_others, summary_of};
 use crate::terminal::is_coloured;
 use crate::whole_file::WholeFile;
 use crate::why::Why;
 use grok::Pattern;
 use grok_lines::SkipLines;
-use groklog_answers::{LogAnswers, NamedPattern, Searches, header_of};
+use groklog_answers::{KeyCounts, LogAnswers, NamedPattern, Searches, header_of};
 use groklog_input::{Fault, FormedAnswers};
 use groklog_options::{
     AnswerOptions, CountOptions, Options, PageOptions, ShownOptions, Task, layout_of,
 };
 use groklog_patterns::{Explainer, Library, PatternText, explain, titles_of};
-use groklog_views::{KeyCounts, LocatedFields, PageContent, Scope, page_html};
+use groklog_views::{LocatedFields, PageContent, Scope, page_html};
 use std::alloc::AllocError;
 
 /// A run whose patterns are compiled, before it reads a line.
@@ -130,7 +130,7 @@ impl<'r, 'a, 'd> Run<'r, 'a, 'd> {
         let (counts, outcome) = self.read(counts)?;
         let outcome = outcome?;
         write_bytes(self.rt, &counts.text()?)?;
-        if let Some(note) = counts.note(alloc, self.options.unit())? {
+        if let Some(note) = note_of_others(alloc, counts.counts.others(), self.options.unit())? {
             show_note(self.rt, note.as_str())?;
         }
         let searches = counts.searches;

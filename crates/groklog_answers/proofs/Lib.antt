@@ -16,3 +16,4 @@ mod ChosenKeys
 mod ValuesAreByCount
 mod EmptyObjects
 mod ValuesOfKeys
+mod LinesAreCounted

@@ -1,5 +1,5 @@
 //! Finds in each line of a log the match of the first pattern that matches, and writes the answer to
-//! it.
+//! it, or counts the values of its keys ([`KeyCounts`]).
 //!
 //! [`Searches`] has the patterns. It numbers and counts the lines, and finds their matches. [`LogAnswers`]
 //! asks it, and writes what was found. A [`Layout`] says which lines are answered, and how. `grok_lines`
@@ -15,6 +15,7 @@
 mod answer_writer;
 mod answered_line;
 mod found;
+mod key_counts;
 pub mod laws;
 mod layout;
 mod log_answers;
@@ -29,6 +30,7 @@ mod value_counts;
 mod value_lists;
 mod values;
 
+pub use key_counts::KeyCounts;
 pub use layout::{Added, Addition, Failure, Layout, Lines, OutputFormat};
 pub use log_answers::LogAnswers;
 pub use plan::{Clash, Plan, PlanError, SharedKey};
@@ -36,5 +38,4 @@ pub use record::header_of;
 pub use searches::{LineMatch, NamedPattern, Searches};
 pub use start_pattern::StartPattern;
 pub use value_counts::{Counted, ValueCounts};
-pub use value_lists::{KeyValue, list_text, pairs_of_keys};
 pub use values::asks_for_numbers;

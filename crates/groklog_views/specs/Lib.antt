@@ -1,9 +1,7 @@
 pub mod Pages
-pub mod KeyCounts
 pub mod Fields
 pub mod Shown
 -- THE WORDS FOR CALLERS: each definition that a contract of a public call uses.
 pub use Rattle.groklog_views.specs.Pages.{lists_unmatched}
-pub use Rattle.groklog_views.specs.KeyCounts.{value_in, list_in, counted_in, keys_text, CountsOnce, CountsValue}
 pub use Rattle.groklog_views.specs.Fields.{field_text, fields_text, values_at, found_values}
 pub use Rattle.groklog_views.specs.Shown.{unmatched_shown, IsColoured}

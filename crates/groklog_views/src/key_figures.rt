@@ -1,6 +1,6 @@
 //! What the values of a key are like, all together.
 ghost use Rattle.std.specs.Prelude.{Some, OnOk};
-ghost use Rattle.groklog_views.specs.KeyCounts.{CountsValue};
+ghost use Rattle.groklog_answers.specs.KeyCounts.{CountsValue};
 
 use groklog_answers::{Counted, ValueCounts};
 use std::alloc::{AllocError, Global};

@@ -1,5 +1,5 @@
-//! What `groklog` shows of the lines or events of a log in place of answers: how often the values of a key
-//! come, lines with their fields marked, and a page of HTML. It reads and writes no files.
+//! What `groklog` shows of the lines or events of a log in place of answers: lines with their fields marked, and a
+//! page of HTML. It reads and writes no files.
 //!
 //! [`LocatedFields`] finds the match of a line, and where the values of its keys are. A line is then shown on a
 //! terminal, or added to the content of a page:
@@ -12,14 +12,12 @@
 //! ```
 #![tactic(auto)]
 
-mod key_counts;
 mod key_figures;
 mod located_fields;
 mod page;
 mod page_content;
 mod shown_lines;
 
-pub use key_counts::KeyCounts;
 pub use located_fields::LocatedFields;
 pub use page::page_html;
 pub use page_content::{EXPLAINED, PageContent, Scope};

@@ -1,12 +1,14 @@
 //! Counts the values of keys, for `--count`.
-ghost use Rattle.std.specs.Prelude.{◌≡◌, ◌==◌, ℕ, List, [], None, IfOk, OnOk, is_none, option_map, string_bytes};
+ghost use Rattle.std.specs.Prelude.{◌≡◌, ℕ, List, [], None, IfOk, OnOk, option_map, string_bytes};
 ghost use Rattle.groklog_answers.specs.{patterns_in, first_match, found_text_of, count_of, others_of, most_of, AreByCount};
 ghost use Rattle.groklog_answers.specs.PlanViews.{names_of};
-ghost use Rattle.groklog_views.specs.KeyCounts.{value_in, list_in, counted_in, keys_text, CountsValue};
+ghost use Rattle.groklog_answers.specs.KeyCounts.{value_in, list_in, counted_in, keys_text, CountsValue};
 
+use crate::layout::OutputFormat;
+use crate::searches::{LineMatch, Searches};
+use crate::value_counts::ValueCounts;
+use crate::value_lists::{list_text, pairs_of_keys};
 use grok_lines::{LineAnswers, SkipLines};
-use groklog_answers::{LineMatch, OutputFormat, Searches, ValueCounts, list_text, pairs_of_keys};
-use groklog_input::Unit;
 use std::alloc::{AllocError, Global};
 
 /// Counts the values of a key in the matches of lines, or those of several keys together. It has no
@@ -124,27 +126,6 @@ impl<'a> KeyCounts<'a> {
         match self.keys.as_slice() {
             [_] => self.counts.text(self.format),
             keys => self.counts.text_of_lists(self.format, keys),
-        }
-    }
-
-    /// Returns a note on the values that weren't counted by themselves, or `None` if there were none.
-    ///
-    /// # Errors
-    ///
-    /// If an allocation fails.
-    pub fn note(&self, alloc: Global, unit: Unit) -> Result<Option<String>, AllocError>
-        ensures { IfOk result (λ note. is_none note ≡ (others_of self.now.counts == 0)) }
-    {
-        let others = self.counts.others();
-        let word = unit.word(others);
-        match others {
-            0 => Ok(None),
-            1 => Ok(Some(format!(in alloc;
-                "1 more {word} has another value, which isn't counted: use a larger --max"
-            )?)),
-            others => Ok(Some(format!(in alloc;
-                "{others} more {word} have other values, which aren't counted: use a larger --max"
-            )?)),
         }
     }
 }

@@ -5,7 +5,7 @@ use Rattle.groklog_answers.specs.declared.value_counts.ValueCounts.{ValueCounts}
 use Rattle.groklog_answers.specs.Patterns.{MatchText}
 use Rattle.groklog_answers.specs.ValueCounts.{count_of, value_count, most_of, one_more, SetsCount, SkipsValue}
 use Rattle.groklog_answers.specs.PlanViews.{names_of}
-use Rattle.groklog_views.specs.KeyCounts.{value_in, list_in, counted_in, CountsValue}
+use Rattle.groklog_answers.specs.KeyCounts.{value_in, list_in, counted_in, CountsValue}
 
 -- The clauses of counting a value, of a value that was found.
 pub some_is_counted : {E : Type 0} (r : Result (Unit {0}) E) (old new : ValueCounts) (value : List ℕ) (found : Option (List ℕ)) → found ≡ Some value

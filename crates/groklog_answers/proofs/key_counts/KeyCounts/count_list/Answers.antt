@@ -1,9 +1,9 @@
 use Rattle.std.proofs.Common.{◌≡◌, Some}
 use Rattle.groklog_answers.specs.{patterns_in, first_match}
 use Rattle.groklog_answers.specs.PlanViews.{names_of}
-use Rattle.groklog_views.specs.KeyCounts.{list_in}
-use Rattle.groklog_views.proofs.LinesAreCounted.{some_is_counted}
-use Rattle.groklog_views.proofs.key_counts.KeyCounts.count_list.Goals as goal
+use Rattle.groklog_answers.specs.KeyCounts.{list_in}
+use Rattle.groklog_answers.proofs.LinesAreCounted.{some_is_counted}
+use Rattle.groklog_answers.proofs.key_counts.KeyCounts.count_list.Goals as goal
 
 pub returns-in-Some : goal.returns-in-Some
 returns-in-Some c =

@@ -1,9 +1,9 @@
 use Rattle.std.proofs.Common.{◌≡◌, [], length, arith, rules}
 use Rattle.std.proofs.lemmas.Grind.{common_steps}
 use Rattle.groklog_answers.specs.{patterns_in, first_match}
-use Rattle.groklog_views.proofs.LinesAreCounted.{value_is_counted, list_is_counted}
-use Rattle.groklog_views.proofs.key_counts.KeyCounts.count.Goals as goal
-use Rattle.groklog_views.proofs.key_counts.KeyCounts.count.Goals.{then-as_slice-lt1, else-as_slice-lt1+else-this-lt2}
+use Rattle.groklog_answers.proofs.LinesAreCounted.{value_is_counted, list_is_counted}
+use Rattle.groklog_answers.proofs.key_counts.KeyCounts.count.Goals as goal
+use Rattle.groklog_answers.proofs.key_counts.KeyCounts.count.Goals.{then-as_slice-lt1, else-as_slice-lt1+else-this-lt2}
 
 pub returns-in-len1 : goal.returns-in-len1
 returns-in-len1 c =
