@@ -2,8 +2,9 @@
 
 use crate::compiled::compile_valid;
 use crate::definitions::Definitions;
-use crate::fits::{Candidate, Fit};
+use crate::fits::{Candidate, Fit, count, finds_each};
 use crate::proposals::{Continued, Proposal, propose, propose_after};
+use crate::recognizer::Recognizer;
 use crate::starts::{events_of, start_of};
 use crate::text::whole_pattern;
 use crate::values::separator_of;
@@ -77,8 +78,24 @@ fn sort(candidates: &mut Vec<Candidate>) -> Result<(), AllocError> {
     candidates.sort_by_key(|found| (Reverse(found.fit.lines), Reverse(found.fit.fields)))
 }
 
+/// Returns those of the lines that are marked.
+fn marked_of<'l>(
+    alloc: Global,
+    lines: &[&'l str],
+    are_marked: &[bool],
+) -> Result<Vec<&'l str>, AllocError> {
+    let mut marked = Vec::new(alloc);
+    for (line, is_marked) in lines.iter().zip(are_marked) {
+        if *is_marked {
+            marked.push(*line)?;
+        }
+    }
+    Ok(marked)
+}
+
 /// Returns whether three of four lines that a format fits are really of it.
 fn has_its_needs(
+    alloc: Global,
     definitions: Definitions<'_>,
     format: Format<'_>,
     candidate: &Candidate,
@@ -90,13 +107,9 @@ fn has_its_needs(
     let Some(needs) = compile_valid(definitions, needs)? else {
         return Ok(false);
     };
-    let mut matcher = needs.matcher()?;
-    let mut unsure = 0usize;
-    for (line, is_fit) in lines.iter().zip(&candidate.each) {
-        if *is_fit && matcher.find(line)?.is_none() {
-            unsure = unsure.saturating_add(1);
-        }
-    }
+    let fit = marked_of(alloc, lines, &candidate.each)?;
+    let sure = count(&finds_each(alloc, &needs, &fit)?);
+    let unsure = fit.len().saturating_sub(sure);
     Ok(unsure <= candidate.fit.lines / LINES_FOR_ONE_UNSURE)
 }
 
@@ -113,7 +126,7 @@ fn fitting(
         let text = whole_pattern(alloc, format.name, are_events)?;
         if let Some(candidate) = Candidate::new(alloc, definitions, text, lines)?
             && candidate.fit.fields > 0
-            && has_its_needs(definitions, *format, &candidate, lines)?
+            && has_its_needs(alloc, definitions, *format, &candidate, lines)?
         {
             found.push(candidate)?;
         }
@@ -168,21 +181,6 @@ fn all_of(alloc: Global, lines: &[&str]) -> Result<Vec<bool>, AllocError> {
     Ok(is_left)
 }
 
-/// Returns the lines that are left.
-fn lines_left<'l>(
-    alloc: Global,
-    lines: &[&'l str],
-    is_left: &[bool],
-) -> Result<Vec<&'l str>, AllocError> {
-    let mut left = Vec::new(alloc);
-    for (line, is_left) in lines.iter().zip(is_left) {
-        if *is_left {
-            left.push(*line)?;
-        }
-    }
-    Ok(left)
-}
-
 /// Takes the lines that a candidate fits from those that are left.
 fn take_fit(is_left: &mut [bool], candidate: &Candidate) {
     for (is_left, is_fit) in is_left.iter_mut().zip(&candidate.each) {
@@ -217,14 +215,14 @@ fn cover<'l>(
         let text = candidate.text.clone()?;
         patterns.push(Share { text, lines: fit })?;
     }
-    let left = lines_left(alloc, lines, &is_left)?;
+    let left = marked_of(alloc, lines, &is_left)?;
     Ok(Choice { patterns, left })
 }
 
 /// Appends the pattern for lines that begin with a definition and then have more of one form.
 fn add_continued(
     alloc: Global,
-    definitions: Definitions<'_>,
+    recognizer: &Recognizer<'_>,
     formats: Formats<'_>,
     lines: &[&str],
     candidates: &mut Vec<Candidate>,
@@ -245,7 +243,7 @@ fn add_continued(
     } else {
         formats.beginnings
     };
-    let found = propose_after(alloc, definitions, names, lines)?;
+    let found = propose_after(alloc, recognizer, names, lines)?;
     let Some(
         Continued {
             candidate,
@@ -268,19 +266,19 @@ fn add_continued(
 /// Returns the advice for lines that these definitions for whole lines fit.
 fn advise_on(
     alloc: Global,
-    definitions: Definitions<'_>,
+    recognizer: &Recognizer<'_>,
     formats: Formats<'_>,
     lines: &[&str],
     candidates: Vec<Candidate>,
 ) -> Result<Advice, AllocError> {
     let mut candidates = candidates;
-    add_continued(alloc, definitions, formats, lines, &mut candidates)?;
+    add_continued(alloc, recognizer, formats, lines, &mut candidates)?;
     let Choice {
         patterns: mut together,
         left,
     } = cover(alloc, &candidates, lines)?;
     if !are_few(left.len(), lines.len()) {
-        for Proposal { text, fit } in propose(alloc, definitions, &left)? {
+        for Proposal { text, fit } in propose(alloc, recognizer, &left)? {
             let lines = fit.lines;
             together.push(Share { text, lines })?;
         }
@@ -302,18 +300,48 @@ fn advise_on(
 /// of events.
 fn events_in(
     alloc: Global,
-    definitions: Definitions<'_>,
+    recognizer: &Recognizer<'_>,
     lines: &[&str],
 ) -> Result<Option<(Vec<String>, String)>, AllocError> {
-    let Some(start) = start_of(alloc, definitions, lines)? else {
+    let Some(start) = start_of(alloc, recognizer, lines)? else {
         return Ok(None);
     };
-    let compiled = compile_valid(definitions, start.as_str())?;
+    let compiled = compile_valid(recognizer.definitions, start.as_str())?;
     let Some(pattern) = compiled else {
         return Ok(None);
     };
     let events = events_of(alloc, &pattern, lines)?;
     Ok(Some((events, start)))
+}
+
+/// Returns the advice for the events that the lines are parts of, or `None` if the lines aren't parts of events.
+fn advise_on_events(
+    alloc: Global,
+    recognizer: &Recognizer<'_>,
+    formats: Formats<'_>,
+    lines: &[&str],
+) -> Result<Option<Advice>, AllocError> {
+    let Some((events, start)) = events_in(alloc, recognizer, lines)? else {
+        return Ok(None);
+    };
+    let mut texts = Vec::new(alloc);
+    for event in &events {
+        texts.push(event.as_str())?;
+    }
+    let candidates = fitting(alloc, recognizer.definitions, formats.lines, &texts, true)?;
+    let advice = advise_on(alloc, recognizer, formats, &texts, candidates)?;
+    let Advice {
+        lines,
+        alone,
+        together,
+        ..
+    } = advice;
+    Ok(Some(Advice {
+        start: Some(start),
+        lines,
+        alone,
+        together,
+    }))
 }
 
 /// Returns how many lines at the front begin with `#`.
@@ -351,29 +379,13 @@ pub fn advise(
     lines: &[&str],
 ) -> Result<Advice, AllocError> {
     let lines = without_header(lines);
+    let recognizer = Recognizer::new(alloc, definitions)?;
     let candidates = fitting(alloc, definitions, formats.lines, lines, false)?;
-    let left = cover(alloc, &candidates, lines)?.left;
-    if !are_few(left.len(), lines.len())
-        && let Some((events, start)) = events_in(alloc, definitions, lines)?
+    let left = cover(alloc, &candidates, lines)?.left.len();
+    if !are_few(left, lines.len())
+        && let Some(advice) = advise_on_events(alloc, &recognizer, formats, lines)?
     {
-        let mut texts = Vec::new(alloc);
-        for event in &events {
-            texts.push(event.as_str())?;
-        }
-        let candidates = fitting(alloc, definitions, formats.lines, &texts, true)?;
-        let advice = advise_on(alloc, definitions, formats, &texts, candidates)?;
-        let Advice {
-            lines,
-            alone,
-            together,
-            ..
-        } = advice;
-        return Ok(Advice {
-            start: Some(start),
-            lines,
-            alone,
-            together,
-        });
+        return Ok(advice);
     }
-    advise_on(alloc, definitions, formats, lines, candidates)
+    advise_on(alloc, &recognizer, formats, lines, candidates)
 }

@@ -7,8 +7,13 @@ ghost use Rattle.grok.specs.RegexFinds.{MayRefuse};
 ghost use Rattle.suggestions.specs.Sizes.{IsWithin};
 
 use crate::definitions::Definitions;
-use grok::{Diagnosis, Error, Measure, Pattern};
+use grok::{Error, Grok, Measure, Pattern};
 use std::alloc::AllocError;
+
+/// Returns whether something is wrong with a pattern.
+fn is_faulty(grok: &Grok, text: &str) -> Result<bool, AllocError> {
+    Ok(grok.diagnose(text, true)?.is_some())
+}
 
 /// Compiles a pattern in which placeholders with an alias capture. Returns `None` if the pattern or
 /// a definition that it uses has a fault, or if its expanded text would be too large. That is known before any of the text
@@ -40,12 +45,9 @@ pub fn compile_valid(
         Ok(pattern) => Ok(Some(pattern)),
         // own error: the library reported that an allocation failed.
         Err(Error::Memory) => Err(AllocError),
-        Err(_) => match grok.diagnose(text, true)? {
-            // own error: nothing is wrong with this pattern, so compiling it failed because an
-            // allocation did.
-            None => Err(AllocError),
-            Some(Diagnosis::TooLong) => Ok(None),
-            Some(_) => Ok(None),
-        },
+        Err(_) if is_faulty(grok, text)? => Ok(None),
+        // own error: nothing is wrong with this pattern, so compiling it failed because an
+        // allocation did.
+        Err(_) => Err(AllocError),
     }
 }

@@ -50,6 +50,24 @@ impl Drop for Counter<'_> {
     }
 }
 
+/// Returns for each line whether a pattern finds something in it.
+///
+/// # Errors
+///
+/// If an allocation fails.
+pub(crate) fn finds_each(
+    alloc: Global,
+    pattern: &Pattern,
+    lines: &[&str],
+) -> Result<Vec<bool>, AllocError> {
+    let mut each = Vec::new(alloc);
+    let mut matcher = pattern.matcher()?;
+    for line in lines {
+        each.push(matcher.find(line)?.is_some())?;
+    }
+    Ok(each)
+}
+
 /// Returns whether a match tells something about its line: no value of it is the whole line.
 fn tells(matches: MatchesRef<'_>, line: &str) -> bool
     ensures { result ≡ tells line.now (walk (borrowed_keys matches.entry) (borrowed_captures matches.entry)) }
@@ -129,13 +147,13 @@ fn fits_each(
     Ok(each)
 }
 
-/// Counts the lines that are fit.
-fn count(each: &[bool]) -> usize
-    ensures { result ≡ count_by (λ is_fit. is_fit) each.now }
+/// Counts the lines that are marked.
+pub(crate) fn count(each: &[bool]) -> usize
+    ensures { result ≡ count_by (λ is_marked. is_marked) each.now }
 {
     let mut count = 0usize;
-    'each: for is_fit in each {
-        if *is_fit {
+    'each: for is_marked in each {
+        if *is_marked {
             count += 1;
         }
     }

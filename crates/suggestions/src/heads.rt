@@ -3,7 +3,7 @@
 use crate::compiled::compile_valid;
 use crate::definitions::Definitions;
 use crate::text::Frame;
-use grok::{Matcher, Pattern};
+use grok::{MatchesRef, Pattern};
 use std::alloc::{AllocError, Global};
 
 /// The key of what comes after a definition.
@@ -32,19 +32,6 @@ pub(crate) struct LineView<'a> {
     head: Option<Pattern>,
 }
 
-/// Finds what is aligned of each line.
-pub(crate) struct Tails<'v> {
-    matcher: Option<Matcher<'v>>,
-}
-
-// This is written by hand because the kit can't prove the drop of a struct with a matcher if `Drop`
-// is derived.
-impl Drop for Tails<'_> {
-    fn drop(self) {
-        let Tails { matcher: _matcher } = self;
-    }
-}
-
 /// Returns the first line of an event, which may be all of it.
 pub(crate) fn first_line(text: &str) -> &str {
     match text.split_once('\n') {
@@ -58,32 +45,45 @@ fn are_events(lines: &[&str]) -> bool {
     lines.iter().any(|line| line.contains('\n'))
 }
 
-/// Returns how many bytes of a line come after what the pattern of a head finds, or `None` if it finds nothing, or ends in
-/// the middle of a word.
-fn tail_len(matcher: &mut Matcher<'_>, line: &str) -> Result<Option<usize>, AllocError> {
-    let Some(matches) = matcher.find(line)? else {
-        return Ok(None);
-    };
+/// Returns what comes after the definition that begins a line, or `None` if the definition ends in the middle of a word.
+fn tail_in<'l>(matches: MatchesRef<'_>, line: &'l str) -> Option<&'l str> {
     for (key, value) in matches.iter() {
         if key == TAIL {
             let goes_on = value.starts_with(|c: char| c.is_alphanumeric() || c == '_');
-            return Ok((!goes_on).then_some(value.len()));
+            let at = line.len().saturating_sub(value.len());
+            return if goes_on { None } else { line.get(at..) };
         }
     }
-    Ok(None)
+    None
 }
 
-impl<'v> Tails<'v> {
-    /// Returns what is aligned of a line: what comes after the definition with which it begins.
-    pub(crate) fn tail_of<'l>(&mut self, line: &'l str) -> Result<&'l str, AllocError> {
+/// Returns of each line, or of the first line of each event, what comes after what the pattern of a head finds, or `None` if it
+/// finds nothing, or ends in the middle of a word.
+fn tails_after<'l>(
+    alloc: Global,
+    pattern: &Pattern,
+    lines: &[&'l str],
+) -> Result<Vec<Option<&'l str>>, AllocError> {
+    let mut tails = Vec::new(alloc);
+    let mut matcher = pattern.matcher()?;
+    for line in lines {
         let line = first_line(line);
-        let Some(matcher) = &mut self.matcher else {
-            return Ok(line);
+        let tail = match matcher.find(line)? {
+            Some(matches) => tail_in(matches, line),
+            None => None,
         };
-        let len = tail_len(matcher, line)?.unwrap_or(line.len());
-        let at = line.len().saturating_sub(len);
-        Ok(line.get(at..).unwrap_or(""))
+        tails.push(tail)?;
     }
+    Ok(tails)
+}
+
+/// Returns of each line, or of the first line of each event, all of it.
+fn whole_lines<'l>(alloc: Global, lines: &[&'l str]) -> Result<Vec<Option<&'l str>>, AllocError> {
+    let mut tails = Vec::new(alloc);
+    for line in lines {
+        tails.push(Some(first_line(line)))?;
+    }
+    Ok(tails)
 }
 
 impl<'a> LineView<'a> {
@@ -122,24 +122,28 @@ impl<'a> LineView<'a> {
         })
     }
 
-    /// Makes what finds the part of each line that is aligned.
-    pub(crate) fn tails(&self) -> Result<Tails<'_>, AllocError> {
-        let matcher = match &self.head {
-            Some(pattern) => Some(pattern.matcher()?),
-            None => None,
-        };
-        Ok(Tails { matcher })
+    /// Returns of each line what comes after the definition that begins it, or `None` if it doesn't begin with that.
+    fn tails<'l>(&self, lines: &[&'l str]) -> Result<Vec<Option<&'l str>>, AllocError> {
+        match &self.head {
+            Some(pattern) => tails_after(self.alloc, pattern, lines),
+            None => whole_lines(self.alloc, lines),
+        }
+    }
+
+    /// Returns what is aligned of each line: what comes after the definition that begins it, or all of it.
+    pub(crate) fn aligned<'l>(&self, lines: &[&'l str]) -> Result<Vec<&'l str>, AllocError> {
+        let mut aligned = Vec::new(self.alloc);
+        for (line, tail) in lines.iter().zip(&self.tails(lines)?) {
+            aligned.push(tail.unwrap_or(first_line(line)))?;
+        }
+        Ok(aligned)
     }
 
     /// Returns the lines that begin with the definition.
     pub(crate) fn begun<'l>(&self, lines: &[&'l str]) -> Result<Vec<&'l str>, AllocError> {
         let mut begun = Vec::new(self.alloc);
-        let Some(pattern) = &self.head else {
-            return Vec::from_slice(self.alloc, lines);
-        };
-        let mut matcher = pattern.matcher()?;
-        for line in lines {
-            if tail_len(&mut matcher, first_line(line))?.is_some() {
+        for (line, tail) in lines.iter().zip(&self.tails(lines)?) {
+            if tail.is_some() {
                 begun.push(*line)?;
             }
         }
@@ -147,17 +151,16 @@ impl<'a> LineView<'a> {
     }
 }
 
-/// Returns how many lines the pattern of a head finds something in, and how many bytes of these come after it, in all.
-fn count_tails(pattern: &Pattern, lines: &[&str]) -> Result<(usize, usize), AllocError> {
+/// Returns how many lines have more after a definition, and how many bytes these have there, in all.
+fn count_tails(tails: &[Option<&str>]) -> (usize, usize) {
     let (mut count, mut left) = (0usize, 0usize);
-    let mut matcher = pattern.matcher()?;
-    for line in lines {
-        if let Some(len) = tail_len(&mut matcher, first_line(line))? {
+    for tail in tails {
+        if let Some(tail) = tail {
             count = count.saturating_add(1);
-            left = left.saturating_add(len);
+            left = left.saturating_add(tail.len());
         }
     }
-    Ok((count, left))
+    (count, left)
 }
 
 /// Looks for a definition at the beginning of each line.
@@ -171,7 +174,7 @@ fn head_of<'a>(
     let Some(pattern) = compile_valid(definitions, text.as_str())? else {
         return Ok(None);
     };
-    let (count, left) = count_tails(&pattern, lines)?;
+    let (count, left) = count_tails(&tails_after(alloc, &pattern, lines)?);
     Ok(Some(Head {
         name,
         pattern,

@@ -26,7 +26,7 @@ const LINES_FOR_ONE_LEFT: usize = 10;
 
 /// A pattern for some lines.
 #[derive(Drop)]
-pub struct Proposal {
+pub(crate) struct Proposal {
     pub text: String,
     /// How it fits the lines that the proposals before it don't fit.
     pub fit: Fit,
@@ -91,9 +91,8 @@ fn rows_of<'l>(
     lines: &[&'l str],
 ) -> Result<Vec<Row<'l>>, AllocError> {
     let mut rows = Vec::new(view.alloc);
-    let mut tails = view.tails()?;
-    for line in lines {
-        rows.push(Row::new(cutter.cut(tails.tail_of(line)?)?))?;
+    for line in &view.aligned(lines)? {
+        rows.push(Row::new(cutter.cut(line)?))?;
     }
     Ok(rows)
 }
@@ -233,15 +232,14 @@ fn push_fitting(proposals: &mut Vec<Proposal>, proposal: Proposal) -> Result<(),
 /// # Errors
 ///
 /// If an allocation fails.
-pub fn propose(
+pub(crate) fn propose(
     alloc: Global,
-    definitions: Definitions<'_>,
+    recognizer: &Recognizer<'_>,
     lines: &[&str],
 ) -> Result<Vec<Proposal>, AllocError>
     ensures most { IfOk result (λ proposals. vec_len proposals ≤ 3) }
     ensures each { IfOk result (λ proposals. All (λ proposal. 0 < proposal.fit.lines) proposals.items) }
 {
-    let recognizer = Recognizer::new(alloc, definitions)?;
     let mut cutter = Cutter::new(alloc, recognizer.search(alloc)?);
     let view = LineView::new(alloc, lines);
     let mut proposals = Vec::new(alloc);
@@ -249,7 +247,8 @@ pub fn propose(
     'patterns: while proposals.len() < MOST_PATTERNS
         && left.len() > lines.len() / LINES_FOR_ONE_LEFT
     {
-        let Some(candidate) = next_candidate(definitions, &view, &mut cutter, &left)? else {
+        let next = next_candidate(recognizer.definitions, &view, &mut cutter, &left)?;
+        let Some(candidate) = next else {
             break;
         };
         left = candidate.unfit_lines(alloc, &left)?;
@@ -257,6 +256,28 @@ pub fn propose(
         push_fitting(&mut proposals, Proposal { text, fit })?;
     }
     Ok(proposals)
+}
+
+/// Proposes a pattern for what the lines of a view have after a definition.
+fn propose_in(
+    recognizer: &Recognizer<'_>,
+    view: &LineView<'_>,
+    lines: &[&str],
+) -> Result<Option<Continued>, AllocError>
+    ensures { IfOk result (λ found. IfSome found (λ continued. 0 < continued.candidate.fit.lines)) }
+{
+    let begun = view.begun(aligned_of(lines))?;
+    let mut cutter = Cutter::new(view.alloc, recognizer.search(view.alloc)?);
+    let template = template_of(view, &mut cutter, &begun)?;
+    let is_whole = !template.has_rest && !template.columns.is_empty();
+    let found = best_candidate(recognizer.definitions, view, &template, lines)?;
+    let Some(candidate) = found else {
+        return Ok(None);
+    };
+    Ok(Some(Continued {
+        candidate,
+        is_whole,
+    }))
 }
 
 /// Proposes a pattern for lines that begin with one of these definitions and then have more: the definition that takes
@@ -268,27 +289,16 @@ pub fn propose(
 /// If an allocation fails.
 pub(crate) fn propose_after(
     alloc: Global,
-    definitions: Definitions<'_>,
+    recognizer: &Recognizer<'_>,
     names: &[&str],
     lines: &[&str],
 ) -> Result<Option<Continued>, AllocError>
     ensures { IfOk result (λ found. IfSome found (λ continued. 0 < continued.candidate.fit.lines)) }
 {
-    let aligned = aligned_of(lines);
-    let Some(head) = longest_head(alloc, definitions, names, aligned)? else {
+    let found = longest_head(alloc, recognizer.definitions, names, aligned_of(lines))?;
+    let Some(head) = found else {
         return Ok(None);
     };
     let view = LineView::after(alloc, lines, head)?;
-    let begun = view.begun(aligned)?;
-    let recognizer = Recognizer::new(alloc, definitions)?;
-    let mut cutter = Cutter::new(alloc, recognizer.search(alloc)?);
-    let template = template_of(&view, &mut cutter, &begun)?;
-    let is_whole = !template.has_rest && !template.columns.is_empty();
-    let Some(candidate) = best_candidate(definitions, &view, &template, lines)? else {
-        return Ok(None);
-    };
-    Ok(Some(Continued {
-        candidate,
-        is_whole,
-    }))
+    propose_in(recognizer, &view, lines)
 }

@@ -30,7 +30,7 @@ pub(crate) struct Known {
 
 /// The definitions that are looked for in lines, each with the key of its placeholder and what it says. Of those that
 /// recognize something at the same position, the first one counts.
-const KNOWN: [(&str, &str, Meaning); 29] = [
+static KNOWN: [(&str, &str, Meaning); 29] = [
     ("DATESTAMP_RFC2822", "timestamp", Meaning::Time),
     ("DATESTAMP_RFC822", "timestamp", Meaning::Time),
     ("DATESTAMP_OTHER", "timestamp", Meaning::Time),
@@ -62,14 +62,16 @@ const KNOWN: [(&str, &str, Meaning); 29] = [
     ("NUMBER", "number", Meaning::Number),
 ];
 
+/// Returns the definitions of [`KNOWN`]. Each function that named them itself would be proved with all of them.
+fn known_definitions() -> &'static [(&'static str, &'static str, Meaning)] {
+    &KNOWN
+}
+
 /// Returns the definition with this index in [`KNOWN`]. If there is none, returns `DATA`, which finds any
 /// text.
 pub(crate) fn known_definition(index: usize) -> Known {
-    let (name, key, meaning) = if index < KNOWN.len() {
-        KNOWN[index]
-    } else {
-        ("DATA", "field", Meaning::Other)
-    };
+    let data = ("DATA", "field", Meaning::Other);
+    let (name, key, meaning) = known_definitions().get(index).copied().unwrap_or(data);
     Known { name, key, meaning }
 }
 
@@ -84,7 +86,8 @@ struct Group {
 
 /// Recognizes what the definitions of [`KNOWN`] find, as far as a library has them.
 #[derive(Drop)]
-pub(crate) struct Recognizer {
+pub(crate) struct Recognizer<'d> {
+    pub definitions: Definitions<'d>,
     /// The alternatives, or `None` if the library has none of the definitions.
     regex: Option<Regex>,
     groups: Vec<Group>,
@@ -108,7 +111,7 @@ fn group_key(alloc: Global, known: usize) -> Result<String, AllocError> {
 /// Returns a pattern whose alternatives are the definitions that the library has.
 fn alternatives(alloc: Global, grok: &Grok) -> Result<String, AllocError> {
     let mut text = String::new(alloc);
-    for (known, (name, _, _)) in KNOWN.iter().enumerate() {
+    for (known, (name, _, _)) in known_definitions().iter().enumerate() {
         if grok.definition(name).is_none() {
             continue;
         }
@@ -122,7 +125,7 @@ fn alternatives(alloc: Global, grok: &Grok) -> Result<String, AllocError> {
     Ok(text)
 }
 
-impl Recognizer {
+impl<'d> Recognizer<'d> {
     /// Makes the recognizer with these definitions. If one of them has a fault, nothing is recognized.
     ///
     /// # Errors
@@ -130,8 +133,8 @@ impl Recognizer {
     /// If an allocation fails.
     pub(crate) fn new(
         alloc: Global,
-        definitions: Definitions<'_>,
-    ) -> Result<Recognizer, AllocError> {
+        definitions: Definitions<'d>,
+    ) -> Result<Recognizer<'d>, AllocError> {
         let mut groups = Vec::new(alloc);
         let text = alternatives(alloc, definitions.grok)?;
         let pattern = if text.is_empty() {
@@ -141,11 +144,12 @@ impl Recognizer {
         };
         let Some(pattern) = pattern else {
             return Ok(Recognizer {
+                definitions,
                 regex: None,
                 groups,
             });
         };
-        for known in 0..KNOWN.len() {
+        for known in 0..known_definitions().len() {
             let key = group_key(alloc, known)?;
             if let Some(number) = pattern.group_of(key.as_str()) {
                 groups.push(Group { number, known })?;
@@ -153,6 +157,7 @@ impl Recognizer {
         }
         match Regex::new(alloc, pattern.text()) {
             Ok(regex) => Ok(Recognizer {
+                definitions,
                 regex: Some(regex),
                 groups,
             }),

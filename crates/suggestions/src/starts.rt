@@ -1,7 +1,6 @@
 //! Finds how events of several lines begin.
 
-use crate::compiled::compile_valid;
-use crate::definitions::Definitions;
+use crate::fits::finds_each;
 use crate::proposals::aligned_of;
 use crate::recognizer::{Meaning, Recognizer, known_definition};
 use crate::text::literal;
@@ -90,6 +89,25 @@ fn commonest<'l>(counts: &[Count<'l>]) -> Option<Count<'l>> {
     best
 }
 
+/// Counts how the lines begin, and those that have no time and don't begin with a digit, as a time in another form does.
+fn count_beginnings<'l>(
+    alloc: Global,
+    recognizer: &Recognizer<'_>,
+    lines: &[&'l str],
+) -> Result<(Vec<Count<'l>>, usize), AllocError> {
+    let mut cutter = Cutter::new(alloc, recognizer.search(alloc)?);
+    let mut counts = Vec::new(alloc);
+    let mut without = 0usize;
+    for line in lines {
+        match beginning_of(line, &cutter.cut(line)?) {
+            Some(beginning) => count_beginning(&mut counts, beginning)?,
+            None if line.starts_with(|c: char| c.is_ascii_digit()) => {}
+            None => without = without.saturating_add(1),
+        }
+    }
+    Ok((counts, without))
+}
+
 /// Returns a pattern for the first lines of events: a time at their beginning, that other lines don't have. Returns `None` if
 /// almost all lines have it, or if other lines have times, too, or begin with a digit, as a time in another form does.
 ///
@@ -98,21 +116,11 @@ fn commonest<'l>(counts: &[Count<'l>]) -> Option<Count<'l>> {
 /// If an allocation fails.
 pub(crate) fn start_of(
     alloc: Global,
-    definitions: Definitions<'_>,
+    recognizer: &Recognizer<'_>,
     lines: &[&str],
 ) -> Result<Option<String>, AllocError> {
-    let recognizer = Recognizer::new(alloc, definitions)?;
-    let mut cutter = Cutter::new(alloc, recognizer.search(alloc)?);
-    let mut counts = Vec::new(alloc);
-    let mut without = 0usize;
     let lines = aligned_of(lines);
-    for line in lines {
-        match beginning_of(line, &cutter.cut(line)?) {
-            Some(beginning) => count_beginning(&mut counts, beginning)?,
-            None if line.starts_with(|c: char| c.is_ascii_digit()) => {}
-            None => without = without.saturating_add(1),
-        }
-    }
+    let (counts, without) = count_beginnings(alloc, recognizer, lines)?;
     let Some(best) = commonest(&counts) else {
         return Ok(None);
     };
@@ -141,10 +149,9 @@ pub(crate) fn events_of(
 ) -> Result<Vec<String>, AllocError> {
     let mut events = Vec::new(alloc);
     let mut event = String::new(alloc);
-    let mut matcher = start.matcher()?;
-    for line in lines {
+    for (line, is_start) in lines.iter().zip(&finds_each(alloc, start, lines)?) {
         if !event.is_empty() {
-            if matcher.find(line)?.is_some() {
+            if *is_start {
                 events.push(event)?;
                 event = String::new(alloc);
             } else {
