@@ -1,7 +1,7 @@
 //! Reads the files and folders of definitions that are named after `-d`.
 
+use groklog_definitions::DefinitionFile;
 use groklog_input::{Failure, Fault, Report, file_fault};
-use groklog_patterns::DefinitionFile;
 use std::alloc::{AllocError, Global};
 use std::fs;
 use std::io::{self, ErrorKind};

@@ -2,8 +2,9 @@
 
 use grok::{Pattern, PlaceholderKey};
 use groklog_answers::asks_for_numbers;
+use groklog_definitions::{Library, PatternText};
 use groklog_options::Options;
-use groklog_patterns::{Library, PatternText, bare_name};
+use groklog_patterns::bare_name;
 use std::alloc::{AllocError, Global};
 use std::collections::BTreeMap;
 use std::fs;

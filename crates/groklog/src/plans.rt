@@ -2,9 +2,9 @@
 
 use grok::Pattern;
 use groklog_answers::{Clash, Plan, PlanError, SharedKey};
+use groklog_definitions::PatternText;
 use groklog_input::{Fault, Report};
 use groklog_options::PlanOptions;
-use groklog_patterns::PatternText;
 use std::alloc::{AllocError, Global};
 use std::collections::BTreeMap;
 

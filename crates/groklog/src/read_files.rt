@@ -2,9 +2,9 @@
 
 use crate::inputs::{STANDARD_INPUT, shown_name};
 use crate::standard_input::INPUT;
+use groklog_definitions::DefinitionFile;
 use groklog_input::{Failure, Fault, Report, file_fault};
 use groklog_options::Options;
-use groklog_patterns::DefinitionFile;
 use std::alloc::{AllocError, Global};
 use std::fs::{self, File, Metadata};
 use std::io::{self, ErrorKind};

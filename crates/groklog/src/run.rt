@@ -10,12 +10,10 @@ use crate::read_files::{ReadFiles, check_logs, is_same_file};
 use crate::tasks::{Run, suggest};
 use crate::whole_file::WholeFile;
 use grok::Pattern;
+use groklog_definitions::{Library, RunTexts, list_common_definitions, patterns_of, start_pattern};
 use groklog_input::{Fault, Report};
 use groklog_options::{Options, Task, check_keys, chosen_fields, with_tags};
-use groklog_patterns::{
-    Adapted, Library, RunTexts, adapt_all, adapt_own, compile, compile_all, definition_lines,
-    list_common_definitions, patterns_of, start_pattern,
-};
+use groklog_patterns::{Adapted, adapt_all, adapt_own, compile, compile_all, definition_lines};
 use std::alloc::{AllocError, Global};
 
 /// The options that ask for a file.

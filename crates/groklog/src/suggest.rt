@@ -3,9 +3,10 @@ ghost use Rattle.std.specs.Prelude.{[]};
 
 use common_definitions::line_formats;
 use grok_lines::LineAnswers;
+use groklog_definitions::Library;
 use groklog_input::visible;
 use groklog_options::Options;
-use groklog_patterns::{Library, own_wholes};
+use groklog_patterns::own_wholes;
 use std::alloc::{AllocError, Global};
 use suggestions::{Advice, Definitions, Fit, Format, Formats, LogKind, Share, advise, kind_of_log};
 

@@ -2,9 +2,9 @@
 ghost use Rattle.std.specs.Prelude.{◌≡◌, ◌==◌, IfOk, is_none};
 
 use groklog_answers::Searches;
+use groklog_definitions::ordinal;
 use groklog_input::{Unit, visible};
 use groklog_options::GivenPattern;
-use groklog_patterns::ordinal;
 use std::alloc::{AllocError, Global};
 
 /// Returns how many lines or events were read, how many each pattern was the first to match, how many

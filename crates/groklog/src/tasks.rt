@@ -15,11 +15,12 @@ use crate::why::Why;
 use grok::Pattern;
 use grok_lines::SkipLines;
 use groklog_answers::{KeyCounts, LogAnswers, NamedPattern, Searches, header_of};
+use groklog_definitions::{Library, PatternText};
 use groklog_input::{Fault, FormedAnswers};
 use groklog_options::{
     AnswerOptions, CountOptions, Options, PageOptions, ShownOptions, Task, layout_of,
 };
-use groklog_patterns::{Explainer, Library, PatternText, explain, titles_of};
+use groklog_patterns::{Explainer, explain, titles_of};
 use groklog_views::{LocatedFields, PageContent, Scope, page_html};
 use std::alloc::AllocError;
 

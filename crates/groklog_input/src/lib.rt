@@ -10,6 +10,7 @@
 #![tactic(auto)]
 
 mod answered;
+mod excerpt;
 mod failure;
 mod fault;
 mod formed_answers;
@@ -19,6 +20,7 @@ mod visible_text;
 mod watched;
 
 pub use answered::{Answered, answer_input, file_fault, write_fault};
+pub use excerpt::{Excerpt, add_excerpt, excerpt_of};
 pub use failure::Failure;
 pub use fault::{Fault, FaultyPart, Report};
 pub use formed_answers::FormedAnswers;

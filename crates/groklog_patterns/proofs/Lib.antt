@@ -1,5 +1,1 @@
-pub mod BlanksEndAtBoundaries
-pub mod FirstCharacterDecides
-pub mod PlaceByPlace
 pub mod FaultsOfPatterns
-pub mod MeasuresDecide

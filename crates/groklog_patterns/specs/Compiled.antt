@@ -1,53 +1,11 @@
--- What the pattern of a user is compiled to, or reported as.
-use Rattle.std.specs.Prelude.{◌≢◌, ◌<◌, Bool, true, false, ⊤, ◌⊎◌, string_bytes}
+-- What is reported of the pattern of a user that isn't compiled.
+use Rattle.std.specs.Prelude.{Bool, ◌⊎◌}
 use Rattle.grok.specs.Maps.{Texts}
-use Rattle.grok.specs.Answers.{PatternValue}
-use Rattle.grok.specs.Compiled.{IsPatternOf, IsCompileError, expansion_of}
-use Rattle.grok.specs.Measured.{Measured, Faulty, Sized, TooLong, measured_tree, tree_of}
-use Rattle.grok.specs.Errors as errors
-use Rattle.grok.specs.Errors.{ErrorValue}
-use Rattle.grok.specs.RegexFinds.{MayRefuse}
-use Rattle.grok.specs.Engines.{engine_regex}
-use Rattle.grok.specs.declared.engine.regex_engine.RegexEngine.{RegexEngine}
-use Rattle.regex.specs.Strings.{regex_source, regex_names}
 use Rattle.groklog_input.specs.declared.fault.Fault.{Fault}
 use Rattle.groklog_input.specs.declared.fault.Fault.TheVariants.{Pattern, Usage, Memory, Read, Write}
-use Rattle.groklog_patterns.specs.declared.library.Limit.{Limit}
-use Rattle.groklog_patterns.specs.declared.pattern_text.PatternText.{PatternText}
-
--- The pattern is what the library compiles from the text, with these definitions and in this mode.
-abbrev pub IsCompiledFrom : Texts → Bool → PatternText → PatternValue RegexEngine → Type 0
-IsCompiledFrom definitions alias_only text pattern =
-    IsPatternOf (λ engine. regex_source (engine_regex engine)) (λ engine. regex_names (engine_regex engine))
-    (expansion_of definitions alias_only (string_bytes text.text)) pattern
-
--- The contract of `compile` allows an error that isn't `Memory` for this text, with these definitions and in this
--- mode: the text is empty or has a fault, or `regex` may refuse what it expands to.
-pub record IsRefusedText (definitions : Texts) (alias_only : Bool) (text : PatternText) : Type 0 where
-  pub error : ErrorValue
-  pub is : IsCompileError MayRefuse (expansion_of definitions alias_only (string_bytes text.text)) error
-  pub not_memory : error ≢ errors.Memory
-
--- A pattern that was measured has no structural fault, and its expanded text has more bytes than the limit allows, or
--- more groups of placeholders.
-abbrev pub IsPast : Limit → Measured → Type 0
-IsPast limit (Faulty fault) = ⊥
-IsPast limit (Sized length groups nesting) = (limit.bytes < length) ⊎ (limit.groups < groups)
-IsPast limit TooLong = ⊤
-
--- `found` says whether it is past the limit.
-abbrev pub IsPastOrNot : Limit → Measured → Bool → Type 0
-IsPastOrNot limit measured true = IsPast limit measured
-IsPastOrNot limit measured false = IsPast limit measured → ⊥
-
--- The expanded text of the pattern, with these definitions and in this mode, is larger than the limit allows.
-abbrev pub IsTooLarge : Texts → Bool → Limit → PatternText → Type 0
-IsTooLarge definitions alias_only limit text = IsPast limit (measured_tree alias_only (tree_of definitions (string_bytes text.text)))
-
--- `found` says whether it is.
-abbrev pub IsTooLargeOrNot : Texts → Bool → Limit → PatternText → Bool → Type 0
-IsTooLargeOrNot definitions alias_only limit text =
-    IsPastOrNot limit (measured_tree alias_only (tree_of definitions (string_bytes text.text)))
+use Rattle.groklog_definitions.specs.Compiled.{IsRefusedText, IsTooLarge}
+use Rattle.groklog_definitions.specs.declared.library.Limit.{Limit}
+use Rattle.groklog_definitions.specs.declared.pattern_text.PatternText.{PatternText}
 
 -- The pattern is faulty, or its expanded text is larger than the limit allows.
 abbrev pub IsRefused : Texts → Bool → Limit → PatternText → Type 0

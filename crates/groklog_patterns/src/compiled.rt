@@ -1,15 +1,36 @@
-//! Compiles the patterns of a run.
-ghost use Rattle.std.specs.Prelude.{Any, IfOk, IfErr, OnOk};
+//! Compiles the patterns of a run, and reports what is wrong with one.
+ghost use Rattle.std.specs.Prelude.{◌≢◌, Any, IfOk, IfErr, OnOk};
 ghost use Rattle.std.specs.List.{AllZip};
-ghost use Rattle.groklog_patterns.specs.Compiled.{IsCompiledFrom, IsTooLarge, IsRefused, IsCompileFault};
+ghost use Rattle.groklog_definitions.specs.Compiled.{IsCompiledFrom, IsTooLarge};
+ghost use Rattle.groklog_patterns.specs.Compiled.{IsRefused, IsCompileFault};
 
 use crate::diagnosis::report_of;
-use crate::expansions::{is_too_large, too_large_report};
-use crate::library::Library;
-use crate::pattern_text::PatternText;
-use grok::{Error, Pattern};
+use crate::expansions::too_large_report;
+use grok::Pattern;
+use groklog_definitions::{Library, PatternText, Refusal};
 use groklog_input::Fault;
-use std::alloc::Global;
+use std::alloc::{AllocError, Global};
+
+/// Returns the fault that reports why a pattern isn't compiled.
+fn fault_of(
+    alloc: Global,
+    library: &Library<'_>,
+    refusal: Refusal<'_>,
+    with_alias_only: bool,
+) -> Result<Fault, AllocError>
+    ensures { IfOk result (IsCompileFault (refusal.entry ≢ Refusal.Memory)) }
+{
+    Ok(match refusal {
+        Refusal::TooLarge(pattern) => {
+            Fault::Pattern(too_large_report(alloc, library, pattern, with_alias_only)?)
+        }
+        Refusal::Invalid(pattern) => {
+            Fault::Pattern(report_of(alloc, library, pattern, with_alias_only)?)
+        }
+        // own error: compiling reported that an allocation failed.
+        Refusal::Memory => Fault::Memory,
+    })
+}
 
 /// Compiles one pattern, unless its expanded text is larger than the library takes. That is known before any
 /// of the text is written.
@@ -17,6 +38,7 @@ use std::alloc::Global;
 /// # Errors
 ///
 /// Returns its fault if it can't be compiled or is too large, or an error if an allocation fails.
+#[tactic(auto, using(crate::proofs::FaultsOfPatterns::faults))]
 pub fn compile(
     alloc: Global,
     library: &Library<'_>,
@@ -28,18 +50,9 @@ pub fn compile(
     ensures fault { IfErr result (IsCompileFault
         (IsRefused library.now.grok with_alias_only library.now.limit pattern.now)) }
 {
-    if is_too_large(library, pattern, with_alias_only)? {
-        let report = too_large_report(alloc, library, pattern, with_alias_only)?;
-        return Err(Fault::Pattern(report));
-    }
-    match library.grok.compile(pattern.text.as_str(), with_alias_only) {
+    match groklog_definitions::compile(library, pattern, with_alias_only) {
         Ok(compiled) => Ok(compiled),
-        // own error: the library reported that an allocation failed.
-        Err(Error::Memory) => Err(Fault::Memory),
-        Err(_) => {
-            let report = report_of(alloc, library, pattern, with_alias_only)?;
-            Err(Fault::Pattern(report))
-        }
+        Err(refusal) => Err(fault_of(alloc, library, refusal, with_alias_only)?),
     }
 }
 
@@ -49,7 +62,7 @@ pub fn compile(
 ///
 /// Returns the fault of the first pattern that can't be compiled, or an error if an allocation
 /// fails.
-#[tactic(auto, using(crate::proofs::PlaceByPlace::all_zip_more))]
+#[tactic(auto, using(crate::proofs::FaultsOfPatterns::faults))]
 pub fn compile_all(
     alloc: Global,
     library: &Library<'_>,
@@ -61,9 +74,8 @@ pub fn compile_all(
     ensures fault { IfErr result (IsCompileFault
         (Any (IsRefused library.now.grok with_alias_only library.now.limit) patterns.now)) }
 {
-    let mut all = Vec::new(alloc);
-    'patterns: for pattern in patterns {
-        all.push(compile(alloc, library, pattern, with_alias_only)?)?;
+    match groklog_definitions::compile_all(alloc, library, patterns, with_alias_only) {
+        Ok(all) => Ok(all),
+        Err(refusal) => Err(fault_of(alloc, library, refusal, with_alias_only)?),
     }
-    Ok(all)
 }

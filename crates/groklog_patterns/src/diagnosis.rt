@@ -1,13 +1,11 @@
 //! Reports what is wrong with a pattern that can't be compiled, where, and what to do.
 
-use crate::excerpt::add_excerpt;
-use crate::library::Library;
-use crate::pattern_text::{PatternText, ordinal};
 use grok::{
     Clash, Diagnosis, Grok, Location, MAX_NESTING, MalformedReason, PathStep, RefusalReason,
     Refused,
 };
-use groklog_input::Report;
+use groklog_definitions::{Library, PatternText, ordinal};
+use groklog_input::{Report, add_excerpt};
 use oniguruma_syntax::has_own_forms;
 use regex_syntax::ErrorKind;
 use std::alloc::{AllocError, Global};

@@ -1,38 +1,14 @@
-//! Refuses patterns whose expanded text would be too large, and finds out what makes it large. A few short
-//! definitions that use one another can stand for more text than any memory holds.
-ghost use Rattle.std.specs.Prelude.{IfOk};
-ghost use Rattle.groklog_patterns.specs.Compiled.{IsTooLargeOrNot};
+//! Finds out what makes the expanded text of a pattern too large. A few short definitions that use one another can
+//! stand for more text than any memory holds.
 
 use crate::diagnosis::describe_location;
-use crate::excerpt::add_excerpt;
-use crate::library::Library;
-use crate::pattern_text::PatternText;
 use grok::parser::{GrokComponent, grok_split};
 use grok::{Grok, Measure};
-use groklog_input::Report;
+use groklog_definitions::{Library, PatternText};
+use groklog_input::{Report, add_excerpt};
 use std::alloc::{AllocError, Global};
 use std::collections::BTreeMap;
 use std::ops::Range;
-
-/// Returns whether the expanded text of a pattern has no structural fault and more bytes, or more groups of
-/// placeholders, than the library takes.
-///
-/// # Errors
-///
-/// If an allocation fails.
-#[tactic(auto, using(crate::proofs::MeasuresDecide::carried))]
-pub fn is_too_large(
-    library: &Library<'_>,
-    pattern: &PatternText,
-    with_alias_only: bool,
-) -> Result<bool, AllocError>
-    ensures { IfOk result (IsTooLargeOrNot library.now.grok with_alias_only library.now.limit pattern.now) }
-{
-    let measure = library
-        .grok
-        .measure(pattern.text.as_str(), with_alias_only)?;
-    Ok(library.limit.is_past(measure))
-}
 
 /// What an expanded text has too much of.
 #[derive(Clone, Copy, PartialEq, Eq)]

@@ -1,7 +1,7 @@
 //! Explains patterns for `--explain`, without reading lines.
 
-use crate::library::Library;
 use grok::{Measure, Pattern};
+use groklog_definitions::Library;
 use groklog_input::visible;
 use std::alloc::{AllocError, Global};
 

@@ -1,13 +1,9 @@
 //! Rewrites what was made for Logstash: the patterns, and the definitions that they use.
 
-use crate::common::common_definition;
-use crate::definitions::Origin;
-use crate::excerpt::add_excerpt;
-use crate::library::{Library, Source};
-use crate::pattern_text::{PatternText, RunTexts};
 use grok::Measure;
 use grok::parser::{GrokComponent, grok_split};
-use groklog_input::{Fault, Report};
+use groklog_definitions::{Library, Origin, PatternText, RunTexts, Source, common_definition};
+use groklog_input::{Fault, Report, add_excerpt};
 use oniguruma_syntax::{Outcome, Reason, Refused, Rewritten, Wish, rewrite};
 use std::alloc::{AllocError, Global};
 use std::collections::BTreeMap;

@@ -1,8 +1,7 @@
 //! Says by which placeholder the value of a key is found, and what that is defined as.
 
-use crate::library::Library;
-use crate::pattern_text::PatternText;
 use grok::{ByteLocation, Location, Pattern, WrittenByte};
+use groklog_definitions::{Library, PatternText};
 use std::alloc::{AllocError, Global};
 use std::collections::BTreeMap;
 

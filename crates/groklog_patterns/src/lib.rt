@@ -1,12 +1,9 @@
-//! The definitions and the patterns of a run of `groklog`, and what is reported about them. It reads and
-//! writes no files.
+//! What is reported about the definitions and the patterns of a run of `groklog`. It reads and writes no files.
 //!
-//! A [`Library`] has the definitions, and where each was given. [`compile_all`] compiles patterns with it, and
-//! returns a fault that says what is wrong with one, where, and what to do. An [`Explainer`] says where
-//! patterns stop in a line that doesn't match:
+//! [`compile_all`] compiles patterns with a library, and returns a fault that says what is wrong with one, where,
+//! and what to do. An [`Explainer`] says where patterns stop in a line that doesn't match:
 //!
 //! ```text
-//! let library = Library::new(alloc, true, &files, &words)?;
 //! let texts = patterns_of(alloc, &["%{IP:client} %{WORD:verb}"])?;
 //! let patterns = compile_all(alloc, &library, &texts, true)?;
 //! let mut explainer = Explainer::new(alloc, &library, &texts, &patterns, true)?;
@@ -14,30 +11,20 @@
 //! ```
 #![tactic(auto)]
 
-mod common;
 mod compiled;
-mod definition;
-mod definitions;
 mod diagnosis;
-mod excerpt;
 mod expansions;
 mod explanation;
 mod from_logstash;
 mod key_titles;
-mod library;
-mod pattern_text;
 mod stop_report;
 mod stops;
 mod written_definitions;
 
-pub use common::list_common_definitions;
-pub use common_definitions::{LineFormat, line_formats};
 pub use compiled::{compile, compile_all};
 pub use diagnosis::bare_name;
 pub use explanation::explain;
 pub use from_logstash::{Adapted, adapt_all, adapt_own, own_wholes};
 pub use key_titles::titles_of;
-pub use library::{DefinitionFile, Library, Limit};
-pub use pattern_text::{PatternText, RunTexts, ordinal, patterns_of, start_pattern};
 pub use stop_report::Explainer;
 pub use written_definitions::definition_lines;

@@ -1,11 +1,9 @@
 //! Reports where a pattern stops in a line that doesn't match.
 
-use crate::excerpt::{Excerpt, excerpt_of};
-use crate::library::Library;
-use crate::pattern_text::PatternText;
 use crate::stops::{Outermost, Searched, Stop, furthest_stop};
 use grok::{Location, Pattern};
-use groklog_input::visible;
+use groklog_definitions::{Library, PatternText};
+use groklog_input::{Excerpt, excerpt_of, visible};
 use regex_beginnings::{Found, Group};
 use std::alloc::{AllocError, Global};
 use std::ops::Range;

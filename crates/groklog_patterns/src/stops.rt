@@ -1,8 +1,7 @@
 //! Finds where patterns stop in a line that doesn't match.
 
-use crate::library::Library;
-use crate::pattern_text::PatternText;
 use grok::{ByteLocation, Location, Pattern, WrittenByte};
+use groklog_definitions::{Library, PatternText};
 use regex_beginnings::{Beginnings, Found, Group, Piece};
 use std::alloc::{AllocError, Global};
 use std::ops::Range;

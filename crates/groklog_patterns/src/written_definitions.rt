@@ -1,8 +1,6 @@
 //! Writes the definitions of a run as the text of one file.
 
-use crate::definition::{read_definition, skip_blanks};
-use crate::definitions::without_mark;
-use crate::library::DefinitionFile;
+use groklog_definitions::{DefinitionFile, read_definition, skip_blanks, without_mark};
 use groklog_input::{Fault, Report};
 use oniguruma_syntax::{Outcome, Wish, rewrite};
 use std::alloc::{AllocError, Global};

@@ -5,7 +5,7 @@ use Rattle.std.specs.Str.{IsUtf8, IsCharBoundary}
 use Rattle.std.proofs.lemmas.List.Sums.{prefix_len-le-length, prefix_len_passes}
 use Rattle.std.proofs.lemmas.Bool.Decides.{nat_tests}
 use Rattle.grok_parser.proofs.RunsEndAtBoundaries.{IsCharBoundary-after_run}
-use Rattle.groklog_patterns.specs.DefinitionTexts.{is_blank}
+use Rattle.groklog_definitions.specs.DefinitionTexts.{is_blank}
 
 blank_ascii : (b : ℕ) → is_blank b ≡ true → b < 128
 blank_ascii b e = grind (arith, nat_tests)

@@ -2,8 +2,8 @@
 use Rattle.std.proofs.Common.{◌≡◌, ℕ, ◌<◌, ◌⊎◌, inl, inr, Bool, subst, sym}
 use Rattle.grok.specs.Tree.{Fault}
 use Rattle.grok.specs.Measured.{Measured, Faulty, Sized, TooLong}
-use Rattle.groklog_patterns.specs.Compiled.{IsPast, IsPastOrNot}
-use Rattle.groklog_patterns.specs.declared.library.Limit.{Limit}
+use Rattle.groklog_definitions.specs.Compiled.{IsPast, IsPastOrNot}
+use Rattle.groklog_definitions.specs.declared.library.Limit.{Limit}
 
 pub sized_long : (limit : Limit) (l g n : ℕ) (found : Measured) → Sized l g n ≡ found → limit.bytes < l → IsPast limit found
 sized_long limit l g n found e lt = subst (IsPast limit) e (inl lt)

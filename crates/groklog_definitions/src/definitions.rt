@@ -1,6 +1,6 @@
 //! Reads definitions from the lines of a file, and from the words after `-D`.
 ghost use Rattle.std.specs.Prelude.{◌≡◌, option_map};
-ghost use Rattle.groklog_patterns.specs.DefinitionTexts.{definition_of};
+ghost use Rattle.groklog_definitions.specs.DefinitionTexts.{definition_of};
 
 use crate::definition::{read_definition, skip_blanks};
 use std::alloc::AllocError;

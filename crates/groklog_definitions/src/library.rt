@@ -3,14 +3,13 @@
 ghost use Rattle.std.specs.Prelude.{◌≡◌, ◌/◌, OnOk, OnErr};
 ghost use Rattle.std.specs.FinMap as finite;
 ghost use Rattle.grok.specs.Measured.{measure_view};
-ghost use Rattle.groklog_patterns.specs.Compiled.{IsPastOrNot};
+ghost use Rattle.groklog_definitions.specs.Compiled.{IsPastOrNot};
 
 use crate::common::add_common_definitions;
 use crate::definition::name_of_spaced;
 use crate::definitions::{Definition, Origin, read_file, read_word};
-use crate::excerpt::add_excerpt;
 use grok::{Grok, Measure, patterns};
-use groklog_input::{Fault, Report};
+use groklog_input::{Fault, Report, add_excerpt};
 use std::alloc::{AllocError, Global};
 use std::collections::BTreeMap;
 

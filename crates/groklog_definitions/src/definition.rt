@@ -3,7 +3,7 @@ ghost use Rattle.std.specs.Prelude.{◌≡◌, drop, option_map};
 ghost use Rattle.std.specs.List.{prefix_len};
 ghost use Rattle.grok_parser.specs.Ascii.{equals_sign};
 ghost use Rattle.grok.specs.Maps.{pair_texts};
-ghost use Rattle.groklog_patterns.specs.DefinitionTexts.{is_blank, without_blanks, begins_with, definition_after_blanks, definition_after, definition_of, is_spaced, name_of_spaced};
+ghost use Rattle.groklog_definitions.specs.DefinitionTexts.{is_blank, without_blanks, begins_with, definition_after_blanks, definition_after, definition_of, is_spaced, name_of_spaced};
 
 use grok::parser::split_name;
 

@@ -1,6 +1,6 @@
 -- The words by which reports refer to patterns.
 use Rattle.std.specs.Prelude.{ℕ, ◌==◌, ◌%◌, ◌||◌, List, ◌++◌, if◌then◌else◌, codes, decimal, map, string_bytes}
-use Rattle.groklog_patterns.specs.declared.pattern_text.PatternText.{PatternText}
+use Rattle.groklog_definitions.specs.declared.pattern_text.PatternText.{PatternText}
 
 -- What an English ordinal number ends in: `1st`, `2nd`, `3rd` and `4th`, but `11th`, `12th` and `13th`.
 abbrev pub ordinal_ending : ℕ → List ℕ

@@ -1,6 +1,8 @@
 //! Shows a part of a text, with some of the text around it and carets under it.
+ghost use Rattle.std.specs.Prelude.{◌≡◌, OnErr};
 
-use groklog_input::{Report, visible};
+use crate::fault::Report;
+use crate::visible_text::visible;
 use std::alloc::{AllocError, Global};
 use std::ops::Range;
 use unicode_width::UnicodeWidthStr;
@@ -76,14 +78,18 @@ pub fn excerpt_of(alloc: Global, text: &str, part: Range<usize>) -> Result<Excer
 ///
 /// # Errors
 ///
-/// If an allocation fails.
+/// If an allocation fails. The report stays as it was then.
 pub fn add_excerpt(
     alloc: Global,
     report: &mut Report,
     location: &str,
     text: &str,
     part: Range<usize>,
-) -> Result<(), AllocError> {
+) -> Result<(), AllocError>
+    ensures what { report.new.what ≡ report.old.what }
+    ensures memory { OnErr result (report.new.parts.items ≡ report.old.parts.items) }
+    ensures advice { report.new.advice ≡ report.old.advice }
+{
     let Excerpt { line, carets } = excerpt_of(alloc, text, part)?;
     report.add_part(alloc, location, line.as_str(), carets.as_str())
 }

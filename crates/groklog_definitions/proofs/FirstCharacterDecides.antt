@@ -3,7 +3,7 @@ use Rattle.std.proofs.Common.{◌≡◌, ℕ, ◌<◌, List, [], ◌∷◌, ◌+
 use lib.Utf8.{encode}
 use Rattle.std.proofs.lemmas.Str.{char_from_byte, length-encode, len_utf8_bounds, encode_ascii}
 use Rattle.std.proofs.lemmas.Bool.Decides.{nat_tests}
-use Rattle.groklog_patterns.specs.DefinitionTexts.{definition_after_blanks, definition_after}
+use Rattle.groklog_definitions.specs.DefinitionTexts.{definition_after_blanks, definition_after}
 
 starts_with : (text more : List ℕ) (c : ℕ) → text ≡ encode c ++ more → c < 128 → text ≡ c ∷ more
 starts_with text more c e low = e ∙ ap (λ bs. bs ++ more) (encode_ascii c low)

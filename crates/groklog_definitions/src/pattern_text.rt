@@ -1,6 +1,6 @@
 //! The patterns of a run, as they are compiled, and the words by which reports refer to them.
 ghost use Rattle.std.specs.Prelude.{◌≡◌, IfOk, map, string_bytes};
-ghost use Rattle.groklog_patterns.specs.Texts.{ordinal_text, pattern_texts};
+ghost use Rattle.groklog_definitions.specs.Texts.{ordinal_text, pattern_texts};
 
 use std::alloc::{AllocError, Global};
 

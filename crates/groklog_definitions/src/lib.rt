@@ -1,0 +1,25 @@
+//! The definitions and the patterns of a run of `groklog`. It reads and writes no files.
+//!
+//! A [`Library`] has the definitions, and where each was given. [`compile_all`] compiles patterns with it, or says
+//! which of them is too large or faulty:
+//!
+//! ```text
+//! let library = Library::new(alloc, true, &files, &words, most_bytes)?;
+//! let texts = patterns_of(alloc, &["%{IP:client} %{WORD:verb}"])?;
+//! let patterns = compile_all(alloc, &library, &texts, true)?;
+//! ```
+#![tactic(auto)]
+
+mod common;
+mod compiled;
+mod definition;
+mod definitions;
+mod library;
+mod pattern_text;
+
+pub use common::{common_definition, list_common_definitions};
+pub use compiled::{Refusal, compile, compile_all};
+pub use definition::{read_definition, skip_blanks};
+pub use definitions::{Origin, without_mark};
+pub use library::{DefinitionFile, Library, Limit, Source};
+pub use pattern_text::{PatternText, RunTexts, ordinal, patterns_of, start_pattern};
