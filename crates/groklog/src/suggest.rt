@@ -7,8 +7,9 @@ use groklog_definitions::Library;
 use groklog_input::visible;
 use groklog_options::Options;
 use groklog_patterns::own_wholes;
+use log_samples::{Definitions, Fit, LogKind, kind_of_log};
 use std::alloc::{AllocError, Global};
-use suggestions::{Advice, Definitions, Fit, Format, Formats, LogKind, Share, advise, kind_of_log};
+use suggestions::{Advice, Format, Formats, Share, advise};
 
 /// How many patterns are shown at most.
 const MOST_SHOWN: usize = 5;

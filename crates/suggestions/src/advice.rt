@@ -1,13 +1,11 @@
 //! Finds what to advise for lines: which definitions and which patterns fit them.
 
-use crate::compiled::compile_valid;
-use crate::definitions::Definitions;
-use crate::fits::{Candidate, Fit, count, finds_each};
 use crate::proposals::{Continued, Proposal, propose, propose_after};
-use crate::recognizer::Recognizer;
 use crate::starts::{events_of, start_of};
 use crate::text::whole_pattern;
-use crate::values::separator_of;
+use log_samples::{
+    Candidate, Definitions, Fit, Recognizer, compile_valid, count, finds_each, separator_of,
+};
 use std::alloc::{AllocError, Global};
 use std::cmp::Reverse;
 

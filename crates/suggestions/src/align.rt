@@ -1,7 +1,7 @@
 //! Aligns lines by their tokens.
 
 use crate::columns::{Column, Content};
-use crate::tokens::{Kind, Token};
+use log_samples::{Kind, Token};
 use std::alloc::{AllocError, Global};
 
 /// How many columns there are at most. What comes after them is the rest.

@@ -1,7 +1,6 @@
 //! What the lines of a group have in common, column by column.
 
-use crate::recognizer::{Meaning, known_definition};
-use crate::tokens::Kind;
+use log_samples::{Kind, Meaning, known_definition};
 
 /// What a column has in each line.
 #[derive(Clone, Copy, PartialEq, Eq)]

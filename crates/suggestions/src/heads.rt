@@ -1,9 +1,8 @@
 //! Lines that begin with a definition and then have more.
 
-use crate::compiled::compile_valid;
-use crate::definitions::Definitions;
 use crate::text::Frame;
 use grok::{MatchesRef, Pattern};
+use log_samples::{Definitions, compile_valid, first_line};
 use std::alloc::{AllocError, Global};
 
 /// The key of what comes after a definition.
@@ -30,14 +29,6 @@ pub(crate) struct LineView<'a> {
     pub frame: Frame<'a>,
     /// Finds the definition with which the lines begin.
     head: Option<Pattern>,
-}
-
-/// Returns the first line of an event, which may be all of it.
-pub(crate) fn first_line(text: &str) -> &str {
-    match text.split_once('\n') {
-        Some((first, _)) => first,
-        None => text,
-    }
 }
 
 /// Returns whether some of the texts have several lines.

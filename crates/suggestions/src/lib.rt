@@ -15,18 +15,10 @@
 mod advice;
 mod align;
 mod columns;
-mod compiled;
-mod definitions;
-mod fits;
 mod heads;
 mod proposals;
-mod recognizer;
 mod starts;
 mod text;
-mod tokens;
 mod values;
 
 pub use advice::{Advice, Format, Formats, Share, Suggestion, advise};
-pub use definitions::Definitions;
-pub use fits::Fit;
-pub use values::{LogKind, kind_of_log};

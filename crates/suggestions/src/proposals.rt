@@ -2,13 +2,10 @@
 ghost use Rattle.std.specs.Prelude.{◌≡◌, ◌+◌, ◌<◌, ◌≤◌, All, IfOk, IfSome, OnOk, vec_len};
 
 use crate::align::{Row, Template, align, count_kind};
-use crate::definitions::Definitions;
-use crate::fits::{Candidate, Fit};
 use crate::heads::{LineView, longest_head};
-use crate::recognizer::Recognizer;
 use crate::text::{RestForm, pattern_text};
-use crate::tokens::{Cutter, Kind};
-use crate::values::{separator_of, template_of_values};
+use crate::values::template_of_values;
+use log_samples::{Candidate, Cutter, Definitions, Fit, Kind, Recognizer, separator_of};
 use std::alloc::{AllocError, Global};
 use std::collections::BTreeMap;
 

@@ -1,11 +1,10 @@
 //! Finds how events of several lines begin.
 
-use crate::fits::finds_each;
 use crate::proposals::aligned_of;
-use crate::recognizer::{Meaning, Recognizer, known_definition};
-use crate::text::literal;
-use crate::tokens::{Cutter, Kind, Token};
 use grok::Pattern;
+use log_samples::{
+    Cutter, Kind, Meaning, Recognizer, Token, finds_each, known_definition, literal,
+};
 use std::alloc::{AllocError, Global};
 
 /// How many bytes may come before the time with which an event begins.

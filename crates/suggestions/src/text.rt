@@ -1,13 +1,9 @@
 //! Writes patterns.
-ghost use Rattle.std.specs.Prelude.{IfOk, string_bytes};
-ghost use Rattle.regex_syntax.specs.Verdict.{ReadsAsText};
 
 use crate::align::Template;
 use crate::columns::{Column, Content};
-use crate::recognizer::{Known, Meaning, known_definition};
-use crate::tokens::Kind;
 use grok::Grok;
-use regex_syntax::escape;
+use log_samples::{Kind, Known, Meaning, known_definition, literal};
 use std::alloc::{AllocError, Global};
 use std::collections::BTreeMap;
 
@@ -51,13 +47,6 @@ pub(crate) fn whole_pattern(
 ) -> Result<String, AllocError> {
     let more = if are_events { MORE_LINES } else { "" };
     format!(in alloc; "^%{{{name}}}{more}$")
-}
-
-/// Returns a text as it is written in a pattern that finds this very text.
-pub(crate) fn literal(alloc: Global, text: &str) -> Result<String, AllocError>
-    ensures { IfOk result (λ literal. ReadsAsText (string_bytes literal) text.now) }
-{
-    escape(alloc, text)
 }
 
 /// Returns whether a word can be a key.

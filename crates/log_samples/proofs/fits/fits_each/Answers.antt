@@ -1,7 +1,7 @@
 use Rattle.std.proofs.Common.{ℕ, List, Bool, Bor, ◌++◌, [], ◌∷◌, map, take, ap, sym, ◌∙◌}
 use Rattle.std.proofs.lemmas.List.{take_all, take_more, map-append}
-use Rattle.suggestions.specs.Fits.{fits}
-use Rattle.suggestions.proofs.fits.fits_each.Goals as goal
+use Rattle.log_samples.specs.Fits.{fits}
+use Rattle.log_samples.proofs.fits.fits_each.Goals as goal
 
 pub lines-preserved : goal.lines-preserved
 lines-preserved c =

@@ -6,8 +6,8 @@ use Rattle.std.proofs.lemmas.Bool.{cases_Bool}
 use Rattle.std.proofs.lemmas.Bool.Decides.{Decides-eqb}
 use Rattle.std.proofs.lemmas.Slice.Eq.{starts_is}
 use Rattle.std.proofs.lemmas.Str.Pattern.{strip_prefix_char, starts_text, ends_text}
-use Rattle.suggestions.specs.Logs.{is_object}
-use Rattle.suggestions.proofs.values.is_json.Goals as goal
+use Rattle.log_samples.specs.Logs.{is_object}
+use Rattle.log_samples.proofs.log_kinds.is_json.Goals as goal
 
 -- a text without a `{` at its start is no object
 not_begun : (text : List ℕ) → ((rest : List ℕ) → text ≢ 123 ∷ rest) → is_object text ≡ false

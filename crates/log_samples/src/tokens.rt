@@ -1,6 +1,6 @@
 //! Cuts lines into tokens: what definitions recognize, words, blanks, and marks.
 ghost use Rattle.std.specs.Prelude.{◌≡◌, IfOk};
-ghost use Rattle.suggestions.specs.Tokens.{joined};
+ghost use Rattle.log_samples.specs.Tokens.{joined};
 
 use crate::recognizer::{Meaning, Recognized, RecognizerSearch, known_definition};
 use std::alloc::{AllocError, Global};
@@ -19,8 +19,8 @@ const UNITS: [&str; 24] = [
 
 /// What a token is.
 #[derive(Clone, Copy, PartialEq, Eq)]
-pub(crate) enum Kind {
-    /// What the definition with this index recognizes.
+pub enum Kind {
+    /// What the definition with this index recognizes, which [`known_definition`] returns.
     Known(usize),
     /// Characters that are neither blanks nor marks.
     Word,
@@ -34,7 +34,7 @@ pub(crate) enum Kind {
 
 /// A part of a line.
 #[derive(Clone, Copy)]
-pub(crate) struct Token<'l> {
+pub struct Token<'l> {
     pub kind: Kind,
     pub text: &'l str,
 }
@@ -101,7 +101,7 @@ fn part_looked_at(line: &str) -> &str {
 
 /// Cuts lines into tokens.
 #[derive(Drop)]
-pub(crate) struct Cutter<'r> {
+pub struct Cutter<'r> {
     alloc: Global,
     search: RecognizerSearch<'r>,
     /// What is recognized next in this line.
@@ -110,7 +110,7 @@ pub(crate) struct Cutter<'r> {
 
 impl<'r> Cutter<'r> {
     /// Makes a cutter that uses this search.
-    pub(crate) fn new(alloc: Global, search: RecognizerSearch<'r>) -> Cutter<'r> {
+    pub fn new(alloc: Global, search: RecognizerSearch<'r>) -> Cutter<'r> {
         Cutter {
             alloc,
             search,
@@ -148,7 +148,7 @@ impl<'r> Cutter<'r> {
     /// # Errors
     ///
     /// If an allocation fails.
-    pub(crate) fn cut<'l>(&mut self, line: &'l str) -> Result<Vec<Token<'l>>, AllocError>
+    pub fn cut<'l>(&mut self, line: &'l str) -> Result<Vec<Token<'l>>, AllocError>
         ensures { IfOk result (λ tokens. joined tokens.items ≡ line.now) }
     {
         let part = part_looked_at(line);

@@ -1,6 +1,6 @@
 -- The tokens of a line.
 use Rattle.std.specs.Prelude.{ℕ, List, flat_map}
-use Rattle.suggestions.specs.declared.tokens.Token.{Token}
+use Rattle.log_samples.specs.declared.tokens.Token.{Token}
 
 -- The texts of the tokens, one after another.
 abbrev pub joined : List Token → List ℕ

@@ -8,7 +8,7 @@ use std::alloc::{AllocError, Global};
 
 /// What the text that a definition recognizes says.
 #[derive(Clone, Copy, PartialEq, Eq)]
-pub(crate) enum Meaning {
+pub enum Meaning {
     /// A time, or a date and a time.
     Time,
     /// A level of a message.
@@ -21,7 +21,7 @@ pub(crate) enum Meaning {
 
 /// A definition that is looked for in lines.
 #[derive(Clone, Copy)]
-pub(crate) struct Known {
+pub struct Known {
     pub name: &'static str,
     /// The key of its placeholder.
     pub key: &'static str,
@@ -67,9 +67,9 @@ fn known_definitions() -> &'static [(&'static str, &'static str, Meaning)] {
     &KNOWN
 }
 
-/// Returns the definition with this index in [`KNOWN`]. If there is none, returns `DATA`, which finds any
-/// text.
-pub(crate) fn known_definition(index: usize) -> Known {
+/// Returns the definition with this index among those that a [`Recognizer`] looks for. If there is none, returns `DATA`, which
+/// finds any text.
+pub fn known_definition(index: usize) -> Known {
     let data = ("DATA", "field", Meaning::Other);
     let (name, key, meaning) = known_definitions().get(index).copied().unwrap_or(data);
     Known { name, key, meaning }
@@ -84,9 +84,9 @@ struct Group {
     known: usize,
 }
 
-/// Recognizes what the definitions of [`KNOWN`] find, as far as a library has them.
+/// Recognizes what known definitions find, as far as a library has them: times, addresses, levels, numbers and the like.
 #[derive(Drop)]
-pub(crate) struct Recognizer<'d> {
+pub struct Recognizer<'d> {
     pub definitions: Definitions<'d>,
     /// The alternatives, or `None` if the library has none of the definitions.
     regex: Option<Regex>,
@@ -131,10 +131,7 @@ impl<'d> Recognizer<'d> {
     /// # Errors
     ///
     /// If an allocation fails.
-    pub(crate) fn new(
-        alloc: Global,
-        definitions: Definitions<'d>,
-    ) -> Result<Recognizer<'d>, AllocError> {
+    pub fn new(alloc: Global, definitions: Definitions<'d>) -> Result<Recognizer<'d>, AllocError> {
         let mut groups = Vec::new(alloc);
         let text = alternatives(alloc, definitions.grok)?;
         let pattern = if text.is_empty() {
@@ -171,7 +168,7 @@ impl<'d> Recognizer<'d> {
     /// # Errors
     ///
     /// If an allocation fails.
-    pub(crate) fn search(&self, alloc: Global) -> Result<RecognizerSearch<'_>, AllocError> {
+    pub fn search(&self, alloc: Global) -> Result<RecognizerSearch<'_>, AllocError> {
         let Some(regex) = &self.regex else {
             return Ok(RecognizerSearch {
                 groups: self.groups.as_slice(),
@@ -189,7 +186,7 @@ impl<'d> Recognizer<'d> {
 
 /// A search for what a recognizer recognizes, which keeps its caches from line to line.
 #[derive(Drop)]
-pub(crate) struct RecognizerSearch<'r> {
+pub struct RecognizerSearch<'r> {
     groups: &'r [Group],
     engine: Option<(Matcher<'r>, CaptureLocations)>,
 }

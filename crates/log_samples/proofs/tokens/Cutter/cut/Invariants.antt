@@ -1,7 +1,7 @@
 use Rattle.std.proofs.Common.{◌≡◌, ◌++◌}
 use Rattle.std.specs.Prelude.{IsUtf8}
-use Rattle.suggestions.specs.Tokens.{joined}
-use Rattle.suggestions.proofs.tokens.Cutter.cut.Given as goal
+use Rattle.log_samples.specs.Tokens.{joined}
+use Rattle.log_samples.proofs.tokens.Cutter.cut.Given as goal
 
 abbrev pub invariant-tokens : goal.invariant-tokens
 invariant-tokens l = record {

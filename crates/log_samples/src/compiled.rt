@@ -4,7 +4,7 @@ ghost use Rattle.regex.specs.Strings.{regex_source, regex_names};
 ghost use Rattle.grok.specs.Compiled.{Compiles, expansion_of};
 ghost use Rattle.grok.specs.Engines.{engine_regex};
 ghost use Rattle.grok.specs.RegexFinds.{MayRefuse};
-ghost use Rattle.suggestions.specs.Sizes.{IsWithin};
+ghost use Rattle.log_samples.specs.Sizes.{IsWithin};
 
 use crate::definitions::Definitions;
 use grok::{Error, Grok, Measure, Pattern};

@@ -2,7 +2,7 @@
 ghost use Rattle.std.specs.Prelude.{◌≡◌, ◌<◌, IfOk, IfSome, count_by, map};
 ghost use Rattle.grok.specs.Answers.{walk};
 ghost use Rattle.grok.specs.BorrowedMatches.{borrowed_keys, borrowed_captures};
-ghost use Rattle.suggestions.specs.Fits.{tells, fits};
+ghost use Rattle.log_samples.specs.Fits.{tells, fits};
 
 use crate::compiled::compile_valid;
 use crate::definitions::Definitions;
@@ -30,7 +30,7 @@ pub struct FittedLines {
 
 /// A pattern, and which of some lines it fits.
 #[derive(Drop)]
-pub(crate) struct Candidate {
+pub struct Candidate {
     pub text: String,
     pub fit: Fit,
     /// Whether it fits each of the lines.
@@ -55,7 +55,7 @@ impl Drop for Counter<'_> {
 /// # Errors
 ///
 /// If an allocation fails.
-pub(crate) fn finds_each(
+pub fn finds_each(
     alloc: Global,
     pattern: &Pattern,
     lines: &[&str],
@@ -148,7 +148,7 @@ fn fits_each(
 }
 
 /// Counts the lines that are marked.
-pub(crate) fn count(each: &[bool]) -> usize
+pub fn count(each: &[bool]) -> usize
     ensures { result ≡ count_by (λ is_marked. is_marked) each.now }
 {
     let mut count = 0usize;
@@ -191,7 +191,7 @@ impl Candidate {
     /// # Errors
     ///
     /// If an allocation fails.
-    pub(crate) fn new(
+    pub fn new(
         alloc: Global,
         definitions: Definitions<'_>,
         text: String,
@@ -214,7 +214,7 @@ impl Candidate {
     /// # Errors
     ///
     /// If an allocation fails.
-    pub(crate) fn unfit_lines<'l>(
+    pub fn unfit_lines<'l>(
         &self,
         alloc: Global,
         lines: &[&'l str],

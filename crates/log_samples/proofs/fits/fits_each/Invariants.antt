@@ -1,6 +1,6 @@
 use Rattle.std.proofs.Common.{◌≡◌, take, map}
-use Rattle.suggestions.specs.Fits.{fits}
-use Rattle.suggestions.proofs.fits.fits_each.Given as goal
+use Rattle.log_samples.specs.Fits.{fits}
+use Rattle.log_samples.proofs.fits.fits_each.Given as goal
 
 abbrev pub invariant-lines : goal.invariant-lines
 invariant-lines l = record {

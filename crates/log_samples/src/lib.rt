@@ -1,0 +1,31 @@
+//! What a sample of the lines of a log shows: which patterns fit its lines, which tokens a line has,
+//! and whether its lines are JSON objects or values between separators.
+//!
+//! [`fitted_lines`] returns which lines a pattern fits, and [`Cutter`] cuts a line into tokens, of which nothing is lost:
+//!
+//! ```text
+//! let recognizer = Recognizer::new(alloc, definitions)?;
+//! let mut cutter = Cutter::new(alloc, recognizer.search(alloc)?);
+//! let tokens = cutter.cut("12 user bob")?; // a number, a blank, a word, a blank, and a word
+//! ```
+#![tactic(auto)]
+
+mod compiled;
+mod definitions;
+mod events;
+mod fits;
+mod literals;
+mod log_kinds;
+mod recognizer;
+mod tokens;
+mod values;
+
+pub use compiled::compile_valid;
+pub use definitions::Definitions;
+pub use events::first_line;
+pub use fits::{Candidate, Fit, FittedLines, count, finds_each, fitted_lines};
+pub use literals::literal;
+pub use log_kinds::{LogKind, kind_of_log};
+pub use recognizer::{Known, Meaning, Recognizer, RecognizerSearch, known_definition};
+pub use tokens::{Cutter, Kind, Token};
+pub use values::{separator_of, value_at, value_count};

@@ -1,0 +1,95 @@
+//! What the lines of a log are, if another program reads them better than patterns do.
+ghost use Rattle.std.specs.Prelude.{◌≡◌, ◌↔◌, IsTrue};
+ghost use Rattle.log_samples.specs.Logs.{looks_like_object, AreObjects};
+
+use crate::values::{separator_of, value_at, value_count};
+
+/// One line in this many may be no JSON object.
+const LINES_FOR_ONE_NO_OBJECT: usize = 10;
+
+/// Returns whether a text has a digit.
+fn has_digit(text: &str) -> bool {
+    text.chars().any(|c| c.is_ascii_digit())
+}
+
+/// Returns whether the value with this index has a digit in each of the lines.
+fn has_digits(lines: &[&str], separator: char, index: usize) -> bool {
+    for line in lines {
+        if !has_digit(value_at(line, separator, index).unwrap_or("")) {
+            return false;
+        }
+    }
+    true
+}
+
+/// Returns whether the first line has the names of the values: none of its values has a digit, but in some column all other
+/// lines do.
+fn has_header(lines: &[&str], separator: char) -> bool {
+    let Some((first, others)) = lines.split_first() else {
+        return false;
+    };
+    if others.len() < 2 || has_digit(first) {
+        return false;
+    }
+    for index in 0..value_count(first, separator) {
+        if has_digits(others, separator, index) {
+            return true;
+        }
+    }
+    false
+}
+
+/// What lines are, if another program reads them better than patterns do.
+#[derive(Clone, Copy, PartialEq, Eq)]
+pub enum LogKind {
+    /// Lines for patterns.
+    Lines,
+    /// JSON objects.
+    Json,
+    /// Values between separators. The first line may have their names.
+    Table {
+        separator: char,
+        columns: usize,
+        has_header: bool,
+    },
+}
+
+/// Returns whether a line looks like a JSON object: `{"`, and at the end `}`.
+fn is_json(line: &str) -> bool
+    ensures { result ≡ looks_like_object line.now }
+{
+    let text = line.trim();
+    let inside = match text.strip_prefix('{') {
+        Some(inside) => inside,
+        None => return false,
+    };
+    let is_open = inside.trim_start().starts_with("\"");
+    let is_closed = text.ends_with("}");
+    is_open && is_closed
+}
+
+/// Returns whether nine of ten lines, and at least one, look like JSON objects.
+fn are_objects(lines: &[&str]) -> bool
+    ensures { IsTrue result ↔ AreObjects lines.now }
+{
+    let others = lines.iter().filter(|line| !is_json(line)).count();
+    others < lines.len() && others <= lines.len() / LINES_FOR_ONE_NO_OBJECT
+}
+
+/// Returns what lines are: JSON objects if nine of ten look so, and a table if almost all have as many values between the
+/// same separators.
+pub fn kind_of_log(lines: &[&str]) -> LogKind
+    ensures { result ≡ LogKind.Json ↔ AreObjects lines.now }
+{
+    if are_objects(lines) {
+        return LogKind::Json;
+    }
+    match (separator_of(lines), lines.first()) {
+        (Some(separator), Some(first)) if separator != '|' => LogKind::Table {
+            separator,
+            columns: value_count(first, separator),
+            has_header: has_header(lines, separator),
+        },
+        _ => LogKind::Lines,
+    }
+}
