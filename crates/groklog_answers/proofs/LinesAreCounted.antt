@@ -5,7 +5,7 @@ use Rattle.groklog_answers.specs.declared.value_counts.ValueCounts.{ValueCounts}
 use Rattle.groklog_answers.specs.Patterns.{MatchText}
 use Rattle.groklog_answers.specs.ValueCounts.{count_of, value_count, most_of, one_more, SetsCount, SkipsValue}
 use Rattle.groklog_answers.specs.PlanViews.{names_of}
-use Rattle.groklog_answers.specs.KeyCounts.{value_in, list_in, counted_in, CountsValue}
+use Rattle.groklog_answers.specs.KeyCounts.{found_value, list_in, counted_in, CountsValue}
 
 -- The clauses of counting a value, of a value that was found.
 pub some_is_counted : {E : Type 0} (r : Result (Unit {0}) E) (old new : ValueCounts) (value : List ℕ) (found : Option (List ℕ)) → found ≡ Some value
@@ -17,7 +17,7 @@ some_is_counted (Err error) old new value found is again first full = tt
 
 -- What is counted of one key is its value.
 pub value_is_counted : (format : OutputFormat) (found : Option MatchText) (keys : List (Bor (List ℕ))) (other : Bor (List ℕ)) → 1 ≤ length keys → length keys < 2
-    → value_in found (get_or keys 0 other).now ≡ counted_in format found (names_of keys)
+    → found_value found (get_or keys 0 other).now ≡ counted_in format found (names_of keys)
 value_is_counted format found [] other least most = absurd (omega (arith, least))
 value_is_counted format found (key ∷ []) other least most = refl
 value_is_counted format found (key ∷ next ∷ more) other least most = absurd (omega (arith, most))

@@ -7,8 +7,8 @@ use Rattle.groklog_answers.specs.ValueCounts.{counts_text, count_of, value_count
 use Rattle.groklog_answers.specs.declared.value_counts.ValueCounts.{ValueCounts}
 
 -- The value of a key in a match, if there is a match, and the key has a value in it.
-abbrev pub value_in : Option MatchText → List ℕ → Option (List ℕ)
-value_in found key = option_and_then (λ found. found.value key) found
+abbrev pub found_value : Option MatchText → List ℕ → Option (List ℕ)
+found_value found key = option_and_then (λ found. found.value key) found
 
 -- The text of the values that these keys have in a match, if there is a match, and each of them has a value in it.
 abbrev pub list_in : OutputFormat → Option MatchText → List (List ℕ) → Option (List ℕ)
@@ -17,7 +17,7 @@ list_in format found keys = option_map (list_text format) (option_and_then (λ f
 -- What is counted of a match: the value of the key, or the text of the values if there are several keys.
 abbrev pub counted_in : OutputFormat → Option MatchText → List (List ℕ) → Option (List ℕ)
 counted_in format found [] = list_in format found []
-counted_in format found (key ∷ []) = value_in found key
+counted_in format found (key ∷ []) = found_value found key
 counted_in format found (key ∷ next ∷ more) = list_in format found (key ∷ next ∷ more)
 
 -- What is written of the counts of one key, or of several.

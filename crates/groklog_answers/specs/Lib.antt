@@ -27,4 +27,4 @@ pub use Rattle.groklog_answers.specs.Views.{pattern_text, found_text_of, pattern
 pub use Rattle.groklog_answers.specs.Searches.{patterns_in, next_number_in, matched_in, unmatched_in, broken_in, first_index, one_more_at, HasNumbered, HasCounted}
 pub use Rattle.groklog_answers.specs.ValueCounts.{count_of, value_count, most_of, others_of, one_more, IsUnchanged, SetsCount, SkipsValue, counted_values, counted_pair, AreByCount, counts_text}
 pub use Rattle.groklog_answers.specs.ValueLists.{key_value, pairs_text, values_by, list_text, lists_text}
-pub use Rattle.groklog_answers.specs.KeyCounts.{value_in, list_in, counted_in, keys_text, CountsOnce, CountsValue}
+pub use Rattle.groklog_answers.specs.KeyCounts.{found_value, list_in, counted_in, keys_text, CountsOnce, CountsValue}

@@ -2,7 +2,7 @@
 ghost use Rattle.std.specs.Prelude.{◌≡◌, ℕ, List, [], None, IfOk, OnOk, option_map, string_bytes};
 ghost use Rattle.groklog_answers.specs.{patterns_in, first_match, found_text_of, count_of, others_of, most_of, AreByCount};
 ghost use Rattle.groklog_answers.specs.PlanViews.{names_of};
-ghost use Rattle.groklog_answers.specs.KeyCounts.{value_in, list_in, counted_in, keys_text, CountsValue};
+ghost use Rattle.groklog_answers.specs.KeyCounts.{found_value, list_in, counted_in, keys_text, CountsValue};
 
 use crate::layout::OutputFormat;
 use crate::searches::{LineMatch, Searches};
@@ -72,7 +72,7 @@ impl<'a> KeyCounts<'a> {
     /// Counts the value that the key has in the match of a line, if it has one. The key is the only one.
     fn count_value(&mut self, key: &str, line: &str) -> Result<(), AllocError>
         ensures { OnOk result (CountsValue self.old.counts self.new.counts
-            (value_in (first_match (patterns_in self.old.searches) line.now) key.now)) }
+            (found_value (first_match (patterns_in self.old.searches) line.now) key.now)) }
     {
         let Some(found) = self.searches.find(line)? else {
             return Ok(());
