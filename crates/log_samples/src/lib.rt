@@ -1,7 +1,7 @@
 //! What a sample of the lines of a log shows: which patterns fit its lines, which tokens a line has,
 //! and whether its lines are JSON objects or values between separators.
 //!
-//! [`fitted_lines`] returns which lines a pattern fits, and [`Cutter`] cuts a line into tokens, of which nothing is lost:
+//! A [`Candidate`] is a pattern with the lines that it fits, and a [`Cutter`] cuts a line into tokens, of which nothing is lost:
 //!
 //! ```text
 //! let recognizer = Recognizer::new(alloc, definitions)?;
@@ -23,7 +23,7 @@ mod values;
 pub use compiled::compile_valid;
 pub use definitions::Definitions;
 pub use events::first_line;
-pub use fits::{Candidate, Fit, FittedLines, count, finds_each, fitted_lines};
+pub use fits::{Candidate, Fit, count, finds_each};
 pub use literals::literal;
 pub use log_kinds::{LogKind, kind_of_log};
 pub use recognizer::{Known, Meaning, Recognizer, RecognizerSearch, known_definition};
