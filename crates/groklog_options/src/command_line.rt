@@ -3,6 +3,7 @@ ghost use Rattle.std.specs.Prelude.{◌≡◌};
 ghost use Rattle.clap.specs.Matches.{found_of};
 ghost use Rattle.groklog_options.specs.Tasks.{is_given};
 
+use crate::words_error::WordsError;
 use clap::parser::ValueSource;
 use clap::{Arg, ArgAction, ArgMatches, Command, value_parser};
 use std::alloc::{AllocError, Global};
@@ -535,16 +536,6 @@ pub fn is_given(matches: &ArgMatches<'_>, name: &str) -> bool
     matches!(matches.value_source(name), Some(ValueSource::CommandLine))
 }
 
-/// Returns the report that an option has no effect without one of these others.
-fn without_partner(alloc: Global, name: &str, partners: &[&str]) -> Result<String, AllocError> {
-    let mut what = format!(in alloc; "--{name} has no effect without ")?;
-    for (i, partner) in partners.iter().enumerate() {
-        what.push_str(if i > 0 { " or --" } else { "--" })?;
-        what.push_str(partner)?;
-    }
-    Ok(what)
-}
-
 /// Describes the command line to clap. The words that aren't options come before the first heading, so
 /// that the help has them below one of their own.
 ///
@@ -571,24 +562,18 @@ pub fn describe<'a>(alloc: Global) -> Result<Command<'a>, AllocError> {
     Ok(command)
 }
 
-/// Returns what is wrong with the options, if one of them is given without another that it needs.
-///
-/// # Errors
-///
-/// If an allocation fails.
-pub fn missing_partner(
-    alloc: Global,
-    matches: &ArgMatches<'_>,
-) -> Result<Option<String>, AllocError> {
+/// Returns `Err` if an option is given without one of those that it needs.
+pub fn check_partners(matches: &ArgMatches<'_>) -> Result<(), WordsError> {
     for (_, options) in HEADINGS {
         for option in options {
             if let Effect::With(partners) = option.effect
                 && is_given(matches, option.name)
                 && !partners.iter().any(|partner| is_given(matches, partner))
             {
-                return Ok(Some(without_partner(alloc, option.name, partners)?));
+                let name = option.name;
+                return Err(WordsError::NoPartner { name, partners });
             }
         }
     }
-    Ok(None)
+    Ok(())
 }

@@ -20,6 +20,7 @@ mod keys;
 mod layouts;
 mod options;
 mod task;
+mod words_error;
 
 pub use fields::chosen_fields;
 pub use keys::check_keys;

@@ -9,12 +9,13 @@ ghost use Rattle.clap.specs.Matches.{found_of};
 ghost use Rattle.clap.specs.Values.{kind_of};
 
 use crate::additions::added_of;
-use crate::command_line::{describe, is_given, missing_partner};
+use crate::command_line::{check_partners, describe, is_given};
 use crate::task::{
     AnswerOptions, Colours, CountOptions, PageOptions, PlanOptions, ShownOptions, Task,
 };
+use crate::words_error::WordsError;
 use clap::error::ErrorKind;
-use clap::{ArgMatches, Command, Error};
+use clap::{ArgMatches, Error};
 use groklog_answers::{Lines, OutputFormat};
 use groklog_input::{Fault, LineForm, Report, Unit};
 use oniguruma_syntax::Wish;
@@ -165,18 +166,22 @@ struct GivenWords<'a> {
     files: Vec<&'a str>,
 }
 
-/// Reads a word after `--named`, such as `NAME=PATTERN`. Without an `=` it has an empty name.
-fn named_pattern(word: &str) -> GivenPattern<'_> {
-    let (name, text) = word.split_once('=').unwrap_or(("", word));
-    let name = Some(name);
-    GivenPattern { name, text }
+/// Reads a word after `--named`, such as `NAME=PATTERN`. Returns `Err` if it has no name.
+fn named_pattern(word: &str) -> Result<GivenPattern<'_>, WordsError> {
+    match word.split_once('=') {
+        Some((name, text)) if !name.is_empty() => {
+            let name = Some(name);
+            Ok(GivenPattern { name, text })
+        }
+        _ => Err(WordsError::NoName),
+    }
 }
 
 /// Returns the patterns after `-e` and `--named`, in the order of the command line.
 fn given_patterns<'a>(
     alloc: Global,
     matches: &ArgMatches<'a>,
-) -> Result<BTreeMap<usize, GivenPattern<'a>>, AllocError> {
+) -> Result<BTreeMap<usize, GivenPattern<'a>>, WordsError> {
     let mut patterns = BTreeMap::new(alloc);
     for id in ["pattern", "named"] {
         let (Some(words), Some(indices)) = (matches.get_strs(id), matches.indices_of(id)) else {
@@ -184,7 +189,7 @@ fn given_patterns<'a>(
         };
         for (word, index) in words.iter().zip(indices) {
             let pattern = if id == "named" {
-                named_pattern(word)
+                named_pattern(word)?
             } else {
                 let (name, text) = (None, *word);
                 GivenPattern { name, text }
@@ -197,7 +202,7 @@ fn given_patterns<'a>(
 
 /// Returns the patterns and the files. The first word is the pattern, unless `-e` or `--named` gave
 /// one or patterns are suggested.
-fn given_words<'a>(alloc: Global, matches: &ArgMatches<'a>) -> Result<GivenWords<'a>, AllocError> {
+fn given_words<'a>(alloc: Global, matches: &ArgMatches<'a>) -> Result<GivenWords<'a>, WordsError> {
     let mut patterns = Vec::new(alloc);
     for pattern in given_patterns(alloc, matches)?.values() {
         patterns.push(*pattern)?;
@@ -331,14 +336,14 @@ fn task_of<'a>(alloc: Global, matches: &ArgMatches<'a>) -> Result<Task<'a>, Allo
 }
 
 /// Returns which lines are an event, if `--start` asks for events, or `Err` if they would have no line.
-fn events_of<'a>(matches: &ArgMatches<'a>) -> Result<Option<EventOptions<'a>>, ()> {
+fn events_of<'a>(matches: &ArgMatches<'a>) -> Result<Option<EventOptions<'a>>, WordsError> {
     let Some(start) = matches.get_str("start") else {
         return Ok(None);
     };
     let most: u64 = matches.get_one("max-lines").unwrap_or(EVENT_LINES);
     match NonZeroU64::new(most) {
         Some(most_lines) => Ok(Some(EventOptions { start, most_lines })),
-        None => Err(()),
+        None => Err(WordsError::NoLine),
     }
 }
 
@@ -365,10 +370,32 @@ fn definitions_of<'a>(
     })
 }
 
-/// Returns the error that a word of the command line is wrong.
-fn wrong(command: &mut Command<'_>, why: &str) -> Result<Error, AllocError> {
-    // own error: a word is wrong. This is clap's word for it, and no error of memory or of a device.
-    command.error(ErrorKind::ValueValidation, why)
+/// Returns the options that clap's matches ask for, or what is wrong with the words.
+fn options_of<'a>(alloc: Global, matches: &ArgMatches<'a>) -> Result<Options<'a>, WordsError>
+    ensures { IfOk result (λ options. has_patterns options.task ≡ true → 0 < length options.patterns.items) }
+{
+    check_partners(matches)?;
+    let GivenWords { patterns, files } = given_words(alloc, matches)?;
+    let task = task_of(alloc, matches)?;
+    if patterns.is_empty() && task.has_patterns() {
+        return Err(WordsError::NoPattern);
+    }
+    let events = events_of(matches)?;
+    Ok(Options {
+        task,
+        definitions: definitions_of(alloc, matches)?,
+        is_pattern_first: !matches.contains_id("pattern") && !matches.contains_id("named"),
+        patterns,
+        is_all: matches.get_flag("all"),
+        files,
+        form: LineForm {
+            drops_return: matches.get_flag("crlf"),
+            is_lossy: matches.get_flag("lossy"),
+        },
+        events,
+        has_summary: matches.get_flag("summary"),
+        has_exit_status: matches.get_flag("exit-status"),
+    })
 }
 
 /// Reads the options from the words of the command line. The first word is the name of the program.
@@ -382,37 +409,10 @@ pub fn read_options<'a>(alloc: Global, words: &'a [String]) -> Result<Options<'a
 {
     let mut command = describe(alloc)?;
     let matches = command.try_get_matches_from_mut(words)?;
-    if let Some(why) = missing_partner(alloc, &matches)? {
-        return Err(wrong(&mut command, why.as_str())?);
+    match options_of(alloc, &matches) {
+        Ok(options) => Ok(options),
+        Err(error) => Err(error.clap_error(alloc, &mut command)?),
     }
-    let GivenWords { patterns, files } = given_words(alloc, &matches)?;
-    if patterns.iter().any(|pattern| pattern.name == Some("")) {
-        let why = "--named has a pattern without a name: write NAME=PATTERN";
-        return Err(wrong(&mut command, why)?);
-    }
-    let task = task_of(alloc, &matches)?;
-    if patterns.is_empty() && task.has_patterns() {
-        return Err(wrong(&mut command, "there is no pattern")?);
-    }
-    let Ok(events) = events_of(&matches) else {
-        let why = "--max-lines is 0, but an event has a line at least";
-        return Err(wrong(&mut command, why)?);
-    };
-    Ok(Options {
-        task,
-        definitions: definitions_of(alloc, &matches)?,
-        is_pattern_first: !matches.contains_id("pattern") && !matches.contains_id("named"),
-        patterns,
-        is_all: matches.get_flag("all"),
-        files,
-        form: LineForm {
-            drops_return: matches.get_flag("crlf"),
-            is_lossy: matches.get_flag("lossy"),
-        },
-        events,
-        has_summary: matches.get_flag("summary"),
-        has_exit_status: matches.get_flag("exit-status"),
-    })
 }
 
 /// Returns whether the error of clap is not a fault, but the help or the version that the words ask
