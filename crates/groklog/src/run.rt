@@ -10,7 +10,9 @@ use crate::read_files::{ReadFiles, check_logs, is_same_file};
 use crate::tasks::{Run, suggest};
 use crate::whole_file::WholeFile;
 use grok::Pattern;
-use groklog_definitions::{Library, RunTexts, list_common_definitions, patterns_of, start_pattern};
+use groklog_definitions::{
+    DefinitionFile, Library, RunTexts, list_common_definitions, patterns_of, start_pattern,
+};
 use groklog_input::{Fault, Report};
 use groklog_options::{Options, Task, check_keys, chosen_fields, with_tags};
 use groklog_patterns::{Adapted, adapt_all, adapt_own, compile, compile_all, definition_lines};
@@ -99,7 +101,7 @@ fn check_files(rt: &HostRuntime, options: &Options<'_>, read: &ReadFiles) -> Res
     Ok(())
 }
 
-/// Compiles the patterns, checks the keys that the options name, and does the task.
+/// Does the task. Unless patterns are suggested, compiles those of the run, and checks the keys that the options name.
 fn run_task(
     rt: &HostRuntime,
     options: &Options<'_>,
@@ -108,6 +110,9 @@ fn run_task(
     read: &ReadFiles,
 ) -> Result<Outcome, Fault> {
     let alloc = rt.alloc();
+    if let Task::Suggestions(most) = options.task {
+        return suggest(rt, options, library, most);
+    }
     let patterns = compile_all(alloc, library, &texts.patterns, !options.is_all)?;
     let start = match &texts.start {
         Some(start) => Some(compile(alloc, library, start, true)?),
@@ -130,6 +135,31 @@ fn run_task(
         read,
     }
     .perform()
+}
+
+/// Checks the files of a run, and does its task. After that, writes the definitions to a file if that is wanted.
+fn run_over(
+    rt: &HostRuntime,
+    options: &Options<'_>,
+    files: &[DefinitionFile],
+    library: &Library<'_>,
+    texts: &RunTexts,
+) -> Result<Outcome, Fault> {
+    let read = ReadFiles::of(rt, options, files)?;
+    check_files(rt, options, &read)?;
+    let given = &options.definitions;
+    let Some(name) = given.written else {
+        return run_task(rt, options, library, texts, &read);
+    };
+    let lines = definition_lines(rt.alloc(), files, &given.words, given.wish)?;
+    let outcome = run_task(rt, options, library, texts, &read)?;
+    let file = WholeFile {
+        option: DEFINITIONS,
+        name,
+        read: &read,
+    };
+    file.write(rt, outcome, lines.as_str())?;
+    Ok(outcome)
 }
 
 /// Does what the options ask for.
@@ -159,23 +189,5 @@ pub fn run(rt: &HostRuntime, options: &Options<'_>) -> Result<Outcome, Fault> {
         adapt_own(alloc, &mut library, wish)?;
     }
     let texts = texts_of(rt, &mut library, options)?;
-    let read = ReadFiles::of(rt, options, &files)?;
-    check_files(rt, options, &read)?;
-    let lines = match given.written {
-        Some(_) => definition_lines(alloc, &files, &given.words, given.wish)?,
-        None => String::new(alloc),
-    };
-    let outcome = match options.task {
-        Task::Suggestions(most) => suggest(rt, options, &library, most)?,
-        _ => run_task(rt, options, &library, &texts, &read)?,
-    };
-    if let Some(name) = given.written {
-        let file = WholeFile {
-            option: DEFINITIONS,
-            name,
-            read: &read,
-        };
-        file.write(rt, outcome, lines.as_str())?;
-    }
-    Ok(outcome)
+    run_over(rt, options, &files, &library, &texts)
 }

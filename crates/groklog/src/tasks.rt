@@ -149,10 +149,13 @@ impl<'r, 'a, 'd> Run<'r, 'a, 'd> {
         Ok(Ended { searches, outcome })
     }
 
-    /// Reads the first lines or events, and writes a page about them to a file.
-    fn write_page(self, options: &PageOptions<'a>) -> Result<Ended<'a>, Fault> {
+    /// Returns what a page has about the values of these keys before a line is read.
+    fn page_content(
+        self,
+        options: &PageOptions<'a>,
+        located: &LocatedFields<'a>,
+    ) -> Result<PageContent, AllocError> {
         let alloc = self.rt.alloc();
-        let located = self.located()?;
         let titles = titles_of(
             alloc,
             self.library,
@@ -165,9 +168,17 @@ impl<'r, 'a, 'd> Run<'r, 'a, 'd> {
             lines: options.lines,
             most: options.most,
         };
-        let content = PageContent::new(alloc, scope, titles)?;
-        let (page, outcome) = self.read(Page::new(located, self.explainer()?, content))?;
-        let outcome = outcome?;
+        PageContent::new(alloc, scope, titles)
+    }
+
+    /// Writes the page to the file that the options name.
+    fn write_html(
+        self,
+        options: &PageOptions<'a>,
+        page: &Page<'a, 'a, 'd>,
+        outcome: Outcome,
+    ) -> Result<(), Fault> {
+        let alloc = self.rt.alloc();
         let tags: Vec<&str> = self.named.iter().map(|named| named.tag).collect(alloc)?;
         let html = page_html(
             alloc,
@@ -181,7 +192,16 @@ impl<'r, 'a, 'd> Run<'r, 'a, 'd> {
             name: options.file,
             read: self.read,
         };
-        file.write(self.rt, outcome, html.as_str())?;
+        file.write(self.rt, outcome, html.as_str())
+    }
+
+    /// Reads the first lines or events, and writes a page about them to a file.
+    fn write_page(self, options: &PageOptions<'a>) -> Result<Ended<'a>, Fault> {
+        let located = self.located()?;
+        let content = self.page_content(options, &located)?;
+        let (page, outcome) = self.read(Page::new(located, self.explainer()?, content))?;
+        let outcome = outcome?;
+        self.write_html(options, &page, outcome)?;
         let searches = page.located.searches;
         Ok(Ended { searches, outcome })
     }
