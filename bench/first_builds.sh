@@ -11,6 +11,7 @@ set -eu
 [ $# -gt 0 ] || { sed -n '2,9s/^# \{0,1\}//p' "$0"; exit 2; }
 top=$(git -C "$(dirname "$0")" rev-parse --show-toplevel)
 store=$(dirname "$(rt doc)")-kept
+mkdir -p "$store"
 room=$(mktemp -d)
 trap 'rm -rf "$room"' EXIT
 
@@ -23,7 +24,8 @@ build() {
     cd "$3"
     for program in grok_tool groklog; do
         local TIMEFORMAT='%R %U %S'
-        { time taskset -c "$2" "bin/$program" --help >"$3.output" 2>&1; } 2>"$3.time" || cat "$3.output"
+        { time taskset -c "$2" "bin/$program" >"$3.output" 2>&1; } 2>"$3.time" || true
+        [ -x "crates/$program/out/$program" ] || cat "$3.output"
         awk -v what="$program of $1 on $2" '{ printf "%s: %.1f minutes, %d processor seconds\n", what, $1 / 60, $2 + $3 }' "$3.time"
     done
 }
