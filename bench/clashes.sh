@@ -1,5 +1,5 @@
 #!/usr/bin/env bash
-# Measures how long `compile` takes to find the first fault, and how much memory, if an alias ends in a number: then the
+# Measures how long `grok_calls compiled` takes to find the first fault, and how much memory, if an alias ends in a number: then the
 # uses of base keys are counted to find a clash. The definitions are the costly ones of docs/HOSTILE.md, in three sizes.
 # The grok_calls of another version can be given, to measure both in the same run.
 #
@@ -74,10 +74,10 @@ for shape in "${shapes[@]}"; do
     for size in "${sizes[@]}"; do
         library "$shape" "$size" >"$room/library"
         for program in "${programs[@]}"; do
-            timeout 600 /usr/bin/time -f %M -o "$room/peak" "$program" timed compile '%{TOP}%{missing}' \
+            timeout 600 /usr/bin/time -f '%e %M' -o "$room/cost" "$program" compiled regex '%{TOP}%{missing}' \
                 <"$room/library" >"$room/answer" 2>"$room/complaint" || true
-            echo "| ${meaning[$shape]} | $size | $program | $(ratio "$(step_time compile)" 1000000) |" \
-                "$(($(tail -n 1 "$room/peak") / 1024)) | $(tail -n 1 "$room/answer" | head -c 80) |"
+            read -r seconds kilobytes < <(tail -n 1 "$room/cost")
+            echo "| ${meaning[$shape]} | $size | $program | $seconds | $((kilobytes / 1024)) | $(head -c 80 "$room/answer") |"
         done
     done
 done

@@ -36,11 +36,6 @@ processor_time() {
     took=$((10#${user/./} + 10#${system/./}))
 }
 
-# Prints the microseconds that grok_calls reported for a step of its last run: `step_time STEP`.
-step_time() {
-    sed -n "s/^$1 \([0-9]*\) us\$/\1/p" "$room/complaint"
-}
-
 # Prints the smaller of two numbers, or the second one if the first is empty: `least A B`.
 least() {
     [ -n "$1" ] && [ "$1" -le "$2" ] && echo "$1" || echo "$2"

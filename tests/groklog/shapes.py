@@ -6,10 +6,12 @@ from harness import FAILURE, FAULT
 
 
 class Run:
-    """The words of a run, the file `definitions` in its folder, its input, and the status with which it ends."""
+    """The words of a run, the file `definitions` in its folder, its input, and the status with which it ends. Patterns may be as large
+    as 1 MB, unless the words say how large."""
 
     def __init__(self, words, definitions="", lines="", status=0):
-        self.words, self.definitions, self.lines, self.status = words, definitions, lines, status
+        limit = [] if "--max-expansion" in words else ["--max-expansion", "1000000"]
+        self.words, self.definitions, self.lines, self.status = [*limit, *words], definitions, lines, status
 
     def size(self):
         """How many bytes of words, definitions and lines it has."""
@@ -209,6 +211,8 @@ COSTS = {
         lambda: Run([*PAGE, f"%{{A:k=[{'ab' * 50_000}]}}"], lines="a\n" * 1000), 1.5, 100),
     "14,285 patterns under --fields": (lambda: PATTERNS["many patterns under --fields"](400_000), 2, 400),
     "14,285 patterns under --html": (lambda: PATTERNS["many patterns under --html"](200_000), 3, 400),
+    "messages with a time of day under --html": (
+        lambda: Run([*PAGE, "%{GREEDYDATA:m}"], lines="".join("a" * 80_000 + f" 06:25 {n} " + "." * 80_000 + "\n" for n in range(26))), 2, 200),
     "a word of 10 MB under --suggest": (lambda: Run(["--suggest"], lines="a" * 10_000_000 + "\n"), 1, 150),
 }
 

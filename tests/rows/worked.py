@@ -3,6 +3,7 @@ its keys, their extracts, or the error, and what it finds in lines. `run` beside
 
 Definitions are words `NAME=DEF`, which come after the default ones.
 """
+import collections
 import sys
 
 sys.path.insert(0, sys.path[0] + "/..")
@@ -94,6 +95,16 @@ def chain(name, length, last):
 def doublings(first):
     """`D0` with this text, and `D1` to `D70`, each of which uses the one before twice."""
     return words_of(model.doubled(70, first))
+
+
+# What `Debug` writes in its alternate form for a pattern with this text and no extracts.
+NO_EXTRACTS = 'Pattern {\n    text: "%s",\n    extracts: {},\n}'
+
+
+def matched(**pairs):
+    """What `Debug` writes in its alternate form for a match with these pairs."""
+    inside = "".join(f'        "{key}": "{value}",\n' for key, value in pairs.items())
+    return "Some(\n    {\n" + inside + "    },\n)" if pairs else "Some(\n    {},\n)"
 
 
 A = ["A=a"]
@@ -407,6 +418,32 @@ TABLES = {
     "with clashes before long texts": CLASHES,
 }
 
+# What a pattern, all of whose placeholders capture, has over an engine: its keys in byte order, and what `Debug` writes in its
+# alternate form for the pattern and for its match of a line. The engine `heads` reads the names of the groups, and captures the whole
+# line in each odd group. The engine `bare` has only group 0. `values` has keys, or texts that aren't keys, with their values.
+Found = collections.namedtuple("Found", "name engine pattern line keys shown match values extracts", defaults=[{}])
+FOUND = [
+    Found("of three groups the second takes no part", "heads", "%{A:x}%{A:y}%{A:x}", "q", ["x", "x[1]", "y"],
+          NO_EXTRACTS % "(?<_n_0>a)(?<_n_1>a)(?<_n_2>a)", matched(x="q", **{"x[1]": "q"}),
+          {"x": "q", "x[1]": "q", "y": None, "A": None, "_n_0": None}),
+    Found("a group written by hand takes the key of an alias, and takes no part", "heads", "%{A:x}(?<x>b)", "q", ["x"],
+          NO_EXTRACTS % "(?<_n_0>a)(?<x>b)", matched(), {"x": None, "A": None}),
+    Found("a group written by hand has the generated name of a placeholder after it, which takes no part", "heads", "(?<_n_0>b)%{A}",
+          "q", ["A"], NO_EXTRACTS % "(?<_n_0>b)(?<_n_0>a)", matched(), {"A": None, "_n_0": None}),
+    Found("an extract of a key without a group", "bare", "%{A:x:t}", "q", [],
+          'Pattern {\n    text: "(?<_n_0>a)",\n    extracts: {\n        "x": "t",\n    },\n}', matched(), {"x": None, "A": None},
+          {"x": "t", "A": None}),
+    Found("texts that begin as a key does, or continue it", "regex", "%{B}", "aa", ["A", "A[1]", "B"],
+          NO_EXTRACTS % "(?<_n_0>(?<_n_1>a)(?<_n_2>a))", matched(A="a", **{"A[1]": "a"}, B="aa"),
+          {"A": "a", "A[1]": "a", "B": "aa", "": None, "A[": None, "A[1]x": None, "C": None}),
+    Found("a placeholder in brackets has no group", "regex", "[%{A}]", "a", [], NO_EXTRACTS % "[(?<_n_0>a)]", matched(),
+          {"": None, "A": None, "A[1]": None, "_n_0": None}),
+    Found("two extracts", "regex", "%{A:x:t}%{A:y:u-1}%{A}", "aaa", ["A", "x", "y"],
+          'Pattern {\n    text: "(?<_n_0>a)(?<_n_1>a)(?<_n_2>a)",\n    extracts: {\n        "x": "t",\n        "y": "u-1",\n    },\n}',
+          matched(A="a", x="a", y="a"), {}, {"x": "t", "y": "u-1", "A": None}),
+    Found("a line that doesn't match", "regex", "%{A}%{A}", "ab", ["A", "A[1]"], NO_EXTRACTS % "(?<_n_0>a)(?<_n_1>a)", "None", {}),
+]
+
 NUM_AND_WORD = ["NUM=[0-9]+", "WORD=[a-z]+"]
 
 # Lines that are matched over and over, in this order and in the reverse order. What is found in one would be wrong if something of
@@ -513,6 +550,46 @@ FAULTY = {
     "%{!}": "InvalidCharacter('!')",
     "%{name:a:b:c!": "InvalidCharacter('!')",
     "%{}": "InvalidPattern",
+}
+
+def placeholder(name, alias="", extract="", definition=""):
+    """A placeholder of these parts, as `Debug` writes it."""
+    return f'%{{ name="{name}" alias="{alias}" capture="{extract}" definition="{definition}" }}'
+
+
+WITH_QUOTE = r'a\"'
+
+# Texts with their pieces: the byte range of each, or the fault, and the piece, both as `Debug` writes them. The alternate form is the same.
+PIECES = {
+    "": [],
+    "%%{name}": ['0..8 "%%{name}"'],
+    "%%%{name}": ['0..2 "%%"', f'2..9 {placeholder("name")}'],
+    "%": ['0..1 "%"'],
+    "100%": ['0..3 "100"', '3..4 "%"'],
+    "(%){2}": ['0..1 "("', '1..6 "%){2}"'],
+    "%{N=a=b:%}": [f'0..10 {placeholder("N", definition="a=b:%")}'],
+    "%{N=a{2}}": ["InvalidPatternDefinition <error InvalidPatternDefinition>"],
+    "é%{A}": ['0..2 "é"', f'2..6 {placeholder("A")}'],
+    "é%{name}": ['0..2 "é"', f'2..9 {placeholder("name")}'],
+    "Hello, %{name}!": ['0..7 "Hello, "', f'7..14 {placeholder("name")}', '14..15 "!"'],
+    "a%{A}%{b c}%{A}": ['0..1 "a"', f'1..5 {placeholder("A")}', "InvalidCharacter(' ') <error InvalidCharacter(' ')>"],
+    "%{name:a:e-1}": [f'0..13 {placeholder("name", "a", "e-1")}'],
+    "%{name:a.b:e=d}": [f'0..15 {placeholder("name", "a.b", "e", "d")}'],
+    "%{name}": [f'0..7 {placeholder("name")}'],
+    "%{name:name}": [f'0..12 {placeholder("name", "name")}'],
+    "%{name:name:name}": [f'0..17 {placeholder("name", "name", "name")}'],
+    "%{name::name}": [f'0..13 {placeholder("name", "", "name")}'],
+    "%{name=defn}": [f'0..12 {placeholder("name", definition="defn")}'],
+    "%{name:name=defn}": [f'0..17 {placeholder("name", "name", "", "defn")}'],
+    "%{name:name:name=defn}": [f'0..22 {placeholder("name", "name", "name", "defn")}'],
+    "%{name:name[x]}": [f'0..15 {placeholder("name", "name[x]")}'],
+    "%{name:name[x]:name[y]}": [f'0..23 {placeholder("name", "name[x]", "name[y]")}'],
+    'a"\n': [r'0..3 "a\"\n"'],
+    '%{A:x:t=a"}': [f'0..11 {placeholder("A", "x", "t", WITH_QUOTE)}'],
+    "%{A!": ["InvalidCharacter('!') <error InvalidCharacter('!')>"],
+    "%{'": [r"InvalidCharacter('\'') <error InvalidCharacter('\'')>"],
+    "%{A": ["InvalidPattern <error InvalidPattern>"],
+    "%{A:}": ["InvalidPatternDefinition <error InvalidPatternDefinition>"],
 }
 
 # Patterns without a fault, cut into their pieces.

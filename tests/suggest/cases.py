@@ -94,8 +94,15 @@ CASES = [
     Case("events of several lines", "--start, and patterns for events", TRACE, "the lines are parts of 3 events\n" + proposal(
         3, r"groklog --start '^%{TIMESTAMP_ISO8601}' '^%{TIMESTAMP_ISO8601:timestamp} %{LOGLEVEL:level} %{GREEDYDATA:message}"
            r"(?:\n(?<more>(?s:.*)))?$' log", unit="events")),
+    Case("events with lines that aren't UTF-8", "the command matches no event that isn't UTF-8",
+         b"2026-11-30 10:00:01 a 1\n  at x\n2026-11-30 10:00:02 a 2\n  at \xff\n2026-11-30 10:00:03 a 3\n  at y\n",
+         "the lines are parts of 3 events\n" + proposal(
+             2, r"groklog --start '^%{TIMESTAMP_ISO8601}' '^%{TIMESTAMP_ISO8601:timestamp} %{WORD:word} %{INT:number:int}"
+                r"(?:\n(?<more>(?s:.*)))?$' log", of=3, unit="events"),
+         notes="groklog: line 4 of log isn't UTF-8, so it has no fields: use --lossy, or for another encoding "
+               "iconv -f LATIN1 -t UTF-8 FILE | groklog ..\n"),
     Case("lines of JSON", "jq", '{"level":"info","n":1}\n{"level":"warn","n":2}\n',
-         "these lines are JSON objects, which jq reads:\njq -c . log\n"),
+         "these lines look like JSON objects, which jq reads:\njq -c . log\n"),
     Case("comma-separated values with names", "mlr", "time,host,status,ms\n06:25:01,a,200,4\n06:25:02,b,404,9\n06:25:03,a,200,1\n",
          "each line has 4 values, after their names in the first line, which mlr reads:\nmlr --icsv --ojson cat log\n"),
     Case("tab-separated values with names", "mlr", "time\thost\tstatus\tms\n06:25:01\ta\t200\t4\n06:25:02\tb\t404\t9\n06:25:03\ta\t200\t1\n",
@@ -105,8 +112,7 @@ CASES = [
          "each line has 4 values, which mlr reads, too:\nmlr --icsv --implicit-csv-header --ojson cat log\n"
          + proposal(3, "groklog '^%{TIME:timestamp},%{QS:quoted},%{INT:number:int},%{CSVVALUE:field}$' log")),
     Case("lines that end in carriage returns", "--crlf", "".join(f"door {n} opened at 06:25:0{n}\r\n" for n in range(3)),
-         proposal(3, "groklog --crlf '^door %{INT:number:int} opened at %{TIME:timestamp}$' log"),
-         notes="groklog: lines end in a carriage return: use --crlf\n"),
+         proposal(3, "groklog --crlf '^door %{INT:number:int} opened at %{TIME:timestamp}$' log")),
     Case("a definition with keys written by hand", "it is tried, and a part of it isn't", "".join(OWN),
          rows((3, 2, "groklog --no-common -D 'LL=%{HEX} (?<b>[a-z]+)' -D 'HEX=(?<a>[0-9a-f]+)' '^%{LL}$' log")),
          words=["--no-common", "-D", "LL=%{HEX} (?<b>[a-z]+)", "-D", "HEX=(?<a>[0-9a-f]+)", "log"]),
@@ -120,6 +126,17 @@ CASES = [
          proposal(3, "groklog -D D0=x " + " ".join(f"-D 'D{n + 1}=%{{D{n}:k}}%{{D{n}:k}}'" for n in range(30))
                   + " '^door %{INT:number:int} opened by card %{INT:number2:int}$' log"),
          words=[word for n in range(31) for word in ("-D", f"D{n}=" + (f"%{{D{n - 1}:k}}%{{D{n - 1}:k}}" if n else "x"))] + ["log"]),
+    Case("a limit of the expanded text", "the command has it", DOOR.format(1, 1) * 2 + DOOR.format(2, 2),
+         proposal(3, "groklog --max-expansion 50000 '^door %{INT:number:int} opened by card %{INT:number2:int}$' log"),
+         words=["--max-expansion", "50000", "log"]),
+    Case("a control character", "it is escaped for the shell", "a\x01b 1\na\x01b 2\n",
+         proposal(2, r"groklog $'^a\x01b %{INT:number:int}$' log")),
+    Case("a control character in the name of a file", "it is escaped for the shell, and not written to the terminal",
+         '{"level":"info","n":1}\n{"level":"warn","n":2}\n',
+         "these lines look like JSON objects, which jq reads:\n" + r"jq -c . $'a\x1b[2J\'b\\'" + "\n", words=["a\x1b[2J'b\\"]),
+    Case("one line that ends in a carriage return", "neither the command nor a hint has --crlf", DOOR.format(1, 1).replace("\n", "\r\n")
+         + DOOR.format(2, 2) + DOOR.format(3, 3), proposal(
+             3, "groklog '^door %{INT:number:int} opened by card %{INT:number2:int}%{GREEDYDATA:message}$' log")),
     Case("a very long line", "it isn't looked at", "a" * 100_000 + "\n" + DOOR.format(1, 1) + DOOR.format(2, 2),
          "1 line is longer than 64 KiB, and wasn't looked at\n"
          + proposal(2, "groklog '^door %{INT:number:int} opened by card %{INT:number2:int}$' log")),
@@ -135,6 +152,49 @@ CASES = [
     Case("a word that a definition would cut", "the definition isn't what the lines begin with",
          "".join(f'192.0.2.{n} - - [28/Nov/2026:06:25:0{n} +0000] "GET /{n} HTTP/1.1" 200 51{n}_ms\n' for n in range(4)),
          proposal(4, r"groklog '^%{IP:ip} \- \- \[%{HTTPDATE:timestamp}\] %{QS:quoted} %{INT:number:int} %{WORD:word}$' log")),
+    Case("values between semicolons without names", "the first line has values, and no names", "1;2;3;4\n5;6;7;8\n9;8;7;6\n",
+         "each line has 4 values, which mlr reads, too:\nmlr --icsv --ifs ';' --implicit-csv-header --ojson cat log\n"
+         + proposal(3, "groklog '^%{INT:number:int};%{INT:number2:int};%{INT:number3:int};%{INT:number4:int}$' log")),
+    Case("lines that end in a blank and a carriage return", "the blank stays", "".join(f"door {n} open \r\n" for n in range(1, 4)),
+         proposal(3, "groklog --crlf '^door %{INT:number:int} open $' log")),
+    Case("warnings of Nagios alone", "each beginning of a line of the format counts",
+         "".join(f"[177285630{n}] Warning: job {n} is late\n" for n in range(1, 5)), rows((4, 2, "groklog '^%{NAGIOSLOGLINE}$' log"))),
+    Case("a journal with times in seconds", "each form of the time counts",
+         "".join(f"177285630{n} web-07 systemd[1]: Started {n}\n" for n in range(1, 5)), rows((4, 5, "groklog '^%{JOURNALLINE}$' log"))),
+    Case("lines with # among others", "only those at the front are a header", "# a 1\nx 1 y\n# b 2\nx 2 y\nx 3 y\n",
+         proposal(5, r"groklog -e '^x %{INT:number:int} y$' -e '^\# %{WORD:word} %{INT:number:int}$' log", shares=[3, 2])),
+    Case("one line without a time", "it makes no events of the others",
+         "".join(f"2026-11-28 06:25:0{n} INFO {word}\n" for n, word in enumerate("abc", 1)) + "  more\n",
+         proposal(4, "groklog -e '^%{TIMESTAMP_ISO8601:timestamp} %{LOGLEVEL:level} %{WORD:word}$' -e '^ +more$' log", shares=[3, 1])),
+    Case("a format that one line has", "it is listed, and isn't in the command", "".join(KLOG.format(n, n) for n in range(1, 6))
+         + "2201:M 28 Nov 2026 06:25:01.123 * Ready\nodd one\nodd two\n",
+         rows((5, 6, "groklog '^%{KLOG}$' log"), (1, 5, "groklog '^%{REDISLOG}$' log"))
+         + "these patterns match 8 of 8 lines (5 + 2 + 1):\n"
+         r"groklog -e '^%{KLOG}$' -e '^odd %{WORD:word}$' -e '^%{INT:number:int}:M %{TIMESTAMP_MONTHNAME:timestamp} \* Ready$' log" "\n"),
+    Case("comma-separated values that begin with a blank", "blanks after a comma are those of a sentence, and others aren't",
+         " a,b,1,2\n c,d,3,4\n e,f,5,6\n",
+         "each line has 4 values, which mlr reads, too:\nmlr --icsv --implicit-csv-header --ojson cat log\n"
+         + proposal(3, "groklog '^%{CSVVALUE:field},%{WORD:word},%{INT:number:int},%{INT:number2:int}$' log")),
+    Case("names of values above two lines", "two are enough to see that the first has none", "a,b,c,d\n1,2,3,4\n5,6,7,8\n",
+         "each line has 4 values, after their names in the first line, which mlr reads:\nmlr --icsv --ojson cat log\n"),
+    Case("integers of eighteen digits", "they fit into 64 bits", "".join(f"door 12345678901234567{n} x\n" for n in (8, 9)),
+         proposal(2, "groklog '^door %{INT:number:int} x$' log")),
+    Case("integers of nineteen digits", "not all of them fit into 64 bits", "".join(f"door 123456789012345678{n} x\n" for n in (8, 9)),
+         proposal(2, "groklog '^door %{NUMBER:number} x$' log")),
+    Case("sixteen characters before a time", "they may begin an event",
+         "".join(f"application abc 2026-11-28 06:25:0{n} INFO a\n  more\n" for n in range(1, 4)),
+         "the lines are parts of 3 events\n" + proposal(
+             3, r"groklog --start '^application abc %{TIMESTAMP_ISO8601}' '^application abc %{TIMESTAMP_ISO8601:timestamp} %{LOGLEVEL:level} a"
+                r"(?:\n(?<more>(?s:.*)))?$' log", unit="events")),
+    Case("seventeen characters before a time", "they begin no event",
+         "".join(f"application abcd 2026-11-28 06:25:0{n} INFO a\n  more\n" for n in range(1, 4)),
+         proposal(6, r"groklog -e '^application abcd %{TIMESTAMP_ISO8601:timestamp} %{LOGLEVEL:level} a$' -e '^ +more$' log", shares=[3, 3])),
+    Case("a line of 64 KiB", "it is looked at, its first 4096 bytes token by token", "door 1 " + "x" * (65536 - 7) + "\ndoor 2 y\n",
+         proposal(2, "groklog '^door %{INT:number:int} %{GREEDYDATA:message}$' log")),
+    Case("a line of 64 KiB and a byte", "it isn't looked at", "door 1 " + "x" * (65537 - 7) + "\ndoor 2 y\ndoor 3 z\n",
+         "1 line is longer than 64 KiB, and wasn't looked at\n" + proposal(2, "groklog '^door %{INT:number:int} %{WORD:word}$' log")),
+    Case("two forms with equally many lines", "the one that comes first is the first", "[a]\n(b)\n[c]\n(d)\n",
+         proposal(4, r"groklog -e '^\[%{WORD:word}\]$' -e '^\(%{WORD:word}\)$' log", shares=[2, 2])),
     Case("a missing file", "the others are read", DOOR.format(1, 1) + DOOR.format(2, 2),
          proposal(2, "groklog '^door %{INT:number:int} opened by card %{INT:number2:int}$' nowhere log"), words=["nowhere", "log"], status=3,
          notes="groklog: there is no file nowhere\n  try: check its name, and the folder that you are in\n"),

@@ -1,6 +1,5 @@
 //! The logs of databases.
 
-/// The logs of databases.
 pub const DATABASES: &str = r##"
 # PostgreSQL's log (its documentation, "Error Reporting and Logging"): with the prefixes '%m [%p] ', which is the default,
 # '%m [%p] %q%u@%d ', which Debian sets, and '%t [%p]: [%l-1] user=%u,db=%d,app=%a,client=%h ', which pgBadger recommends.

@@ -1,6 +1,5 @@
 //! The logs of firewalls: Cisco ASA and FTD, Juniper (Junos and ScreenOS), and Shorewall.
 
-/// The logs of firewalls: Cisco ASA and FTD, Juniper (Junos and ScreenOS), and Shorewall.
 pub const FIREWALLS: &str = r##"
 # Cisco ASA and FTD ("Cisco Secure Firewall ASA Series Syslog Messages"): the head of a line with the tag of its message, the
 # line, and the messages alone, under their numbers. Since messages have keys in common, a run has a pattern for each of them.

@@ -13,7 +13,7 @@ pub struct LineFormat {
 }
 
 /// The formats of lines. Of several names for one format, one is here.
-static LINE_FORMATS: [LineFormat; 52] = [
+static LINE_FORMATS: [LineFormat; 55] = [
     LineFormat {
         name: "SYSLOGLINE",
         needs: Some(
@@ -29,9 +29,19 @@ static LINE_FORMATS: [LineFormat; 52] = [
     LineFormat {
         name: "JOURNALLINE",
         needs: Some(
-            r"^(?:%{SYSLOGTIMESTAMP}|%{TIMESTAMP_RFC3339}|%{DAY} %{DATE_ISO8601} %{TIME} %{TZ}|\[ *[0-9]+\.[0-9]+\]|%{TIMESTAMP_UNIX}) %{SYSLOGHOST} %{SYSLOGPROG}:(?: |$)",
+            r"^(?:%{SYSLOGTIMESTAMP}|%{TIMESTAMP_RFC3339}|%{DAY} %{DATE_ISO8601} %{TIME} %{TZ}|%{TIMESTAMP_UNIX}) %{SYSLOGHOST} %{SYSLOGPROG}:(?: |$)",
         ),
         example: "2026-03-07T04:05:06+0100 web-07 systemd[1]: Started session-412.scope.",
+    },
+    LineFormat {
+        name: "JOURNALMONOTONICLINE",
+        needs: Some(r"^%{DMESGTIME} %{SYSLOGHOST} (?:kernel|%{PROGRAM}\[[0-9]+\]):(?: |$)"),
+        example: "[ 8123.456789] web-07 systemd[1]: Started session-412.scope.",
+    },
+    LineFormat {
+        name: "DMESGLINE",
+        needs: None,
+        example: "[    1.234567] usb 1-1: new high-speed USB device number 2 using xhci_hcd",
     },
     LineFormat {
         name: "SSHDLINE",
@@ -152,6 +162,11 @@ static LINE_FORMATS: [LineFormat; 52] = [
         name: "EXIM",
         needs: None,
         example: "2026-03-07 04:05:06 1tqLmA-0002Xx-1A <= alice@example.com H=mail.example.com [192.0.2.17] P=esmtps S=1024",
+    },
+    LineFormat {
+        name: "NAGIOSSTATELINE",
+        needs: None,
+        example: "[1772856306] CURRENT SERVICE STATE: web1;HTTP;OK;HARD;1;HTTP OK",
     },
     LineFormat {
         name: "NAGIOSLOGLINE",

@@ -1,6 +1,5 @@
 //! The logs of Java: stack traces, Tomcat, and the usual layouts of log4j, Logback and Spring Boot.
 
-/// The logs of Java: stack traces, Tomcat, and the usual layouts of log4j, Logback and Spring Boot.
 pub const JAVA: &str = r##"
 # Names and stack traces (java.lang.StackTraceElement.toString).
 JAVANAME=[A-Za-z_$][0-9A-Za-z_$]*

@@ -1,6 +1,5 @@
 //! Addresses, hosts, ports and URIs.
 
-/// Addresses, hosts, ports and URIs.
 pub const NETWORK: &str = r##"
 # Addresses of IPv4 (RFC 791) and IPv6 (RFC 4291, 2.2, with a zone as in RFC 4007, 11).
 IPV4OCTET=(?:25[0-5]|2[0-4][0-9]|1[0-9][0-9]|[1-9]?[0-9])

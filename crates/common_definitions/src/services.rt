@@ -1,6 +1,5 @@
 //! The logs of services of a network: BIND, Exim, Nagios and Zeek.
 
-/// The logs of services of a network: BIND, Exim, Nagios and Zeek.
 pub const SERVICES: &str = r##"
 # The queries that BIND 9 logs (its Administrator Reference Manual, logging, the category "queries").
 BIND9_TIMESTAMP=%{MONTHDAY2}-%{MONTH}-%{YEAR4} %{TIME}
@@ -26,7 +25,7 @@ EXIM_SUBJECT=T=%{QS:exim_subject}
 EXIM=%{TIMESTAMP_ISO8601:timestamp} (?:%{EXIM_PID:exim_pid} )?%{EXIM_MSGID:exim_msgid} (?:%{EXIM_FLAGS:exim_flags} %{NOTSPACE:exim_address} ?)?%{GREEDYDATA:message}
 
 # The log of Nagios (Nagios Core's documentation, and its source base/logging.c). NAGIOSLOGLINE takes all of them, and a service
-# or a name that some don't have has no key.
+# or a name that some don't have has no key. NAGIOSSTATELINE is for the states with which a log begins, which have other keys.
 NAGIOSTIME=\[%{NONNEGINT:nagios_epoch:int}\]
 NAGIOSFIELD=[^;]*
 NAGIOSSTATE=(?:OK|WARNING|CRITICAL|UNKNOWN|UP|DOWN|UNREACHABLE|PENDING)
@@ -68,6 +67,8 @@ NAGIOS_TYPE_HOST_EVENT_HANDLER=HOST EVENT HANDLER
 NAGIOS_TYPE_SERVICE_EVENT_HANDLER=SERVICE EVENT HANDLER
 NAGIOSTYPE=[A-Z]+(?: [A-Z]+)+
 NAGIOSCHECK=%{NAGIOSFIELD:nagios_hostname};(?:%{NAGIOSFIELD:nagios_service};)?%{NAGIOSSTATE:nagios_state};%{NAGIOSLEVEL:nagios_statelevel};%{NONNEGINT:nagios_attempt:int};
+NAGIOSSTATETYPE=CURRENT (?:HOST|SERVICE) STATE
+NAGIOSSTATELINE=%{NAGIOSTIME} %{NAGIOSSTATETYPE:nagios_type}: %{NAGIOSFIELD:nagios_hostname};(?:%{NAGIOSFIELD:nagios_service};)?%{NAGIOSCURRENT}
 NAGIOSLOGLINE=%{NAGIOSTIME} (?:%{NAGIOSTYPE:nagios_type}: %{NAGIOSCHECK}?)?%{GREEDYDATA:nagios_message}
 
 # The logs of Zeek, which was Bro ("Log Files" in its manual), whose fields are separated by tabs. A field that is `-` has no key.

@@ -1,6 +1,5 @@
 //! The messages of OpenSSH's server.
 
-/// The messages of OpenSSH's server.
 pub const SSHD: &str = r##"
 # The messages of sshd about its clients, as OpenSSH writes them (auth.c, packet.c, session.c) and rsyslog repeats them. SSHD
 # is the message up to the end of the line, and SSHDLINE the line of syslog. `unknown` is `invalid` for a user that doesn't

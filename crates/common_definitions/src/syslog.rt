@@ -1,6 +1,5 @@
 //! Lines of syslog and of the journal, and the messages of PAM, cron and the kernel's firewall.
 
-/// Lines of syslog and of the journal, and the messages of PAM, cron and the kernel's firewall.
 pub const SYSLOG: &str = r##"
 # Names of programs. PROG has no blanks. PROGRAM also has further words, if these begin with a capital, a digit or a bracket,
 # as in `Google Chrome Helper (GPU)`.
@@ -28,11 +27,17 @@ SYSLOG5424SOURCE=(?:-|%{SYSLOG5424PRINTASCII:syslog5424_host}) +(?:-|%{SYSLOG542
 SYSLOG5424BASE=%{SYSLOG5424PRI}%{NONNEGINT:syslog5424_ver:int} +(?:-|%{TIMESTAMP_ISO8601:syslog5424_ts}) +%{SYSLOG5424SOURCE}(?: +(?:-|%{SYSLOG5424SD:syslog5424_sd})| )
 SYSLOG5424LINE=%{SYSLOG5424BASE}(?: +%{GREEDYDATA:syslog5424_msg})?
 
-# The output of journalctl in its formats short, short-precise, short-iso, short-iso-precise, short-full, short-monotonic
-# and short-unix (man journalctl, --output).
-JOURNALTIME=(?:%{SYSLOGTIME}|%{DAY} %{DATE_ISO8601} %{TIME} %{TZ}|\[ *[0-9]+\.[0-9]+\]|%{TIMESTAMP_UNIX})
+# The output of journalctl in its formats short, short-precise, short-iso, short-iso-precise, short-full and short-unix (man
+# journalctl, --output).
+JOURNALTIME=(?:%{SYSLOGTIME}|%{DAY} %{DATE_ISO8601} %{TIME} %{TZ}|%{TIMESTAMP_UNIX})
 JOURNALBASE=%{JOURNALTIME:timestamp} %{SYSLOGHOST:logsource} %{SYSLOGPROG}:
 JOURNALLINE=%{JOURNALBASE} %{GREEDYDATA:message}
+
+# The messages of the kernel, as dmesg writes them (man dmesg), with the seconds since the start of the system. They have no host
+# and no program. The format short-monotonic of journalctl has both after the same time.
+DMESGTIME=\[ *[0-9]+\.[0-9]{6}\]
+DMESGLINE=%{DMESGTIME:timestamp} %{GREEDYDATA:message}
+JOURNALMONOTONICLINE=%{DMESGTIME:timestamp} %{SYSLOGHOST:logsource} %{SYSLOGPROG}: %{GREEDYDATA:message}
 
 # The messages of Linux-PAM (man pam_unix): sessions, failures, and other messages of a module.
 PAMNAME=[0-9A-Za-z_.-]+

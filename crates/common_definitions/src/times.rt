@@ -1,6 +1,5 @@
 //! Times and dates.
 
-/// Definitions for times and dates, one on each line.
 pub const TIMES: &str = r##"
 # The parts of times and dates. Those whose names end in 2 always have two digits. A second may be 60 (a leap second).
 YEAR4=[0-9]{4}

@@ -1,6 +1,5 @@
 //! Numbers, words, quoted texts, paths and levels.
 
-/// Numbers, words, quoted texts, paths and levels.
 pub const VALUES: &str = r##"
 # Numbers. INT, NUMBER and BASE10NUM are decimal, BASE16NUM and BASE16FLOAT hexadecimal (as C's %x and %a print them).
 INT=[+-]?[0-9]+

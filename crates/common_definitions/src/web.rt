@@ -1,6 +1,5 @@
 //! The logs of web servers and proxies.
 
-/// The logs of web servers and proxies.
 pub const WEB: &str = r##"
 # Requests (RFC 9110, 9112). 000 is what some servers and proxies log if they sent no status.
 HTTPMETHOD=\b[A-Z]+\b

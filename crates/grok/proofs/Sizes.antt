@@ -9,6 +9,7 @@ pub mod CountersAreExact
 pub mod ReachedPlaceholdersAreSeen
 pub mod ItemsAreSound
 pub mod ReadIsReached
+pub mod PiecesToFault
 pub mod DigitsAddUp
 pub mod SumsFit
 pub mod MeasureLoopIsReading

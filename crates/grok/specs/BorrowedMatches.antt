@@ -16,3 +16,8 @@ borrowed_keys matches = matches.keys.now
 -- match
 abbrev pub borrowed_captures : MatchesRef → List (Option (List ℕ))
 borrowed_captures matches = texts_in_line matches.located
+
+-- of each group of a borrowed match, from group 0 on, the start and the end of what it captured in the line, or `None` if it
+-- took no part in the match
+abbrev pub borrowed_locations : MatchesRef → List (Option (ℕ × ℕ))
+borrowed_locations matches = matches.located.locations.now

@@ -171,9 +171,9 @@ pub record IsFine {E : Type 0} (is_built_from : E → List ℕ → Type 0) (text
   pub can : CanBuild (expansion_of texts alias_only pattern)
   pub accepted : IsAccepted is_built_from (expanded alias_only (tree.tree (finite.get texts) pattern))
 
--- THE DIAGNOSIS OF A PATTERN: what is wrong with it, or `None` if nothing is. Which texts are accepted or refused is left to
--- two parameters. For `diagnose` they are what the contract of `regex` says, which allows some texts both. But the code is
--- proved for all such parameters, so it reports only what a build of the same text returned.
+-- THE DIAGNOSIS OF A PATTERN: what is wrong with it, or `None` if nothing is. Two parameters state which texts may be
+-- accepted, and which may be refused. For `diagnose` they are what the contract of `regex` states, by which some texts may be
+-- both. But the code is proved for all such parameters, so it reports only what a build of the same text returned.
 abbrev pub FindsDiagnosis : {E : Type 0} → (is_built_from : E → List ℕ → Type 0) → (refuses : List ℕ → Error → Type 0)
     → Texts → Bool → List ℕ → Option Diagnosis → Type 0
 FindsDiagnosis is_built_from refuses texts alias_only pattern found =

@@ -53,7 +53,7 @@ pub use Rattle.grok.specs.Keys.{capturing, keys, extract_of, first_fault, number
 pub use Rattle.grok.specs.FirstFault.{FirstFaultIsFirst, OtherFaultIsStructural, ExtractIsLast}
 pub use Rattle.grok.specs.Expanded.{expanded}
 -- sizes
-pub use Rattle.grok.specs.Measured.{measured_tree, reached_pieces, reached_texts, saturated, tree_of, measure_view}
+pub use Rattle.grok.specs.Measured.{measured_tree, reached_pieces, reached_texts, pieces_to_fault, items_to_fault, saturated, tree_of, measure_view}
 pub use Rattle.grok.specs.CountedMeasures.{IsCountedMeasure}
 -- what is wrong with a pattern, and where: faults and clashes, and which piece writes a byte of the expanded text
 pub use Rattle.grok.specs.FaultLocations.{IsFaultAt, IsFaultOf, path_view}
@@ -74,13 +74,13 @@ pub use Rattle.grok.specs.Refusals.{IsAccepted, IsReasonFor, IsOfSyntax, IsOfBra
 pub use Rattle.grok.specs.Captures.{name_texts, text_of, capture_texts, found_texts, IsSliceOf, AreSlicesOf, IsMatchIn}
 pub use Rattle.grok.specs.Engines.{engine_regex}
 pub use Rattle.grok.specs.RegexFinds.{IsReadByDefault, IsWithinLimit, IsRegexOf, MayRefuse, captures_in, captures_by}
-pub use Rattle.grok.specs.Locations.{IsLocationIn, AreLocationsIn, located_texts}
+pub use Rattle.grok.specs.Locations.{IsLocationIn, AreLocationsIn, located_texts, location_of}
 pub use Rattle.regex.specs.Strings
 -- patterns and matches
-pub use Rattle.grok.specs.KeyTable.{Entries, IsKeyTable, group_in}
+pub use Rattle.grok.specs.KeyTable.{Entries, IsKeyTable, group_in, entry_of_group}
 pub use Rattle.grok.specs.Answers.{PatternValue, MatchesValue, extract_texts, pattern_code, matches_code, value_of, walk}
 pub use Rattle.grok.specs.Groups.{group_texts}
 pub use Rattle.grok.specs.AnswerLaws.{WalksHaveTheAnsweredKeys, AnswersAreThoseOfTheWalk, GeneratedNamesMeanTheirKeys, OtherNamesMeanThemselves, GroupsAreTheGreatest}
-pub use Rattle.grok.specs.BorrowedMatches.{borrowed_line, borrowed_keys, borrowed_captures}
+pub use Rattle.grok.specs.BorrowedMatches.{borrowed_line, borrowed_keys, borrowed_captures, borrowed_locations}
 pub use Rattle.grok.specs.LineSearches.{LineSearchValue, line_search_code, HasMatchIn}
 pub use Rattle.grok.specs.Debugs.{debug_texts, debug_pairs}

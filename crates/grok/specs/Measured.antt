@@ -1,10 +1,10 @@
 -- What measuring a pattern returns, defined by its tree, and how many pieces and texts it can reach.
-use Rattle.std.specs.Prelude.{◌≡◌, ℕ, ◌+◌, ◌-◌, ◌^◌, min, Bool, true, false, List, [], ◌∷◌, length, if◌then◌else◌, nat_lt, Option, Some, None}
+use Rattle.std.specs.Prelude.{◌≡◌, ℕ, ◌+◌, ◌-◌, ◌^◌, min, Bool, true, false, List, [], ◌∷◌, length, if◌then◌else◌, is_some, nat_lt, suc, Option, Some, None}
 use Rattle.std.specs.Str.{bytes_eq}
 use Rattle.std.specs.FinMap as finite
 use Rattle.grok_parser.specs.Pieces.{pieces}
 use Rattle.grok.specs.Maps.{Texts}
-use Rattle.grok.specs.Tree.{Fault, Inline, Stored, Event, Text, Open, Close, FaultEvent, tree, first_structural, reached}
+use Rattle.grok.specs.Tree.{Fault, Inline, Stored, Item, items_of, Event, Text, Open, Close, FaultEvent, events, inside, deepest, tree, first_structural, reached}
 use Rattle.grok.specs.Expanded.{expanded, groups, nesting}
 use Rattle.grok.specs.Items.{fault_view}
 use Rattle.grok.specs.declared.measure.Measure.{Measure}
@@ -79,6 +79,19 @@ reached_pieces texts pattern = reached_weight (λ text. length (pieces text)) te
 -- how many stored definitions the pattern reaches, and one more for the pattern itself
 abbrev pub reached_texts : Texts → List ℕ → ℕ
 reached_texts texts pattern = reached_weight (λ text. 1) texts pattern
+
+-- how many of these items there are up to the first one that has a structural fault in it, with this one, or all of them if
+-- none has; `inside` says what follows the open of a placeholder
+abbrev pub items_to_fault : (List ℕ → List Event) → List Item → ℕ
+items_to_fault inside [] = 0
+items_to_fault inside (item ∷ items) = if is_some (first_structural (events inside (item ∷ []))) then 1
+    else suc (items_to_fault inside items)
+
+-- how many pieces the pattern itself has up to the one that its first structural fault is in, with this one, or all of them
+-- if there is no fault
+abbrev pub pieces_to_fault : Texts → List ℕ → ℕ
+pieces_to_fault texts pattern = items_to_fault (inside (items_of (finite.get texts)) deepest)
+    (items_of (finite.get texts) pattern)
 
 -- what a counter of the code shows after `n` steps: it stays at the greatest `u64`
 abbrev pub saturated : ℕ → ℕ

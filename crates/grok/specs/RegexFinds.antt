@@ -5,7 +5,7 @@ use Rattle.regex.specs.Strings.{regex_source, regex_size, IsDefaultFailure}
 use Rattle.regex.specs.declared.string.regex.Regex.{Regex}
 use Rattle.regex.specs.declared.error.Error.{Error}
 use Rattle.regex.specs.declared.error.Error.TheVariants.{Internal, OutOfMemory}
--- regex_shared states what the search that calls share finds
+-- regex_shared defines what the shared search of a regex finds.
 pub use Rattle.regex_shared.specs.Texts.{IsReadByDefault, text_at, texts_at, span_of_group, captures_in, captures_by}
 
 -- The regex is within the size that `regex` allows by default: 10 MiB for its tables, but for a few bytes.

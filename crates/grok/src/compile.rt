@@ -37,7 +37,6 @@ use crate::settings::Settings;
 use crate::write::{ExpandedPattern, write};
 use std::alloc::{AllocError, Global};
 
-/// Builds an engine from `text`, and returns the pattern with the keys and extracts in `given`.
 #[tactic(auto, using(crate::proofs::Keys::PlaceholdersHaveTheirKeys::have_keys, crate::proofs::Keys::PlaceholdersHaveTheirKeys::have_numbers))]
 fn build<E: Engine>(alloc: Global, text: &str, given: KeyAssigner) -> Result<PatternOf<E>, Error>
     ensures { MatchResult result
@@ -54,15 +53,8 @@ fn build<E: Engine>(alloc: Global, text: &str, given: KeyAssigner) -> Result<Pat
     Ok(PatternOf::new(alloc, engine, given.keys, keys, given.extracts))
 }
 
-/// Returns the error of the first clash of a pattern, given what measuring it `found`. Returns `None`
-/// if its first fault isn't a clash. Then that is the structural fault that measuring found, if any.
-/// If no alias that the pattern reaches ends in a number in brackets, nothing can clash, and nothing
-/// is searched.
-///
-/// # Errors
-///
-/// If an allocation fails, or if before a fault a base key `x` is used 2^64 times or more and the
-/// least number `n` of an alias `x[n]` is `usize::MAX` or more.
+/// Searches nothing if no alias that the pattern reaches ends in a number in brackets, since then no two
+/// keys can clash.
 fn error_of_clash<'a>(
     settings: Settings<'a>,
     pattern: &'a str,
@@ -88,12 +80,7 @@ fn error_of_clash<'a>(
     Ok(Some(clash_error(alloc, key.as_str())?))
 }
 
-/// Expands a pattern that has no fault. Its expanded text has `length` bytes. The buffer for it is
-/// reserved once, for exactly these.
-///
-/// # Errors
-///
-/// If an allocation fails.
+/// The buffer for the expanded text is reserved once, for exactly its `length` bytes.
 pub(crate) fn expand_clean(
     settings: Settings<'_>,
     pattern: &str,
@@ -112,11 +99,6 @@ pub(crate) fn expand_clean(
 }
 
 impl Grok {
-    /// Expands a pattern: returns its expanded text and its keys.
-    ///
-    /// # Errors
-    ///
-    /// Those of [`Grok::compile_with`], but for the refusal of the engine.
     pub(crate) fn expand(
         &self,
         pattern: &str,
@@ -151,12 +133,12 @@ impl Grok {
         }
     }
 
-    /// Returns the keys of the placeholders of a pattern that capture, in reading order. In alias-only
-    /// mode these are the placeholders with an alias.
+    /// Returns the keys of a pattern's capturing placeholders, in reading order. In alias-only mode these
+    /// are the placeholders with an alias.
     ///
     /// # Errors
     ///
-    /// Those of [`Grok::compile_with`], but for the refusal of the engine.
+    /// As for [`Grok::compile_with`], except that no engine is asked.
     pub fn keys(&self, pattern: &str, with_alias_only: bool) -> Result<Vec<PlaceholderKey>, Error>
         ensures { MatchResult result
             (λ keys. AreKeysOf (expansion_of self.now with_alias_only pattern.now) keys.items)
@@ -201,7 +183,7 @@ impl Grok {
     ///
     /// # Errors
     ///
-    /// Those of [`Grok::compile_with`].
+    /// As for [`Grok::compile_with`].
     pub fn compile(&self, pattern: &str, with_alias_only: bool) -> Result<Pattern, Error>
         ensures answer { Compiles (λ engine. regex_source (engine_regex engine))
             (λ engine. regex_names (engine_regex engine)) MayRefuse

@@ -9,7 +9,6 @@ ghost use Rattle.grok.specs.Debugs.{debug_entry, debug_braces, debug_item};
 use std::collections::BTreeMap;
 use std::fmt;
 
-/// Writes the separator before an entry, and the entry.
 pub(crate) fn write_entry<V: fmt::Debug, W: fmt::Write>(
     f: &mut fmt::Formatter<W>,
     lead: &str,
@@ -22,7 +21,6 @@ pub(crate) fn write_entry<V: fmt::Debug, W: fmt::Write>(
     write!(f, "{lead}{key:?}: {value:?}")
 }
 
-/// Writes the entries of a map in braces, in the byte order of its keys.
 pub(crate) fn write_map<V: fmt::Debug, W: fmt::Write>(
     f: &mut fmt::Formatter<W>,
     map: &BTreeMap<String, V>,

@@ -59,7 +59,6 @@ pub struct Grok {
     definitions: BTreeMap<String, Definition>,
 }
 
-// Contracts see a finite map from names to texts.
 impl Model for Grok {
     ghost use Rattle.grok.specs.Maps.{Texts, texts_code, texts_of};
 
@@ -82,10 +81,6 @@ impl Grok {
     }
 
     /// Makes a library of the default definitions, which [`patterns`] returns.
-    ///
-    /// # Errors
-    ///
-    /// If an allocation fails.
     pub fn with_default_patterns(alloc: Global) -> Result<Grok, AllocError>
         ensures { IfOk result (λ grok. grok ≡ set_all finite.empty default_definitions) }
     {
@@ -93,10 +88,6 @@ impl Grok {
     }
 
     /// Makes a library of the default definitions, as [`Grok::with_default_patterns`] does.
-    ///
-    /// # Errors
-    ///
-    /// If an allocation fails.
     pub fn default(alloc: Global) -> Result<Grok, AllocError>
         ensures { IfOk result (λ grok. grok ≡ set_all finite.empty default_definitions) }
     {
@@ -105,10 +96,6 @@ impl Grok {
 
     /// Makes a library from pairs of a name and its definition. If a name comes twice, its later
     /// pair counts.
-    ///
-    /// # Errors
-    ///
-    /// If an allocation fails.
     pub fn from_iter(alloc: Global, pairs: &[(&str, &str)]) -> Result<Grok, AllocError>
         ensures { IfOk result (λ grok. grok ≡ set_all finite.empty (map pair_texts pairs.now)) }
     {
@@ -120,10 +107,6 @@ impl Grok {
     }
 
     /// Makes another library with the same definitions.
-    ///
-    /// # Errors
-    ///
-    /// If an allocation fails.
     pub fn clone(&self) -> Result<Grok, AllocError>
         ensures { IfOk result (λ grok. grok ≡ self.now) }
     {
@@ -141,10 +124,6 @@ impl Grok {
     /// `%{name:alias}`, `%{name:alias:extract}` or `%{name=definition}`. It may use names that are
     /// set later, and it is read only when a pattern reaches it. Placeholders can only spell names
     /// of ASCII letters, ASCII digits and `_`.
-    ///
-    /// # Errors
-    ///
-    /// If an allocation fails. No definition has changed then.
     pub fn add_pattern(&mut self, name: &str, pattern: &str) -> Result<(), AllocError>
         ensures ok { OnOk result (self.new ≡ finite.insert self.old name.now pattern.now) }
         ensures err { OnErr result (self.new ≡ self.old) }
@@ -164,12 +143,10 @@ impl Grok {
         }
     }
 
-    /// Returns the allocator of the definitions.
     pub(crate) fn alloc(&self) -> Global {
         self.alloc
     }
 
-    /// Returns the definition of a name, cut into its pieces, if there is one.
     pub(crate) fn stored(&self, name: &str) -> Option<&Definition>
         ensures { option_copied result ≡ finite.get self.now name.now }
     {

@@ -26,7 +26,7 @@ pub(crate) trait Search<'a> {
     ghost use Rattle.grok.specs.steps.Events.{event_view};
     ghost use Rattle.grok.specs.steps.Searches.{IsReadyFor, StaysReady, PassesMore, StopsAt};
 
-    // the definitions that resolve the tree
+    // The definitions that the tree is resolved with.
     ghost definitions: { Self → Definitions };
 
     // `IsReady now es`: the search can go on, if these events remain.
@@ -75,7 +75,7 @@ pub(crate) struct Place<'a> {
     pub item: Item<'a>,
 }
 
-/// A text of which a definition is entered.
+/// A text around the one that is being read: the search has entered one of its definitions.
 #[derive(Drop)]
 struct Opened<'a> {
     /// The placeholder whose definition is entered, and its name.
@@ -92,11 +92,10 @@ enum Step<'a> {
     Passed,
     /// The sought event is one of the item itself.
     Stopped,
-    /// It passes over the beginning of a placeholder of this name, and goes into its definition.
+    /// It passes over the beginning of a placeholder with this name, and enters its definition.
     Entered(&'a str, Meaning<'a>),
 }
 
-/// Passes over an event of an item, or stops at it.
 fn step_at_event<'a, S: Search<'a>>(
     search: &mut S,
     event: Event<'a>,
@@ -112,8 +111,6 @@ fn step_at_event<'a, S: Search<'a>>(
     }
 }
 
-/// Passes over what a placeholder stands for, if it can be skipped. Returns whether it passed
-/// over it.
 fn pass_meaning<'a, S: Search<'a>>(
     search: &mut S,
     label: Label<'a>,
@@ -134,8 +131,6 @@ fn pass_meaning<'a, S: Search<'a>>(
     }
 }
 
-/// Passes over an item, or returns where the search goes on. Placeholders in the text of the item
-/// may be nested `levels` levels deep.
 fn step_at_item<'a, S: Search<'a>>(
     search: &mut S,
     item: Item<'a>,
@@ -168,8 +163,6 @@ fn step_at_item<'a, S: Search<'a>>(
     }
 }
 
-/// Returns a piece of a text as a place. A definition of each of the texts in `around` is entered,
-/// and the last one leads to the text.
 fn place_of<'a>(
     grok: &'a Grok,
     around: &[Opened<'a>],
@@ -198,12 +191,6 @@ fn place_of<'a>(
     })
 }
 
-/// Goes through the events of a pattern's tree until the search stops at one. Returns the place that
-/// this event comes from, or `None` if the search passed over the whole tree.
-///
-/// # Errors
-///
-/// If an allocation fails.
 pub(crate) fn descend<'a, S: Search<'a>>(
     grok: &'a Grok,
     search: &mut S,

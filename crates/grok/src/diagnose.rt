@@ -87,8 +87,6 @@ pub struct Refused<'a> {
     pub location: Option<Location<'a>>,
 }
 
-/// Returns the byte range that a part of the expanded text comes from, which begins with this byte
-/// of `piece` and is `length` bytes long.
 fn origin_in(piece: &Range<usize>, begin: WrittenByte, length: usize) -> Range<usize>
     ensures { IsRangeOf length piece.now.start piece.now.end begin result.start result.end }
 {
@@ -101,8 +99,6 @@ fn origin_in(piece: &Range<usize>, begin: WrittenByte, length: usize) -> Range<u
     }
 }
 
-/// Returns where this part of the expanded text of a pattern comes from. Returns `None` if it is at
-/// the end of the expanded text.
 fn origin_of_part<'a>(
     measurer: &Measurer<'a>,
     pattern: &'a str,
@@ -128,7 +124,6 @@ fn origin_of_part<'a>(
     }))
 }
 
-/// Returns where the reason of a refusal stands.
 fn locate_reason<'a>(
     measurer: &Measurer<'a>,
     pattern: &'a str,
@@ -148,7 +143,6 @@ fn locate_reason<'a>(
     }
 }
 
-/// Returns the diagnosis of a pattern without a fault, whose expanded text has `length` bytes.
 fn diagnose_refusal<'a, B: BuildFromText>(
     measurer: &Measurer<'a>,
     pattern: &'a str,
@@ -179,7 +173,6 @@ fn diagnose_refusal<'a, B: BuildFromText>(
     })))
 }
 
-/// Returns the diagnosis of a pattern whose first fault is a structural one.
 fn diagnose_structural<'a, B: BuildFromText>(
     measurer: Measurer<'a>,
     pattern: &'a str,
@@ -210,8 +203,6 @@ fn diagnose_structural<'a, B: BuildFromText>(
     }
 }
 
-/// Returns the diagnosis of a pattern, without a search for the definition that has the fault if
-/// `regex` refuses it.
 fn diagnose_whole<'a, B: BuildFromText>(
     settings: Settings<'a>,
     pattern: &'a str,
@@ -237,7 +228,6 @@ fn diagnose_whole<'a, B: BuildFromText>(
     }
 }
 
-/// Returns what `regex` refuses of a definition alone, if it refuses it because of its syntax.
 fn refused_for_syntax<'a, B: BuildFromText>(
     settings: Settings<'a>,
     definition: &'a str,
@@ -256,8 +246,6 @@ fn refused_for_syntax<'a, B: BuildFromText>(
     }
 }
 
-/// Returns the first placeholder of a text whose definition `regex` refuses alone because of its
-/// syntax, and what is refused. Returns `None` if there is none.
 fn first_refused<'a, B: BuildFromText>(
     settings: Settings<'a>,
     text: &'a str,
@@ -288,8 +276,6 @@ fn first_refused<'a, B: BuildFromText>(
     Ok(None)
 }
 
-/// Returns the first placeholder of a refused part whose definition is to blame for brackets that
-/// don't match, and what is refused of that definition. Returns `None` if there is none.
 fn first_to_blame<'a, B: BuildFromText>(
     settings: Settings<'a>,
     outer: &Refused<'a>,
@@ -306,8 +292,6 @@ fn first_to_blame<'a, B: BuildFromText>(
     first_refused::<B>(settings, outer.part)
 }
 
-/// Returns the innermost refused part: while brackets don't match and a definition of the part is
-/// refused alone, that definition takes its place.
 fn innermost<'a, B: BuildFromText>(
     settings: Settings<'a>,
     refused: Refused<'a>,
@@ -336,7 +320,6 @@ fn innermost<'a, B: BuildFromText>(
     Ok(inner)
 }
 
-/// Returns the diagnosis of a pattern.
 fn diagnose_pattern<'a, B: BuildFromText>(
     settings: Settings<'a>,
     pattern: &'a str,

@@ -17,7 +17,6 @@ use std::cmp::Ordering;
 use std::collections::BTreeMap;
 use std::marker::Model;
 
-/// Returns the key that a group's name means.
 fn meant<'a>(name: &'a str, keys: &'a [PlaceholderKey]) -> &'a str
     ensures { result.now ≡ meant_key (map key_text keys.now) name.now }
 {
@@ -27,7 +26,6 @@ fn meant<'a>(name: &'a str, keys: &'a [PlaceholderKey]) -> &'a str
     }
 }
 
-/// Returns the group of each key. If several names mean the same key, the last one counts.
 fn groups_by_key<'a>(
     alloc: Global,
     names: &'a [Option<String>],
@@ -61,7 +59,6 @@ pub(crate) struct KeyTable {
     ranges: Vec<KeyRange>,
 }
 
-// Contracts see the keys with their groups, in byte order.
 impl Model for KeyTable {
     ghost use Rattle.std.specs.String.{string_bytes};
     ghost use Rattle.grok.specs.KeyTable.{Entries};
@@ -76,7 +73,6 @@ impl Model for KeyTable {
 
 ghost use Rattle.grok.specs.steps.KeyRanges.{key_at, key_or_none, entry_of, IsExtended, IsKeyRange};
 
-/// Returns the bytes of a key, or no bytes if the text has no such range.
 fn bytes_at(text: &str, range: KeyRange) -> &[u8]
     ensures { result.now ≡ key_or_none text.now range }
 {
@@ -86,14 +82,12 @@ fn bytes_at(text: &str, range: KeyRange) -> &[u8]
     }
 }
 
-/// Compares the key in this range with another key.
 fn compare_at(text: &str, range: KeyRange, key: &str) -> Ordering
     ensures { result ≡ slice_cmp nat_cmp (key_or_none text.now range) key.now }
 {
     bytes_at(text, range).cmp(key.as_bytes())
 }
 
-/// Appends a key to the joined text, and its byte range with its group to `ranges`.
 fn extend(
     text: &mut String,
     ranges: &mut Vec<KeyRange>,
@@ -114,7 +108,6 @@ fn extend(
 }
 
 impl KeyTable {
-    /// Makes the table from a map from keys to groups.
     fn new(alloc: Global, groups: &BTreeMap<&str, usize>) -> Result<KeyTable, AllocError>
         ensures entries { IfOk result (λ table. table ≡ map entry_of groups.now.entries) }
         ensures sorted { IfOk result
@@ -128,12 +121,6 @@ impl KeyTable {
         Ok(KeyTable { text, ranges })
     }
 
-    /// Makes the table from the names of an engine's groups, and the keys in the order of their
-    /// numbers.
-    ///
-    /// # Errors
-    ///
-    /// If an allocation fails.
     pub(crate) fn for_names(
         alloc: Global,
         names: &[Option<String>],
@@ -145,7 +132,6 @@ impl KeyTable {
         KeyTable::new(alloc, &groups)
     }
 
-    /// Returns the group of a key.
     pub(crate) fn get(&self, key: &str) -> Option<usize>
         ensures { result ≡ group_in self.now key.now }
     {
@@ -159,7 +145,6 @@ impl KeyTable {
         }
     }
 
-    /// Returns the keys with their groups, in the byte order of the keys, each once.
     pub(crate) fn entries(&self) -> KeyEntries<'_>
         ensures all { result ≡ self.now }
         ensures sorted { IsStrictlySortedBy (slice_cmp nat_cmp) (keys_of result) }
@@ -178,7 +163,6 @@ pub(crate) struct KeyEntries<'a> {
     ranges: &'a [KeyRange],
 }
 
-// Contracts see the remaining keys, with their groups.
 impl<'a> Model for KeyEntries<'a> {
     ghost use Rattle.std.specs.List.{AllByRecursion};
     ghost use Rattle.grok.specs.KeyTable.{Entries};
@@ -191,7 +175,6 @@ impl<'a> Model for KeyEntries<'a> {
     ghost invariant = { λ left. AllByRecursion (IsKeyRange left.text.now) left.ranges.now };
 }
 
-/// Returns the key at this range of the table's text.
 fn key_of<'a>(text: &'a str, range: KeyRange) -> &'a str
     requires { IsKeyRange text.now range }
     ensures { result.now ≡ key_at text.now range }

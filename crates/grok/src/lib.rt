@@ -28,12 +28,15 @@
 //! in a definition. It returns no location if the pattern is empty, if its expanded text is too
 //! long, if the regex is too big, or if `regex` reports the end of the text.
 //! [`Grok::measure`] returns the size of the expanded text without expanding it.
-//! Every call that allocates returns a `Result`, and a call that fails changes nothing.
+//! Every call that allocates returns a `Result`, and a call that fails changes nothing, except that a
+//! [`LineSearchOf`] whose search failed has no match.
 //!
 //! To match many lines, make a [`Matcher`] once. It returns what [`PatternOf::match_against`]
 //! returns, and keeps the engine's caches from line to line. [`MatcherOf::find`] returns a match
 //! that is borrowed until the next line, and copies nothing of it. Only the engine may allocate, as
 //! the caches of `regex` do until they are filled.
+//!
+//! Where a call has no section `# Errors`, its error is a failed allocation.
 #![tactic(auto)]
 
 mod compile;

@@ -26,7 +26,6 @@ pub(crate) struct FaultLocation<'a> {
     pub location: Location<'a>,
 }
 
-/// Returns whether an event is a structural fault.
 fn is_fault(event: Event<'_>) -> bool
     ensures { result ≡ is_fault (event_view event.entry) }
 {
@@ -70,7 +69,6 @@ impl<'a> Search<'a> for FaultSearch<'a> {
     }
 }
 
-/// Returns the fault of an item that has one itself.
 fn fault_of_item<'a>(item: Item<'a>) -> Fault<'a>
     ensures { fault_view result ≡ fault_of_item (item_view item.entry) }
 {
@@ -80,15 +78,8 @@ fn fault_of_item<'a>(item: Item<'a>) -> Fault<'a>
     }
 }
 
-/// Finds where the first structural fault of a pattern stands, which is the fault that
-/// [`Grok::measure`](crate::Grok::measure) reports. Returns `None` if there is none.
-///
-/// Each definition that `measurer` doesn't remember is measured once. Then only the definitions on
-/// the path are read again, at most `MAX_NESTING` of them.
-///
-/// # Errors
-///
-/// If an allocation fails.
+/// Each definition that `measurer` doesn't remember is measured once. Then only the definitions on the
+/// path are read again, at most `MAX_NESTING` of them.
 pub(crate) fn locate_fault<'a>(
     measurer: Measurer<'a>,
     pattern: &'a str,

@@ -43,7 +43,6 @@ pub enum WrittenByte {
 /// piece's text it is. [`Grok::locate_byte`] and [`Grok::locate_bytes`] return it.
 #[derive(Clone, PartialEq, Eq, Debug, Drop)]
 pub struct ByteLocation<'a> {
-    /// Where the piece stands.
     pub location: Location<'a>,
     /// Whether the byte was copied from the piece, or belongs to the group of a placeholder.
     pub part: WrittenByte,
@@ -60,7 +59,6 @@ struct ByteSearch<'m, 'a> {
 }
 
 impl<'m, 'a> ByteSearch<'m, 'a> {
-    /// Returns the size of what an event writes.
     fn size_of_event(&self, event: Event<'a>) -> PartialSize
         ensures { IsSizeOf self.now.measurer.now.settings.with_alias_only result (event_view event.entry ∷ []) }
     {
@@ -72,8 +70,6 @@ impl<'m, 'a> ByteSearch<'m, 'a> {
         }
     }
 
-    /// Passes over events that write a text of this size, unless the byte is in it. Returns whether
-    /// it passed over them.
     fn pass_size(&mut self, size: PartialSize) -> bool
         ensures passed { IsTrue result → (es : List EventView) →
             IsSizeOf self.old.measurer.now.settings.with_alias_only size es →
@@ -120,8 +116,6 @@ impl<'m, 'a> Search<'a> for ByteSearch<'m, 'a> {
     }
 }
 
-/// Returns what an item writes at the byte that comes `offset` bytes after the start of what its
-/// event writes.
 fn part_of_item(item: Item<'_>, offset: usize) -> WrittenByte
     ensures { IsPartOfItem offset (item_view item.entry) result }
 {
@@ -131,15 +125,8 @@ fn part_of_item(item: Item<'_>, offset: usize) -> WrittenByte
     }
 }
 
-/// Finds the piece that writes a byte of the expanded text of a pattern without a structural fault.
-/// Returns `None` if the text has no byte at this position.
-///
-/// A definition whose size `measurer` remembers is read again only if it is on the path. If it
-/// remembers all, these are at most `MAX_NESTING` of them.
-///
-/// # Errors
-///
-/// If an allocation fails.
+/// A definition whose size `measurer` remembers is read again only if it is on the path, which has at
+/// most `MAX_NESTING` definitions.
 pub(crate) fn locate_written<'a>(
     measurer: &Measurer<'a>,
     pattern: &'a str,
@@ -165,8 +152,6 @@ pub(crate) fn locate_written<'a>(
     }
 }
 
-/// Finds the piece that writes a byte of the expanded text of a pattern that was measured, as
-/// [`Grok::locate_byte`] does.
 fn locate_measured<'a>(
     found: &FullMeasure<'a>,
     pattern: &'a str,
@@ -188,10 +173,6 @@ impl Grok {
     ///
     /// Each definition is measured once. Then only the definitions on the path are read again, at
     /// most [`MAX_NESTING`](crate::MAX_NESTING) of them.
-    ///
-    /// # Errors
-    ///
-    /// If an allocation fails.
     pub fn locate_byte<'a>(
         &'a self,
         pattern: &'a str,
@@ -214,10 +195,6 @@ impl Grok {
     ///
     /// Each definition is measured once for all of the bytes. Then for each byte only the pattern and
     /// the definitions on the path are read again, up to the piece.
-    ///
-    /// # Errors
-    ///
-    /// If an allocation fails.
     pub fn locate_bytes<'a>(
         &'a self,
         pattern: &'a str,

@@ -35,7 +35,7 @@ pub struct Clash<'a> {
     pub key: String,
     /// The base key of the numbered placeholder, such as `x`.
     pub base: String,
-    /// Its number, such as 2: so many placeholders before it have the same base key.
+    /// Its number, such as 2: how many placeholders before it have the same base key.
     pub number: usize,
     /// Whether the first placeholder has the key as its alias, and not the second one.
     pub is_alias_first: bool,
@@ -45,8 +45,8 @@ pub struct Clash<'a> {
     pub second: Location<'a>,
 }
 
-/// The search for a use of a base key: the one before which `left` other uses of it come. It passes
-/// over each definition that is wholly known and doesn't have the sought use.
+/// The search for one use of a base key, before which `left` other uses of that key come. It passes over
+/// each definition that is wholly known and doesn't have the sought use.
 #[derive(Clone, Copy)]
 struct UseSearch<'a, 'd, 'k> {
     settings: Settings<'a>,
@@ -57,7 +57,6 @@ struct UseSearch<'a, 'd, 'k> {
     left: u128,
 }
 
-/// Returns 1 if the placeholder with this label uses the base key, or else 0.
 fn uses_by<'a>(settings: Settings<'a>, label: Label<'a>, base: &str) -> u128
     ensures { result ≡ (if is_capturing settings.entry.with_alias_only (label_view label.entry)
         then (if bytes_eq (base_key_of (label_view label.entry)) base.now then 1 else 0) else 0) }
@@ -69,8 +68,6 @@ fn uses_by<'a>(settings: Settings<'a>, label: Label<'a>, base: &str) -> u128
     }
 }
 
-/// Passes over this many uses of a base key, of which `left` come before the sought one. Returns
-/// `false` and changes nothing if that is among them.
 fn pass_uses(left: &mut u128, uses: u128) -> bool
     ensures passed { IsTrue result → uses + left.new ≡ left.old }
     ensures stopped { result ≡ false → (left.old < uses) × (left.new ≡ left.old) }
@@ -121,11 +118,6 @@ impl<'a> Search<'a> for UseSearch<'a, '_, '_> {
     }
 }
 
-/// Finds a use of a base key: the one before which `number` other uses of it come.
-///
-/// # Errors
-///
-/// If an allocation fails.
 fn find_use<'a>(
     settings: Settings<'a>,
     parts: &KnownParts<'a>,
@@ -151,11 +143,6 @@ fn find_use<'a>(
     }
 }
 
-/// Finds both placeholders of a clash.
-///
-/// # Errors
-///
-/// If an allocation fails.
 fn locate_both<'a>(
     settings: Settings<'a>,
     parts: &KnownParts<'a>,
@@ -202,17 +189,8 @@ fn locate_both<'a>(
     }
 }
 
-/// Finds where the two placeholders of a clash stand, if the first fault of a pattern is a clash.
-/// Otherwise returns `None`: the pattern has no fault, or its first one is a structural fault. `found`
-/// is what measuring the pattern found.
-///
 /// Each definition is read once. Then only the definitions on the two paths are read again, at most
 /// `MAX_NESTING` on each.
-///
-/// # Errors
-///
-/// If an allocation fails, or if before a fault a base key `x` is used 2^64 times or more and the
-/// least number `n` of an alias `x[n]` is `usize::MAX` or more.
 pub(crate) fn locate_clash<'a>(
     settings: Settings<'a>,
     pattern: &'a str,

@@ -45,8 +45,6 @@ pub struct PatternOf<E> {
     extracts: BTreeMap<String, String>,
 }
 
-// Contracts see the engine's value, the keys of the placeholders with their numbers, the key table and the
-// extracts.
 impl<E> Model for PatternOf<E> {
     ghost use Rattle.std.specs.Prelude.{map};
     ghost use Rattle.grok.specs.Answers.{PatternValue, pattern_code, extract_texts};
@@ -71,7 +69,6 @@ pub struct MatchesOf<'a, E> {
     captures: Vec<Option<&'a str>>,
 }
 
-// Contracts see the pattern and the text of each group.
 impl<'a, E> Model for MatchesOf<'a, E> {
     ghost use Rattle.grok.specs.Answers.{MatchesValue, matches_code};
     ghost use Rattle.grok.specs.Captures.{capture_texts};
@@ -87,8 +84,6 @@ impl<'a, E> Model for MatchesOf<'a, E> {
 }
 
 impl<E: Engine> PatternOf<E> {
-    /// Makes a pattern from its engine, the keys of its placeholders, the table of its keys, and the
-    /// extracts by key.
     #[tactic(auto, using(crate::proofs::KeyTables::WalksAreSorted::extract_found))]
     pub(crate) fn new(
         alloc: Global,
@@ -120,10 +115,6 @@ impl<E: Engine> PatternOf<E> {
     }
 
     /// Returns the first match in the line, or `None` if the engine finds none.
-    ///
-    /// # Errors
-    ///
-    /// If an allocation of the engine fails.
     pub fn match_against<'a>(
         &'a self,
         text: &'a str,
@@ -142,10 +133,6 @@ impl<E: Engine> PatternOf<E> {
 
     /// Makes a matcher for many lines. It returns the same as `match_against`, and keeps the
     /// engine's caches from line to line.
-    ///
-    /// # Errors
-    ///
-    /// If an allocation of the engine fails.
     pub fn matcher<'p>(&'p self) -> Result<MatcherOf<'p, E>, AllocError>
     where
         E: HasMatcher<'p>,
@@ -156,10 +143,6 @@ impl<E: Engine> PatternOf<E> {
 
     /// Makes a search for many lines. It finds the same as `match_against`, and keeps the match that it
     /// found last.
-    ///
-    /// # Errors
-    ///
-    /// If an allocation of the engine fails.
     pub fn line_search<'p>(&'p self) -> Result<LineSearchOf<'p, E>, AllocError>
     where
         E: HasMatcher<'p>,
@@ -186,8 +169,6 @@ impl<E: Engine> PatternOf<E> {
         self.placeholders.as_slice()
     }
 
-    /// Returns each key of `capture_names` after the number of the engine's group that it has its values from, in
-    /// the order of `capture_names`.
     fn keys_with_groups(&self) -> Result<Vec<(usize, &str)>, AllocError>
         ensures { IfOk result (λ keys. map entry_of_group keys.items ≡ self.now.keys) }
     {
@@ -198,12 +179,8 @@ impl<E: Engine> PatternOf<E> {
         Ok(keys)
     }
 
-    /// Returns each key of `capture_names` after the number of the engine's group that it has its values from,
-    /// in the order of the groups. So a key comes after those whose groups are around its own.
-    ///
-    /// # Errors
-    ///
-    /// If an allocation fails.
+    /// Returns each key of `capture_names` with the number of the engine's group that captures its values,
+    /// in the order of the groups. So a key comes after the keys whose groups are around its own group.
     pub fn keys_by_group(&self) -> Result<Vec<(usize, &str)>, AllocError>
         ensures all { IfOk result (λ keys. IsPermutation self.now.keys (map entry_of_group keys.items)) }
         ensures sorted { IfOk result (λ keys. IsNonDecreasingBy (λ pair. pair.0) keys.items) }
@@ -213,8 +190,8 @@ impl<E: Engine> PatternOf<E> {
         Ok(keys)
     }
 
-    /// Returns the number of the engine's group that a key has its values from, or `None` if the
-    /// pattern has no such key.
+    /// Returns the number of the engine's group that captures the values of a key, or `None` if the pattern
+    /// has no such key.
     pub fn group_of(&self, key: &str) -> Option<usize>
         ensures { result ≡ group_in self.now.keys key.now }
     {
@@ -244,7 +221,6 @@ impl<E: Engine> PatternOf<E> {
 }
 
 impl<'a, E: Engine> MatchesOf<'a, E> {
-    /// Makes a match of the pattern from the texts of its groups.
     pub(crate) fn new(pattern: &'a PatternOf<E>, captures: Vec<Option<&'a str>>) -> MatchesOf<'a, E>
         ensures pattern { result.pattern ≡ pattern.now }
         ensures captures { result.captures ≡ capture_texts captures.entry.items }
@@ -281,10 +257,6 @@ impl<'a, E: Engine> MatchesOf<'a, E> {
     }
 
     /// Returns the pairs of `iter` as a list, in its order.
-    ///
-    /// # Errors
-    ///
-    /// If an allocation fails.
     pub fn collect(&self, alloc: Global) -> Result<Vec<(&str, &str)>, AllocError>
         ensures { IfOk result
             (λ pairs. map pair_texts pairs.items ≡ walk self.now.pattern.keys self.now.captures) }
@@ -297,10 +269,6 @@ impl<'a, E: Engine> MatchesOf<'a, E> {
     }
 
     /// Returns the pairs of `iter` as a map.
-    ///
-    /// # Errors
-    ///
-    /// If an allocation fails.
     pub fn collect_map(&self, alloc: Global) -> Result<BTreeMap<&str, &str>, AllocError>
         ensures { IfOk result
             (λ texts. map pair_texts texts.entries ≡ walk self.now.pattern.keys self.now.captures) }
@@ -319,7 +287,6 @@ pub struct CaptureNames<'a> {
     entries: KeyEntries<'a>,
 }
 
-// Contracts see the remaining keys.
 impl<'a> Model for CaptureNames<'a> {
     ghost use Rattle.std.specs.Prelude.{ℕ, List};
     ghost use Rattle.std.specs.Map.{keys_of};
@@ -352,7 +319,6 @@ pub struct MatchesIter<'a> {
     groups: GroupTexts<'a>,
 }
 
-// Contracts see the remaining pairs.
 impl<'a> Model for MatchesIter<'a> {
     ghost use Rattle.std.specs.Prelude.{ℕ, List};
     ghost use Rattle.grok.specs.Answers.{walk};
@@ -366,7 +332,6 @@ impl<'a> Model for MatchesIter<'a> {
 impl<'a> MatchesIter<'a> {
     ghost use Rattle.grok.specs.Groups.{group_texts};
 
-    /// Returns each key whose group took part in the match, with the text of that group.
     pub(crate) fn new(keys: &'a KeyTable, groups: GroupTexts<'a>) -> MatchesIter<'a>
         ensures pairs { result ≡ walk keys.now (group_texts groups.entry) }
         ensures sorted { IsStrictlySortedBy (slice_cmp nat_cmp) (keys_of result) }
@@ -397,7 +362,6 @@ impl<'a> Iterator for MatchesIter<'a> {
     }
 }
 
-/// Writes pairs in braces, in their order.
 pub(crate) fn write_pairs<W: fmt::Write>(
     f: &mut fmt::Formatter<W>,
     pairs: MatchesIter<'_>,
@@ -427,7 +391,7 @@ impl<'m, 'a, E: Engine> IntoIterator for &'m MatchesOf<'a, E> {
     }
 }
 
-/// Shows the text and the extracts.
+/// Writes the text and the extracts.
 impl<E: Engine> fmt::Debug for PatternOf<E> {
     ghost use Rattle.std.specs.Prelude.{codes, Some};
     ghost use Rattle.std.specs.Fmt.{debug_str, ◌++?◌};
@@ -452,7 +416,7 @@ impl<E: Engine> fmt::Debug for PatternOf<E> {
     }
 }
 
-/// Shows the pairs, in the order of `iter`.
+/// Writes the pairs, in the order of `iter`.
 impl<E: Engine> fmt::Debug for MatchesOf<'_, E> {
     ghost debug_output = { λ matches. debug_pairs (walk matches.pattern.keys matches.captures) };
 

@@ -44,10 +44,6 @@ impl Grok {
     /// Measures a pattern without expanding it: returns its first structural fault in reading
     /// order, or else the size of its expanded text. Each stored definition that it reaches is read
     /// once.
-    ///
-    /// # Errors
-    ///
-    /// If an allocation fails.
     pub fn measure<'a>(
         &'a self,
         pattern: &'a str,
@@ -66,10 +62,6 @@ impl Grok {
     /// Measures several patterns in their order, each as [`Grok::measure`] does. A stored
     /// definition is read once for all of them, and again only if it was nested too deeply before
     /// and more levels are left now.
-    ///
-    /// # Errors
-    ///
-    /// If an allocation fails.
     pub fn measure_all<'a>(
         &'a self,
         patterns: &[&'a str],
@@ -95,11 +87,8 @@ impl Grok {
     /// of texts it read.
     ///
     /// Each piece of the pattern and of each stored definition that it reaches is read at most
-    /// once, and so is the end of each of these texts. Without a fault, each is read exactly once.
-    ///
-    /// # Errors
-    ///
-    /// If an allocation fails.
+    /// once, and so is the end of each of these texts. Without a fault, each is read exactly once. With
+    /// one, the pieces of the pattern itself are read up to the one that the fault is in.
     pub fn measure_counted<'a>(
         &'a self,
         pattern: &'a str,

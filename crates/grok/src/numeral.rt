@@ -5,15 +5,12 @@ ghost use Rattle.grok.specs.Numeral.{numeral};
 
 use itoa::Buffer;
 
-/// Returns whether a text is a number from 1 up in decimal digits without leading zeros.
 pub(crate) fn is_numeral_from_one(text: &str) -> bool
     ensures { Decides result ((count : ℕ) × (text.now ≡ numeral (suc count))) }
 {
     !text.is_empty() && !text.starts_with('0') && text.as_bytes().iter().all(|b| b.is_ascii_digit())
 }
 
-/// Reads a number in decimal digits without leading zeros. Returns `None` if the text isn't one, or
-/// if the number doesn't fit into a `usize`.
 pub(crate) fn number_of_numeral(text: &str) -> Option<usize>
     ensures { MatchOption result ((number : ℕ) → number < 2 ^ 64 → text.now ≡ numeral number → ⊥)
         (λ number. text.now ≡ numeral number) }

@@ -18,7 +18,6 @@ pub enum RefusalReason {
 }
 
 impl RefusalReason {
-    /// Returns whether a group isn't closed, or a `)` closes none.
     pub(crate) fn is_of_brackets(self) -> bool
         ensures { IsTrue result ↔ IsOfBrackets self }
     {
@@ -32,11 +31,6 @@ impl RefusalReason {
     }
 }
 
-/// Returns the reason that this error of `regex` gives.
-///
-/// # Errors
-///
-/// If it reports that an allocation failed.
 fn reason_of(error: regex::Error) -> Result<RefusalReason, AllocError>
     requires { error ≢ Internal }
     ensures { MatchResult result (λ reason. error ≡ regex_error_of reason)
@@ -51,11 +45,6 @@ fn reason_of(error: regex::Error) -> Result<RefusalReason, AllocError>
     }
 }
 
-/// Returns why `regex` refuses the text, or `None` if it doesn't.
-///
-/// # Errors
-///
-/// If an allocation fails.
 pub(crate) fn reason_for<B: BuildFromText>(
     alloc: Global,
     text: &str,

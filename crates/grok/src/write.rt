@@ -83,13 +83,6 @@ impl<'a> Search<'a> for Writer<'a> {
     }
 }
 
-/// Expands a pattern without a structural fault: writes its expanded text into `text`, which is
-/// empty and has room for exactly that, and assigns the keys and extracts of its capturing
-/// placeholders.
-///
-/// # Errors
-///
-/// If an allocation fails.
 pub(crate) fn write(
     settings: Settings<'_>,
     pattern: &str,

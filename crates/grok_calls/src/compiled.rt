@@ -1,9 +1,8 @@
-//! Compiles one pattern, and prints what came of it.
-use crate::timed::library;
+//! Compiles a pattern over the definitions on standard input, and shows what came of it, or what it finds in a line.
+use crate::libraries::library_of_input;
 use anyhow::{Result, bail};
-use grok::{Engine, Grok, PatternOf, RegexEngine};
-use grok_engines::Heads;
-use std::io;
+use grok::{Engine, Grok, MatchesOf, PatternOf, RegexEngine};
+use grok_engines::{Bare, Heads};
 
 /// Prints the expanded text of a pattern, its keys in their order, and the extracts of these names.
 fn show_pattern<E: Engine>(
@@ -38,16 +37,60 @@ fn show_compiled<E: Engine>(
     }
 }
 
-/// Compiles the pattern over the definitions on standard input: over `regex`, or over an engine that takes each text, and with
-/// the keys of all placeholders or of those with an alias.
+/// Compiles the pattern over `regex` or over an engine for tests, with the keys of all placeholders or of those with an alias.
 pub(crate) fn call(rt: &HostRuntime, name: &str, pattern: &str, names: &[String]) -> Result<()> {
-    let lines = io::read_to_string(rt.alloc(), rt.stdin())?;
-    let grok = library(rt.alloc(), lines.as_str())?;
+    let grok = library_of_input(rt)?;
     match name {
         "regex" => show_compiled::<RegexEngine>(rt, &grok, pattern, false, names),
         "regex_aliases" => show_compiled::<RegexEngine>(rt, &grok, pattern, true, names),
         "heads" => show_compiled::<Heads>(rt, &grok, pattern, false, names),
         "heads_aliases" => show_compiled::<Heads>(rt, &grok, pattern, true, names),
-        _ => bail!("no call has this name"),
+        "bare" => show_compiled::<Bare>(rt, &grok, pattern, false, names),
+        _ => bail!("no engine has this name"),
+    }
+}
+
+/// Prints what the match has for these keys.
+fn show_values<E: Engine>(
+    rt: &HostRuntime,
+    matches: &MatchesOf<'_, E>,
+    keys: &[String],
+) -> Result<()> {
+    for key in keys {
+        println!(rt; "{:?}", matches.get(key.as_str()))?;
+    }
+    Ok(())
+}
+
+/// Prints the pattern, its match in the line, and what that has for these keys.
+fn show_found<E: Engine>(
+    rt: &HostRuntime,
+    pattern: &PatternOf<E>,
+    line: &str,
+    keys: &[String],
+) -> Result<()> {
+    println!(rt; "{pattern:#?}")?;
+    let found = pattern.match_against(line)?;
+    println!(rt; "{found:#?}")?;
+    match &found {
+        Some(matches) => show_values(rt, matches, keys),
+        None => Ok(()),
+    }
+}
+
+/// Compiles the pattern with the keys of all placeholders, over `regex` or over an engine for tests, and shows what it finds
+/// in the line.
+pub(crate) fn find(
+    rt: &HostRuntime,
+    name: &str,
+    (pattern, line): (&str, &str),
+    keys: &[String],
+) -> Result<()> {
+    let grok = library_of_input(rt)?;
+    match name {
+        "regex" => show_found(rt, &grok.compile(pattern, false)?, line, keys),
+        "heads" => show_found(rt, &grok.compile_with::<Heads>(pattern, false)?, line, keys),
+        "bare" => show_found(rt, &grok.compile_with::<Bare>(pattern, false)?, line, keys),
+        _ => bail!("no engine has this name"),
     }
 }

@@ -1,5 +1,5 @@
 //! Calls on libraries of definitions.
-use crate::{LABELS, finish, twice};
+use crate::{LABELS, begin, finish};
 use anyhow::{Result, bail};
 use grok::Grok;
 use grok_engines::Heads;
@@ -16,32 +16,46 @@ const PAIRS: [(&str, &str); 3] = [
 const PATTERNS: [&str; 3] = ["%{A}", "%{B:key}-%{A}", "%{NEW}"];
 
 pub(crate) fn call(rt: &HostRuntime, name: &str) -> Result<()> {
-    let alloc = rt.alloc();
     match name {
-        "empty" => twice(rt, || Grok::empty(alloc)),
-        "patterns" => twice(rt, || grok::patterns()),
-        "with_default_patterns" => twice(rt, || Grok::with_default_patterns(alloc)),
-        "default" => twice(rt, || Grok::default(alloc)),
-        "from_iter" => twice(rt, || Grok::from_iter(alloc, &PAIRS)),
         "add_new" => add_to_library(rt, "NEW"),
         "add_again" => add_to_library(rt, "A"),
-        _ => call_on_library(rt, name, &Grok::from_iter(alloc, &PAIRS)?),
+        _ => call_on_library(rt, name, &Grok::from_iter(rt.alloc(), &PAIRS)?),
+    }
+}
+
+fn call_on_library(rt: &HostRuntime, name: &str, grok: &Grok) -> Result<()> {
+    'calls: for label in LABELS {
+        begin(rt)?;
+        ask(rt, label, name, grok)?;
+    }
+    Ok(())
+}
+
+fn ask(rt: &HostRuntime, label: &str, name: &str, grok: &Grok) -> Result<()> {
+    match name {
+        "names" => finish(rt, label, first_names(grok)),
+        "definition" => finish(rt, label, (grok.definition("B"), grok.definition("NEW"))),
+        "clone" => finish(rt, label, grok.clone()),
+        _ => make(rt, label, name),
+    }
+}
+
+/// Makes a library.
+fn make(rt: &HostRuntime, label: &str, name: &str) -> Result<()> {
+    let alloc = rt.alloc();
+    match name {
+        "empty" => finish(rt, label, Grok::empty(alloc)),
+        "patterns" => finish(rt, label, grok::patterns()),
+        "with_default_patterns" => finish(rt, label, Grok::with_default_patterns(alloc)),
+        "default" => finish(rt, label, Grok::default(alloc)),
+        "from_iter" => finish(rt, label, Grok::from_iter(alloc, &PAIRS)),
+        _ => bail!("no call has this name"),
     }
 }
 
 fn first_names(grok: &Grok) -> [Option<&str>; 3] {
     let mut names = grok.names();
     [names.next(), names.next(), names.next()]
-}
-
-fn call_on_library(rt: &HostRuntime, name: &str, grok: &Grok) -> Result<()> {
-    match name {
-        "names" => twice(rt, || first_names(grok)),
-        "definition" => twice(rt, || (grok.definition("B"), grok.definition("NEW"))),
-        "definitions_of" => twice(rt, || grok.definitions_of("%{A:x}%{NEW}%{C=c}%{C}")),
-        "clone" => twice(rt, || grok.clone()),
-        _ => bail!("no call has this name"),
-    }
 }
 
 fn show<T: fmt::Debug + Drop>(rt: &HostRuntime, when: &str, value: T) -> Result<()> {
@@ -61,7 +75,7 @@ fn show_library(rt: &HostRuntime, when: &str, grok: &Grok) -> Result<()> {
 
 /// Sets the definition of `name`, and prints the library after that.
 fn add_pattern(rt: &HostRuntime, label: &str, grok: &mut Grok, name: &str) -> Result<()> {
-    eprintln!(rt; "[call")?;
+    begin(rt)?;
     finish(rt, label, grok.add_pattern(name, "x%{C=c}%{D:key:int=d}"))?;
     let when = format!(in rt.alloc(); "after {label}")?;
     show_library(rt, when.as_str(), grok)

@@ -1,32 +1,37 @@
 //! Calls on engines, without a pattern.
-use crate::twice;
+use crate::{LABELS, begin, finish};
 use anyhow::{Result, bail};
 use grok::{Engine, RegexEngine};
 use grok_engines::Bare;
 
 pub(crate) fn call(rt: &HostRuntime, name: &str) -> Result<()> {
     match name {
-        "bare_captures" => capture(rt, &built::<Bare>(rt, "(?<_n_0>a)")?),
-        _ => call_on_regex(rt, name, &built::<RegexEngine>(rt, "(?<key>a)(b)")?),
+        "bare_captures" => call_on::<Bare>(rt, "captures", "(?<_n_0>a)"),
+        "regex_text" => call_on::<RegexEngine>(rt, "text", "(?<key>a)(b)"),
+        "regex_names" => call_on::<RegexEngine>(rt, "names", "(?<key>a)(b)"),
+        _ => bail!("no call has this name"),
     }
 }
 
-fn built<E: Engine>(rt: &HostRuntime, text: &str) -> Result<E> {
+fn call_on<E: Engine>(rt: &HostRuntime, name: &str, text: &str) -> Result<()> {
     match E::build(rt.alloc(), text) {
-        Ok(engine) => Ok(engine),
+        Ok(engine) => ask_twice(rt, name, &engine),
         Err(_) => bail!("the engine refuses the text"),
     }
 }
 
-fn capture(rt: &HostRuntime, engine: &Bare) -> Result<()> {
-    let alloc = rt.alloc();
-    twice(rt, || engine.captures(alloc, "q"))
+fn ask_twice<E: Engine>(rt: &HostRuntime, name: &str, engine: &E) -> Result<()> {
+    'calls: for label in LABELS {
+        begin(rt)?;
+        ask(rt, label, name, engine)?;
+    }
+    Ok(())
 }
 
-fn call_on_regex(rt: &HostRuntime, name: &str, engine: &RegexEngine) -> Result<()> {
+fn ask<E: Engine>(rt: &HostRuntime, label: &str, name: &str, engine: &E) -> Result<()> {
     match name {
-        "regex_text" => twice(rt, || engine.text()),
-        "regex_names" => twice(rt, || engine.names()),
-        _ => bail!("no call has this name"),
+        "text" => finish(rt, label, engine.text()),
+        "names" => finish(rt, label, engine.names()),
+        _ => finish(rt, label, engine.captures(rt.alloc(), "q")),
     }
 }

@@ -1,6 +1,6 @@
 //! Compares the ways to match on pairs of a pattern and a line, which `tests/pairs/run` makes. All ways have to return the
 //! same.
-use crate::timed::library;
+use crate::libraries::library_of_lines;
 use anyhow::{Result, bail};
 use grok::{Grok, Matcher, Pattern};
 use std::alloc::{AllocError, Global};
@@ -57,7 +57,7 @@ impl fmt::Display for MatchesByWay {
 }
 
 fn shown<T: fmt::Debug>(alloc: Global, found: &T) -> Result<String, AllocError> {
-    format!(in alloc; "{found:?}")
+    format!(in alloc; "{found:#?}")
 }
 
 fn own_match(alloc: Global, pattern: &Pattern, line: &str) -> Result<String, AllocError> {
@@ -108,7 +108,7 @@ pub(crate) fn call(rt: &HostRuntime) -> Result<()> {
     let Some((definitions, patterns)) = text.split_once(BETWEEN_PATTERNS) else {
         bail!("no pattern after the definitions");
     };
-    let grok = library(rt.alloc(), definitions)?;
+    let grok = library_of_lines(rt.alloc(), definitions)?;
     for pattern in patterns.split(BETWEEN_PATTERNS) {
         compare_pattern(rt, &grok, pattern)?;
     }

@@ -1,5 +1,5 @@
 //! Calls on the splitter, which makes no allocation.
-use crate::twice;
+use crate::{LABELS, begin, finish};
 use anyhow::{Result, bail};
 use grok::parser;
 
@@ -14,10 +14,18 @@ fn count_pieces() -> u64 {
 }
 
 pub(crate) fn call(rt: &HostRuntime, name: &str) -> Result<()> {
+    'calls: for label in LABELS {
+        begin(rt)?;
+        ask(rt, label, name)?;
+    }
+    Ok(())
+}
+
+fn ask(rt: &HostRuntime, label: &str, name: &str) -> Result<()> {
     match name {
-        "split" => twice(rt, || count_pieces()),
-        "is_name" => twice(rt, || (parser::is_name("A_1"), parser::is_name("a-b"))),
-        "split_name" => twice(rt, || parser::split_name("NAME=definition")),
+        "split" => finish(rt, label, count_pieces()),
+        "is_name" => finish(rt, label, (parser::is_name("A_1"), parser::is_name("a-b"))),
+        "split_name" => finish(rt, label, parser::split_name("NAME=definition")),
         _ => bail!("no call has this name"),
     }
 }

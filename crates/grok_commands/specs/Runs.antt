@@ -17,7 +17,7 @@ use Rattle.grok_commands.specs.Library.{library_of}
 use Rattle.grok_commands.specs.LineTexts.{Finds, line_answer}
 use Rattle.grok_commands.specs.SizeTexts.{text_of_size, measure_of, IsFaulty, IsCheckLine}
 use Rattle.grok_commands.specs.Split.{IsPieceLine}
-use Rattle.grok_lines.specs.Streams.{HasAnsweredInput, HasAnsweredEnded, HasAnsweredSome}
+use Rattle.grok_lines.specs.Streams.{HasAnsweredInput, HasAnsweredEnded, HasAnsweredSome, HasBegun}
 use Rattle.grok_lines.specs.Traffic.{Traffic}
 use Rattle.grok_commands.specs.declared.fault.ToolFault.{ToolFault}
 use Rattle.grok_commands.specs.declared.fault.ToolFault.TheVariants as fault
@@ -137,11 +137,13 @@ IsReadFault t (One text) = ⊥
 IsReadFault t (Each answers) = ⊥
 IsReadFault t (EachLine answer) = HasAnsweredEnded (flat_map answer) t
 
--- THE OUTPUT FAILED: `split`, `measure` and `check` have read nothing. Nothing else is stated.
+-- THE OUTPUT FAILED: what `match` or `json` has written is a beginning of the answers to the first lines of what was
+-- read, which may end inside an answer. `split`, `measure` and `check` have read nothing, and nothing else is stated of
+-- them.
 abbrev pub IsWriteFault : Traffic → Job → Type 0
 IsWriteFault t (One text) = IsUnread t
 IsWriteFault t (Each answers) = IsUnread t
-IsWriteFault t (EachLine answer) = Unit {0}
+IsWriteFault t (EachLine answer) = HasBegun (HasAnsweredSome (flat_map answer)) t
 
 -- ---- HOW A RUN ENDS
 

@@ -17,7 +17,6 @@ use grok_lines::{LinesError, finish, hold};
 use std::alloc::{AllocError, Global};
 use std::io::Write;
 
-/// Returns what `check` writes for a measure: the size, or the text of the fault's error.
 fn measured_text(alloc: Global, measure: Measure<'_>) -> Result<String, AllocError>
     ensures { IfOk result
         (λ text. IsMeasuredText (measure_view measure.entry) (string_bytes text)) }
@@ -29,14 +28,12 @@ fn measured_text(alloc: Global, measure: Measure<'_>) -> Result<String, AllocErr
     }
 }
 
-/// Returns a list of the names of all definitions in `grok`, in byte order.
 fn names_in<'a>(alloc: Global, grok: &'a Grok) -> Result<Vec<&'a str>, AllocError>
     ensures { IfOk result (λ names. texts names.items ≡ finite.keys grok.now) }
 {
     grok.names().collect(alloc)
 }
 
-/// Returns the placeholder `%{NAME}` of each name.
 fn placeholders(alloc: Global, names: &[&str]) -> Result<Vec<String>, AllocError>
     ensures { IfOk result
         (λ patterns. map string_bytes patterns.items ≡ map placeholder_of (texts names.now)) }
@@ -49,7 +46,6 @@ fn placeholders(alloc: Global, names: &[&str]) -> Result<Vec<String>, AllocError
     Ok(patterns)
 }
 
-/// Returns a slice of each of the strings, in their order.
 fn texts_in<'a>(alloc: Global, strings: &'a [String]) -> Result<Vec<&'a str>, AllocError>
     ensures { IfOk result (λ all. texts all.items ≡ map string_bytes strings.now) }
 {
@@ -60,8 +56,6 @@ fn texts_in<'a>(alloc: Global, strings: &'a [String]) -> Result<Vec<&'a str>, Al
     Ok(all)
 }
 
-/// Replaces the text of `line` by what `check` writes for a definition: `name`, `: `, the size or
-/// the text of the error, and a line feed.
 fn write_line(
     alloc: Global,
     line: &mut String,
@@ -76,7 +70,6 @@ fn write_line(
     write!(line, "{name}: {text}\n")
 }
 
-/// Measures patterns in their order.
 fn measures_of<'a>(
     alloc: Global,
     alias_only: bool,
@@ -90,8 +83,6 @@ fn measures_of<'a>(
     grok.measure_all(&texts, alias_only)
 }
 
-/// Adds a line for each name and its measure to `held`, and sends what is held to `output` whenever
-/// it is long. What isn't sent yet stays in `held`.
 fn hold_lines<W: Write>(
     alloc: Global,
     names: &[&str],
@@ -120,8 +111,6 @@ fn hold_lines<W: Write>(
     Ok(())
 }
 
-/// Adds the line of each definition of the library to `held`, and sends what is held to `output`
-/// whenever it is long. What isn't sent yet stays in `held`.
 fn hold_definitions<W: Write>(
     alloc: Global,
     alias_only: bool,

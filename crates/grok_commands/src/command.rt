@@ -37,7 +37,6 @@ pub enum Command<'a> {
     },
 }
 
-/// Returns whether the first word is `-a`, and the words without it.
 fn read_mode<'a>(words: &'a [&'a str]) -> (bool, &'a [&'a str])
     ensures { (result.0, texts result.1.now) ≡ mode_of (texts words.now) }
 {
@@ -47,8 +46,6 @@ fn read_mode<'a>(words: &'a [&'a str]) -> (bool, &'a [&'a str])
     }
 }
 
-/// Reads the words `[-a] PATTERN [NAME=DEF]..` as a request. Returns `None` if the words don't have
-/// this form.
 fn read_request<'a>(words: &'a [&'a str]) -> Option<Request<'a>>
     ensures { option_map request_view result ≡ request_of (texts words.now) }
 {
@@ -61,8 +58,6 @@ fn read_request<'a>(words: &'a [&'a str]) -> Option<Request<'a>>
     })
 }
 
-/// Reads the words `[-a] [NAME=DEF]..` as the command `check`. Returns `None` if the words don't
-/// have this form.
 fn read_check<'a>(words: &'a [&'a str]) -> Option<Command<'a>>
     ensures { option_map command_view result ≡ check_of (texts words.now) }
 {

@@ -8,8 +8,7 @@ use grok::Grok;
 use std::alloc::{AllocError, Global};
 use std::marker::Model;
 
-/// Words of the form `NAME=DEF`: each of them has a `=`. Contracts see a list with the name and the
-/// definition of each word.
+/// Words of the form `NAME=DEF`: each of them has a `=`.
 #[derive(Drop)]
 pub struct Definitions<'a> {
     words: &'a [&'a str],
@@ -33,14 +32,12 @@ fn has_equals(word: &str) -> bool
     word.as_bytes().iter().any(|b| *b == b'=')
 }
 
-/// Returns whether each word has a `=`.
 fn each_has_equals(words: &[&str]) -> bool
     ensures { result ≡ list_all (λ word. has_equals word.now) words.now }
 {
     words.iter().all(|word| has_equals(word))
 }
 
-/// Returns what a word has before its first `=`, and what it has after it.
 fn cut<'a>(word: &'a str) -> (&'a str, &'a str)
     requires { has_equals word.now ≡ true }
     ensures { (result.0.now, result.1.now) ≡ cut_word word.now }
@@ -62,10 +59,6 @@ impl<'a> Definitions<'a> {
 
     /// Returns a `Grok` with the default definitions, and then those of the words. A later
     /// definition of a name replaces an earlier one.
-    ///
-    /// # Errors
-    ///
-    /// If an allocation fails.
     pub fn library(&self, alloc: Global) -> Result<Grok, AllocError>
         ensures { IfOk result (λ grok. grok ≡ library_of self.now) }
     {

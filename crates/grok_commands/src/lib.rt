@@ -1,4 +1,6 @@
 //! The commands of the program `grok_tool`: what it does with its words, its input and its output.
+//!
+//! Where a call has no section `# Errors`, its error is a failed allocation.
 #![tactic(auto)]
 
 ghost use Rattle.grok_commands.specs.Commands.{texts, command_of};
@@ -35,7 +37,8 @@ use std::io::{Read, Write};
 /// - `Memory` if an allocation fails. Some answers may have been written: the first ones, each as a
 ///   whole.
 /// - `Read` if the input fails. The answers to the lines that had ended by then were written.
-/// - `Write` if the output fails. It isn't stated how much was written.
+/// - `Write` if the output fails. `match` and `json` have then written a beginning of the answers to the
+///   lines that were read. For the other commands it isn't stated how much was written.
 pub fn run<R: Read, W: Write>(
     alloc: Global,
     words: &[&str],

@@ -19,7 +19,6 @@ pub enum LineFormat {
     Object,
 }
 
-/// Appends a line `KEY=VALUE` for each pair of a match.
 fn write_pairs(text: &mut Vec<u8>, matches: MatchesRef<'_>) -> Result<(), AllocError>
     ensures { OnOk result (text.new.items ≡ text.old.items
         ++ flat_map pair_line (walk (borrowed_keys matches.entry) (borrowed_captures matches.entry))) }
@@ -31,7 +30,6 @@ fn write_pairs(text: &mut Vec<u8>, matches: MatchesRef<'_>) -> Result<(), AllocE
 }
 
 impl LineFormat {
-    /// Returns the answer to a line that isn't UTF-8.
     fn not_utf8(self) -> &'static [u8]
         ensures { result.now ≡ not_utf8_text self }
     {
@@ -41,7 +39,6 @@ impl LineFormat {
         }
     }
 
-    /// Returns the answer to a line in which nothing matches.
     #[inline(always)]
     fn no_match(self) -> &'static [u8]
         ensures { result.now ≡ no_match_text self }
@@ -52,8 +49,7 @@ impl LineFormat {
         }
     }
 
-    /// Appends the answer to a line with this match. If an allocation fails, appends nothing.
-    /// `pairs` is a buffer, and what it has before is lost.
+    /// `pairs` is a buffer, and its old contents are lost.
     fn write_match(
         self,
         alloc: Global,

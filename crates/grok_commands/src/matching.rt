@@ -5,7 +5,7 @@ ghost use Rattle.grok.specs.Errors.{error_value, Memory as memory};
 ghost use Rattle.grok.specs.declared.errors.error.Error.{Error};
 ghost use Rattle.grok_commands.specs.Views.{request_view};
 ghost use Rattle.grok_lines.specs.Traffic.{traffic};
-ghost use Rattle.grok_lines.specs.Streams.{answers_of, HasAnsweredInput, HasAnsweredInputThen, HasAnsweredEnded, HasAnsweredSome};
+ghost use Rattle.grok_lines.specs.Streams.{answers_of, HasAnsweredInput, HasAnsweredInputThen, HasAnsweredEnded, HasAnsweredSome, HasBegun};
 ghost use Rattle.grok_commands.specs.LineTexts.{line_answer};
 ghost use Rattle.grok_commands.specs.Runs.{answer_by, IsCompiled, IsRefused, HasPattern};
 
@@ -17,7 +17,6 @@ use grok_lines::{LineAnswers, answer_lines};
 use std::alloc::Global;
 use std::io::{Read, Write};
 
-/// Returns the fault with which a run ends if compiling its pattern returns `error`.
 fn pattern_fault(error: grok::Error) -> ToolFault
     ensures memory { error_value error ≡ memory → result ≡ ToolFault.Memory }
     ensures pattern { error_value error ≢ memory → result ≡ ToolFault.Pattern error }
@@ -29,12 +28,6 @@ fn pattern_fault(error: grok::Error) -> ToolFault
     }
 }
 
-/// Compiles the pattern of a request.
-///
-/// # Errors
-///
-/// `Memory` if an allocation fails, and `Pattern` if the pattern has a fault or the engine refuses
-/// it.
 fn compile(alloc: Global, request: &Request<'_>) -> Result<Pattern, ToolFault>
     ensures ok { IfOk result (IsCompiled (request_view request.now)) }
     ensures pattern { (error : Error) → result ≡ Err (ToolFault.Pattern error)
@@ -47,7 +40,6 @@ fn compile(alloc: Global, request: &Request<'_>) -> Result<Pattern, ToolFault>
         .map_err(pattern_fault)
 }
 
-/// Answers each line of the input by `answer_lines`, and returns its error as a `ToolFault`.
 fn answer_each<A: LineAnswers, R: Read, W: Write>(
     alloc: Global,
     answers: &mut A,
@@ -63,6 +55,10 @@ fn answer_each<A: LineAnswers, R: Read, W: Write>(
     ensures memory { IsErrOf result ToolFault.Memory → HasAnsweredSome (answers_of (A.answer answers.old))
         (traffic (R.remaining input.old) (R.remaining input.new)
         (W.contents output.old) (W.contents output.new)) }
+    ensures write { IsErrOf result ToolFault.Write
+        → HasBegun (HasAnsweredSome (answers_of (A.answer answers.old)))
+        (traffic (R.remaining input.old) (R.remaining input.new)
+        (W.contents output.old) (W.contents output.new)) }
     ensures kind { IfErr result
         (λ fault. (fault ≡ ToolFault.Memory) ⊎ ((fault ≡ ToolFault.Read)
         ⊎ (fault ≡ ToolFault.Write))) }
@@ -70,7 +66,6 @@ fn answer_each<A: LineAnswers, R: Read, W: Write>(
     Ok(answer_lines(alloc, answers, input, output)?)
 }
 
-/// Matches each line of the input against a pattern, and sends the answers.
 fn answer_by_pattern<'p, E: HasMatcher<'p>, R: Read, W: Write>(
     alloc: Global,
     format: LineFormat,
@@ -89,6 +84,10 @@ fn answer_by_pattern<'p, E: HasMatcher<'p>, R: Read, W: Write>(
         (W.contents output.old) (W.contents output.new)) }
     ensures read { IsErrOf result ToolFault.Read
         → HasAnsweredEnded (flat_map (line_answer format (E.finds pattern.now.engine) pattern.now.keys))
+        (traffic (R.remaining input.old) (R.remaining input.new)
+        (W.contents output.old) (W.contents output.new)) }
+    ensures write { IsErrOf result ToolFault.Write → HasBegun
+        (HasAnsweredSome (flat_map (line_answer format (E.finds pattern.now.engine) pattern.now.keys)))
         (traffic (R.remaining input.old) (R.remaining input.new)
         (W.contents output.old) (W.contents output.new)) }
     ensures kind { IfErr result
@@ -130,7 +129,9 @@ pub fn answer_input<R: Read, W: Write>(
         HasAnsweredEnded (flat_map (answer_by format pattern)) (traffic (R.remaining input.old)
         (R.remaining input.new) (W.contents output.old) (W.contents output.new))) }
     ensures write { IsErrOf result ToolFault.Write
-        → HasPattern (request_view request.now) (λ pattern. Unit {0}) }
+        → HasPattern (request_view request.now) (λ pattern.
+        HasBegun (HasAnsweredSome (flat_map (answer_by format pattern))) (traffic (R.remaining input.old)
+        (R.remaining input.new) (W.contents output.old) (W.contents output.new))) }
     ensures usage { result ≢ Err ToolFault.Usage }
 {
     let pattern = compile(alloc, request)?;

@@ -17,10 +17,6 @@ use std::io::Write;
 
 /// Appends the size in `measure` to `text` and returns `None`. If `measure` is a fault, returns the
 /// fault.
-///
-/// # Errors
-///
-/// If an allocation fails.
 pub fn write_measure<'a>(
     text: &mut String,
     measure: Measure<'a>,

@@ -14,8 +14,7 @@ use std::alloc::{AllocError, Global};
 use std::fmt::{self, Formatter};
 use std::io::Write;
 
-/// Returns what `split` writes for a piece: what Display shows of it, and a line feed. The memory of
-/// `buffer` is used for it.
+/// Uses the memory of `buffer` for the line.
 fn line_of(mut buffer: String, piece: &GrokComponent<'_>) -> Result<String, AllocError>
     ensures { IfOk result (λ line. IsPieceLine (piece_view piece.now) (string_bytes line)) }
 {
@@ -32,8 +31,6 @@ fn line_of(mut buffer: String, piece: &GrokComponent<'_>) -> Result<String, Allo
     }
 }
 
-/// Adds the line of each piece of a pattern to `held`, and sends what is held to `output` whenever
-/// it is long. What isn't sent yet stays in `held`.
 fn hold_pieces<W: Write>(
     alloc: Global,
     pattern: &str,

@@ -55,8 +55,6 @@ impl Engine for Heads {
     }
 }
 
-/// Returns what group number `group` captures: the whole line for 0 and for each odd number, and
-/// `None` for the others.
 #[tactic(auto, using(crate::proofs::WholeLines::whole))]
 fn whole_at(line: &str, group: usize) -> Option<&str>
     ensures text { option_map text_of result ≡ line_at line.now group }
@@ -69,8 +67,6 @@ fn whole_at(line: &str, group: usize) -> Option<&str>
     }
 }
 
-/// Returns the byte range that group number `group` captures: that of the whole line for 0 and for
-/// each odd number, and `None` for the others.
 #[tactic(auto, using(crate::proofs::WholeLines::whole_location, crate::proofs::WholeLines::whole_text))]
 fn location_at(line: &str, group: usize) -> Option<(usize, usize)>
     ensures text { option_map (located_text line.now) result ≡ line_at line.now group }
@@ -83,8 +79,6 @@ fn location_at(line: &str, group: usize) -> Option<(usize, usize)>
     }
 }
 
-/// Replaces the contents of `locations` by the byte ranges that the first `count` groups capture in
-/// the line.
 fn write_locations(
     locations: &mut Vec<Option<(usize, usize)>>,
     line: &str,
@@ -113,8 +107,6 @@ fn split_close(head: &str) -> Option<(&str, &str)> {
     head.split_once(">")
 }
 
-/// Returns the engine for a text. Group 0 has no name, and each further group is named by what is between `(?<` and the
-/// next `>`.
 fn read_heads(alloc: Global, text: &str) -> Result<Heads, AllocError>
     ensures { IfOk result (λ engine. string_bytes engine.text ≡ text.now) }
 {

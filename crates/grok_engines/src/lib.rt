@@ -5,8 +5,6 @@
 mod bare;
 mod heads;
 mod refuser;
-#[cfg(test)]
-mod tests;
 
 pub use bare::Bare;
 pub use heads::Heads;

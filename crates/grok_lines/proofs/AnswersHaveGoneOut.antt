@@ -197,3 +197,14 @@ streamed_last E F N f g r s t w v z left h c k = (
 
 pub nothing_yet : (F : List (List ℕ) → List ℕ) (r w : Option (List ℕ)) → F [] ≡ [] → HasAnsweredSome F (traffic r r w w)
 nothing_yet F r w none = ([], consumes_same r, ([], [], refl, rw none (appends_same w)))
+
+-- ---- if the output failed
+
+pub fed_some : {H : Type 0} (E F : H → List (List ℕ) → List ℕ) (N : H → List (List ℕ) → H → Type 0) (f g : H) (old new : Option (List ℕ)) (all left : List ℕ) → Fed E F N f g old new all left
+    → HasBegunLines (F f) (ended_lines_of all) old new
+fed_some E F N f g old new all left fed = (fed.sent, ended_lines_of left, fed.lines, fed.written)
+
+-- no more was read
+pub streamed_unread : {H : Type 0} (E F : H → List (List ℕ) → List ℕ) (N : H → List (List ℕ) → H → Type 0) (f g : H) (r s t w v z : Option (List ℕ)) (left : List ℕ) → Streamed E F N f g (traffic r s w v) left → t ≡ s
+    → Keeps v z → HasAnsweredSome (F f) (traffic r t w z)
+streamed_unread E F N f g r s t w v z left h e k = streamed_last E F N f g r s t w v z left h (rw e (consumes_same s)) k

@@ -1,4 +1,4 @@
--- How far reading the lines of events has come. `laws::events` says what is answered after all.
+-- The states of a reader of events, line by line. `laws::events` states what has been answered at the end.
 use Rattle.std.specs.Prelude.{◌≡◌, ◌≤◌, ℕ, ◌+◌, Bool, true, List, [], ◌∷◌, ◌++◌, ◌==◌, nat_le, if◌then◌else◌, length}
 use Rattle.grok_lines.specs.Lines.{line_feed}
 use Rattle.grok_lines.specs.Streams.{AreAnswersAfter}
@@ -66,7 +66,8 @@ after_end state = record {
 abbrev pub ended_if_full : EventState → EventState
 ended_if_full state = if is_full state then after_end state else state
 
--- What is answered from this state on at these lines, and `last` of the state after them.
+-- All that is answered while these lines are read from this state on, and after them what `last` returns for the state at
+-- their end.
 abbrev pub answers_after : (EventState → List ℕ) → EventState → List (List ℕ) → List ℕ
 answers_after last state [] = last state
 answers_after last state (line ∷ lines) =
@@ -81,7 +82,7 @@ pub record IsNextState (state : EventState) (lines : List (List ℕ)) (later : E
   pub most : later.most ≡ state.most
   pub answer : AreAnswersAfter (state.line_count + length lines) state.answer later.answer
 
--- From a state without an event on, the answers are those to the events of the lines.
+-- If no event has begun in a state, what is answered from it on are the answers to the events of the lines that follow.
 abbrev pub StatesAnswerEvents : Type 0
 StatesAnswerEvents = (state : EventState) → state.line_count ≡ 0 → 1 ≤ state.most
     → AnswersEvents state.answer state.starts state.most (answers_after answer_so_far state) (answers_after (λ state. []) state)

@@ -1,9 +1,9 @@
 -- The answers to the lines of an input, and how many of them were written. `answers lines` is what is written for
 -- `lines`: the answer to each of them, one after another.
 use Rattle.std.specs.Prelude.{◌≡◌, ℕ, suc, ◌+◌, List, [], ◌∷◌, ◌++◌, Option, length}
-use Rattle.std.specs.Io.KnownBytes.{Appends, Consumes, IsAtEnd}
+use Rattle.std.specs.Io.KnownBytes.{Appends, Consumes, IsAtEnd, append_known}
 use Rattle.grok_lines.specs.Lines.{lines_of, ended_lines_of}
-use Rattle.grok_lines.specs.Traffic.{Traffic}
+use Rattle.grok_lines.specs.Traffic.{Traffic, traffic}
 
 -- ---- answers that may depend on how many lines came before
 
@@ -71,3 +71,15 @@ HasAnsweredEndedAnd answers Holds t = (bytes : List ℕ) × Consumes t.unread_ol
 abbrev pub HasAnsweredSome : (List (List ℕ) → List ℕ) → Traffic → Type 0
 HasAnsweredSome answers t = (bytes : List ℕ) × Consumes t.unread_old t.unread_new bytes
     × HasBegunLines answers (lines_of bytes) t.written_old t.written_new
+
+-- ---- what was written when the output failed
+
+-- The output got a beginning of `bytes` (none, some or all of them). If it had got `unsent` too, it would have got all.
+abbrev pub AppendsBeginning : Option (List ℕ) → Option (List ℕ) → List ℕ → Type 0
+AppendsBeginning old new bytes = (unsent : List ℕ) × Appends old (append_known new unsent) bytes
+
+-- The output got a beginning of something that it might have got. If it had got the bytes `unsent` too, `Is` would be
+-- true of what was read and written.
+abbrev pub HasBegun : (Traffic → Type 0) → Traffic → Type 0
+HasBegun Is t = (unsent : List ℕ)
+    × Is (traffic t.unread_old t.unread_new t.written_old (append_known t.written_new unsent))

@@ -9,7 +9,7 @@ pub record Traffic : Type 0 where
   pub written_old : Option (List ℕ)
   pub written_new : Option (List ℕ)
 
--- these four together
+-- the record of what the reader had left, before and after, and of what the writer had got, before and after
 abbrev pub traffic : Option (List ℕ) → Option (List ℕ) → Option (List ℕ) → Option (List ℕ) → Traffic
 traffic unread_old unread_new written_old written_new =
     record {

@@ -17,10 +17,6 @@ pub trait EventStarts {
     ghost starts: { Self → List ℕ → Bool };
 
     /// Returns whether the line is a start.
-    ///
-    /// # Errors
-    ///
-    /// If an allocation fails.
     fn is_start(&mut self, line: &str) -> Result<bool, AllocError>
         ensures ok { IfOk result (λ is_start. is_start ≡ starts self.old line.now) }
         ensures same { starts self.new ≡ starts self.old };
@@ -55,15 +51,15 @@ pub struct EventAnswers<A, S> {
     event: Vec<u8>,
     /// How many lines the event has so far. If that is 0, no event has begun.
     line_count: u64,
-    /// How many lines the event that was answered last had after its first one. `answers` has yet to skip them.
+    /// How many lines after its first line the last answered event had. `answers` has yet to skip them.
     passed: u64,
     /// The buffer for the first line of the next event.
     next: Vec<u8>,
     ghost room: { line_count < most },
 }
 
-/// Answers an event that has this text and so many lines. `passed` is how many lines the event before it had after its
-/// first one, and then how many this one has.
+/// Before the call, `passed` is how many lines the event before this one had after its first line. After
+/// it, `passed` is how many lines this event has after its first line.
 fn answer_event<A: SkipLines>(
     answers: &mut A,
     passed: &mut u64,
@@ -86,7 +82,6 @@ fn answer_event<A: SkipLines>(
     Ok(())
 }
 
-/// Adds a line feed and this line. Adds nothing if that fails.
 fn join(event: &mut Vec<u8>, line: &[u8]) -> Result<(), AllocError>
     ensures ok { OnOk result (event.new.items ≡ event.old.items ++ line_feed ∷ line.now) }
     ensures memory { OnErr result (event.new.items ≡ event.old.items) }
@@ -125,7 +120,6 @@ impl<A: SkipLines, S: EventStarts> EventAnswers<A, S> {
         }
     }
 
-    /// Returns whether this line begins an event.
     fn begins(&mut self, line: &str) -> Result<bool, AllocError>
         requires { is_utf8 line.now ≡ true }
         ensures ok { IfOk result (λ begins. begins
@@ -139,7 +133,6 @@ impl<A: SkipLines, S: EventStarts> EventAnswers<A, S> {
         self.start.is_start(line)
     }
 
-    /// Begins an event with this line. Answers the event so far, if there is one, or the new event if that is full.
     fn begin_event(&mut self, text: &mut Vec<u8>, line: &[u8]) -> Result<(), AllocError>
         ensures ok { OnOk result (text.new.items ≡ text.old.items
             ++ (answer_so_far (event_state A.answer S.starts self.old)
@@ -163,7 +156,6 @@ impl<A: SkipLines, S: EventStarts> EventAnswers<A, S> {
         Ok(())
     }
 
-    /// Adds this line to the event so far, and answers that if it is full now.
     fn add_line(&mut self, text: &mut Vec<u8>, line: &[u8]) -> Result<(), AllocError>
         requires { 1 ≤ self.old.line_count }
         ensures ok { OnOk result (text.new.items ≡ text.old.items

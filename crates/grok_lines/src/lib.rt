@@ -5,6 +5,8 @@
 //! lines. For runs that read no lines, [`hold`], [`send`] and [`finish`] hold answers back and send
 //! them.
 //! [`append_pair`] writes `KEY=VALUE`.
+//!
+//! Where a call has no section `# Errors`, its error is a failed allocation.
 #![tactic(auto)]
 
 mod error;

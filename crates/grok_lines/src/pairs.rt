@@ -4,11 +4,7 @@ ghost use Rattle.grok_lines.specs.Pairs.{pair_line};
 
 use std::alloc::AllocError;
 
-/// Appends `KEY=VALUE` and a line feed.
-///
-/// # Errors
-///
-/// If an allocation fails. A part of the line may have been appended then.
+/// Appends `KEY=VALUE` and a line feed. If an allocation fails, a part of the line may have been appended.
 pub fn append_pair(text: &mut Vec<u8>, key: &str, value: &str) -> Result<(), AllocError>
     ensures { OnOk result (text.new.items ≡ text.old.items ++ pair_line (key.now, value.now)) }
 {

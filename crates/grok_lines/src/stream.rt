@@ -1,12 +1,12 @@
 //! Reads lines and has each handled.
-ghost use Rattle.std.specs.Prelude.{◌≡◌, ◌≢◌, ◌≤◌, ◌<◌, ◌++◌, ◌∷◌, [], ◌⊎◌, length, take, true, false, MatchOption, OnOk, OnErr, IfOk, IfErr, IfSome, IfNone, IsErrOf, vec_len};
+ghost use Rattle.std.specs.Prelude.{◌≡◌, ◌≢◌, ◌≤◌, ◌<◌, ◌++◌, ◌∷◌, [], ◌⊎◌, length, take, true, false, MatchOption, OnOk, OnErr, IfOk, IfErr, IfSome, IfNone, IsErrOf, vec_len, List, ℕ};
 ghost use Rattle.std.specs.Str.{is_utf8};
 ghost use Rattle.std.specs.IoError.{error_kind};
 ghost use Rattle.std.specs.Io.KnownBytes.{Appends, Consumes, IsAtEnd, Keeps, append_known};
 ghost use Rattle.grok_lines.specs.Lines.{IsLine, ended_lines_of, unended_of, last_line};
 ghost use Rattle.grok_lines.specs.Traffic.{traffic};
 ghost use Rattle.grok_lines.specs.Errors.{IsWriteError, UnlessWriteFailed};
-ghost use Rattle.grok_lines.specs.Streams.{answers_of, HasBegunLines, HasAnsweredInputThen, HasAnsweredInputAnd, HasAnsweredEnded, HasAnsweredEndedAnd, HasAnsweredSome, GoesOn};
+ghost use Rattle.grok_lines.specs.Streams.{answers_of, AppendsBeginning, HasBegunLines, HasAnsweredInput, HasAnsweredInputThen, HasAnsweredInputAnd, HasAnsweredEnded, HasAnsweredEndedAnd, HasAnsweredSome, HasBegun, GoesOn};
 
 use crate::error::LinesError;
 use crate::handler::LineHandler;
@@ -19,7 +19,6 @@ use std::io::{self, ErrorKind, Read, Write};
 /// How many bytes are read at once.
 const READ_SIZE: usize = 64 * 1024;
 
-/// Returns what comes before the first line feed, and what comes after it. Returns `None` if there is no line feed.
 #[tactic(auto, using(crate::proofs::LineEndsAtLineFeed::line_none, crate::proofs::LineEndsAtLineFeed::line_cut))]
 fn first_line(bytes: &[u8]) -> Option<(&[u8], &[u8])>
     ensures { MatchOption result (IsLine bytes.now)
@@ -31,7 +30,6 @@ fn first_line(bytes: &[u8]) -> Option<(&[u8], &[u8])>
     }
 }
 
-/// Answers each line of `lines` that ends in a line feed. Answers that aren't sent yet are in `held`.
 #[tactic(auto, using(crate::proofs::Utf8IsDecided::text_of_line))]
 fn answer_ended<H: LineHandler, W: Write>(
     handler: &mut H,
@@ -46,6 +44,10 @@ fn answer_ended<H: LineHandler, W: Write>(
         → HasBegunLines (H.first_answers handler.old)
         (ended_lines_of lines.now) (append_known (W.contents output.old) held.old.items)
         (append_known (W.contents output.new) held.new.items) }
+    ensures write { IfErr result (λ error. IsWriteError error → (unsent : List ℕ)
+        × HasBegunLines (H.first_answers handler.old) (ended_lines_of lines.now)
+        (append_known (W.contents output.old) held.old.items)
+        (append_known (W.contents output.new) unsent)) }
     ensures next { OnOk result (GoesOn H.answers H.first_answers H.is_next
         handler.old (ended_lines_of lines.now) handler.new) }
     ensures kind { IfErr result (λ error. (error ≡ LinesError.Memory) ⊎ IsWriteError error) }
@@ -64,7 +66,6 @@ fn answer_ended<H: LineHandler, W: Write>(
     Ok(())
 }
 
-/// Splits the bytes after their last line feed. Returns the lines that end in a line feed, and the rest of the bytes.
 fn split_ended(bytes: &[u8]) -> (&[u8], &[u8])
     ensures ended { ended_lines_of result.0.now ≡ ended_lines_of bytes.now }
     ensures rest { result.1.now ≡ unended_of bytes.now }
@@ -75,8 +76,8 @@ fn split_ended(bytes: &[u8]) -> (&[u8], &[u8])
     }
 }
 
-/// Answers the lines that end in this block. `partial_line` has the bytes that were read since the last line feed,
-/// with which the next line begins, both before the call and after it.
+/// `partial_line` has the bytes that were read since the last line feed, with which the next line begins,
+/// both before the call and after it.
 fn feed<H: LineHandler, W: Write>(
     handler: &mut H,
     held: &mut Vec<u8>,
@@ -96,6 +97,10 @@ fn feed<H: LineHandler, W: Write>(
         (ended_lines_of (partial_line.old.items ++ block.now))
         (append_known (W.contents output.old) held.old.items)
         (append_known (W.contents output.new) held.new.items) }
+    ensures write { IfErr result (λ error. IsWriteError error → (unsent : List ℕ)
+        × HasBegunLines (H.first_answers handler.old) (ended_lines_of (partial_line.old.items ++ block.now))
+        (append_known (W.contents output.old) held.old.items)
+        (append_known (W.contents output.new) unsent)) }
     ensures next { OnOk result (GoesOn H.answers H.first_answers H.is_next
         handler.old (ended_lines_of (partial_line.old.items ++ block.now)) handler.new) }
     ensures kind { IfErr result (λ error. (error ≡ LinesError.Memory) ⊎ IsWriteError error) }
@@ -113,8 +118,6 @@ fn feed<H: LineHandler, W: Write>(
     Ok(())
 }
 
-/// Answers `partial_line`, the rest of the input after its last line feed, as the last line. Does nothing if it is
-/// empty.
 fn answer_last<H: LineHandler>(
     handler: &mut H,
     held: &mut Vec<u8>,
@@ -132,12 +135,6 @@ fn answer_last<H: LineHandler>(
     handler.handle_line(held, partial_line)
 }
 
-/// Decides how a read ended. Returns how many bytes were read, or `None` if the read was interrupted, so that it has to
-/// be tried again.
-///
-/// # Errors
-///
-/// If the read failed for another reason.
 fn end_of_read(read: io::Result<usize>) -> Result<Option<usize>, LinesError>
     ensures bytes { IfOk read (λ n. result ≡ Ok (Some n)) }
     ensures interrupted { IfErr read (λ error.
@@ -153,8 +150,6 @@ fn end_of_read(read: io::Result<usize>) -> Result<Option<usize>, LinesError>
     }
 }
 
-/// Sends all that is held, and then reads once. Returns how many bytes were read, or `None` if the read was
-/// interrupted. If the output fails, nothing is read.
 fn send_and_read<R: Read, W: Write>(
     held: &mut Vec<u8>,
     output: &mut W,
@@ -164,6 +159,8 @@ fn send_and_read<R: Read, W: Write>(
     ensures sent { UnlessWriteFailed result (Appends (W.contents output.old)
         (W.contents output.new) held.old.items) }
     ensures none_held { UnlessWriteFailed result (held.new.items ≡ []) }
+    ensures write { IfErr result (λ error. IsWriteError error
+        → AppendsBeginning (W.contents output.old) (W.contents output.new) held.old.items) }
     ensures unread { IfErr result
         (λ error. IsWriteError error → R.remaining input.new ≡ R.remaining input.old) }
     ensures bound { IfOk result (λ read. IfSome read (λ n. n ≤ length block.new)) }
@@ -182,14 +179,13 @@ fn send_and_read<R: Read, W: Write>(
     end_of_read(input.read(block))
 }
 
-/// Returns `count` zeros. It is a function of its own, so that no proof has to handle a list of 65,536 items.
+/// A function of its own, so that no proof has to handle a list of 65,536 items.
 fn zeros(alloc: Global, count: usize) -> Result<Vec<u8>, AllocError>
     ensures { IfOk result (λ zeros. vec_len zeros ≡ count) }
 {
     vec![in alloc; 0u8; count]
 }
 
-/// Handles each line of the input. Answers that aren't sent yet are in `held`.
 fn answer_blocks<H: LineHandler, R: Read, W: Write>(
     alloc: Global,
     handler: &mut H,
@@ -211,6 +207,10 @@ fn answer_blocks<H: LineHandler, R: Read, W: Write>(
         (traffic (R.remaining input.old) (R.remaining input.new)
         (append_known (W.contents output.old) held.old.items)
         (append_known (W.contents output.new) held.new.items)) }
+    ensures write { IfErr result (λ error. IsWriteError error → HasBegun
+        (HasAnsweredSome (H.first_answers handler.old))
+        (traffic (R.remaining input.old) (R.remaining input.new)
+        (append_known (W.contents output.old) held.old.items) (W.contents output.new))) }
     ensures kind { IfErr result
         (λ error. (error ≡ LinesError.Memory) ⊎ ((error ≡ LinesError.Read)
         ⊎ IsWriteError error)) }
@@ -258,7 +258,7 @@ fn end_after<H: LineHandler>(
 ///
 /// - `Memory` if an allocation fails.
 /// - `Read` if the input fails.
-/// - `Write` if the output fails.
+/// - `Write` if the output fails. It has then got a beginning of what was to be written for the lines that were read.
 pub fn handle_lines<H: LineHandler, R: Read, W: Write>(
     alloc: Global,
     handler: &mut H,
@@ -276,6 +276,12 @@ pub fn handle_lines<H: LineHandler, R: Read, W: Write>(
     ensures memory { IsErrOf result LinesError.Memory → HasAnsweredSome (H.first_answers handler.old)
         (traffic (R.remaining input.old) (R.remaining input.new)
         (W.contents output.old) (W.contents output.new)) }
+    ensures write { IfErr result (λ error. IsWriteError error → HasBegun
+        (λ t. HasAnsweredInput (H.answers handler.old) t
+        ⊎ (HasAnsweredEnded (H.answers handler.old) t
+        ⊎ HasAnsweredSome (H.first_answers handler.old) t))
+        (traffic (R.remaining input.old) (R.remaining input.new)
+        (W.contents output.old) (W.contents output.new))) }
     ensures kind { IfErr result
         (λ error. (error ≡ LinesError.Memory) ⊎ ((error ≡ LinesError.Read)
         ⊎ IsWriteError error)) }
@@ -302,6 +308,10 @@ pub fn answer_lines<A: LineAnswers, R: Read, W: Write>(
     ensures memory { IsErrOf result LinesError.Memory → HasAnsweredSome (answers_of (A.answer answers.old))
         (traffic (R.remaining input.old) (R.remaining input.new)
         (W.contents output.old) (W.contents output.new)) }
+    ensures write { IfErr result (λ error. IsWriteError error
+        → HasBegun (HasAnsweredSome (answers_of (A.answer answers.old)))
+        (traffic (R.remaining input.old) (R.remaining input.new)
+        (W.contents output.old) (W.contents output.new))) }
     ensures kind { IfErr result
         (λ error. (error ≡ LinesError.Memory) ⊎ ((error ≡ LinesError.Read)
         ⊎ IsWriteError error)) }

@@ -48,7 +48,6 @@ pub enum GrokPatternError {
     InvalidPatternDefinition,
 }
 
-/// Returns the fault that the splitter reports for a placeholder that is malformed for this reason.
 pub(crate) fn fault_of(reason: MalformedReason) -> GrokPatternError
     ensures { result ≡ fault_of reason }
 {

@@ -58,7 +58,6 @@ pub struct GrokSplit<'a> {
     at: usize,
 }
 
-// Contracts see the remaining pieces.
 impl<'a> Model for GrokSplit<'a> {
     ghost use Rattle.std.specs.Prelude.{List, ◌+◌, ◌<◌, ◌^◌, length};
     ghost use Rattle.grok_parser.specs.Pieces.{Piece, pieces_at};
@@ -70,15 +69,12 @@ impl<'a> Model for GrokSplit<'a> {
     ghost invariant = { λ s. s.at + length s.rest.now < 2 ^ 64 };
 }
 
-/// Returns the position of the first `%`, or the length of the text.
 fn percent_or_len(text: &[u8]) -> usize
     ensures { result ≡ position_or_len is_percent text.now }
 {
     text.iter().take_while(|b| **b != b'%').count()
 }
 
-/// Returns how many bytes of a regular piece are skipped before its end is searched: if it begins
-/// with `%`, that and the byte after it.
 #[tactic(auto, unfolding(crate::specs::Pieces::regular_skip))]
 fn regular_skip(text: &[u8]) -> usize
     requires some { 0 < length text.now }
@@ -94,7 +90,6 @@ fn regular_skip(text: &[u8]) -> usize
     }
 }
 
-/// Returns the length in bytes of the regular piece that a text begins with.
 #[tactic(auto, using(crate::proofs::RunsEndAtBoundaries::boundaries), unfolding(crate::specs::Pieces::regular_len))]
 fn regular_len(text: &str) -> usize
     requires some { 0 < length text.now }
@@ -107,7 +102,6 @@ fn regular_len(text: &str) -> usize
     skip + percent_or_len(&bytes[skip..])
 }
 
-/// Returns the rest of a text that begins with `%{`, or `None` if it doesn't.
 #[tactic(auto, using(crate::proofs::TextBeginsWithOpening::opens))]
 fn strip_open<'a>(text: &'a str) -> Option<&'a str>
     ensures { MatchOption result (is_open text.now ≡ false)
@@ -116,7 +110,6 @@ fn strip_open<'a>(text: &'a str) -> Option<&'a str>
     text.strip_prefix("%{")
 }
 
-/// Returns the part of a text before `rest`, with which the text ends.
 #[tactic(auto, using(crate::proofs::FirstPieceAndRest::rests))]
 fn text_before<'a>(text: &'a str, rest: &'a str) -> &'a str
     requires { IsRest text.now rest.now }
@@ -126,8 +119,6 @@ fn text_before<'a>(text: &'a str, rest: &'a str) -> &'a str
     text.split_at(text.len() - rest.len()).0
 }
 
-/// Returns the first piece of a text, and the rest of the text. The text begins at byte `at` of the
-/// pattern.
 #[tactic(auto, using(crate::proofs::FirstPieceAndRest::rests), unfolding(crate::specs::Pieces::first_piece))]
 fn split_piece<'a>(at: usize, text: &'a str) -> (GrokComponent<'a>, &'a str)
     requires some { 0 < length text.now }

@@ -33,22 +33,18 @@ pub(crate) struct Inside<'a> {
     pub rest: &'a str,
 }
 
-/// Returns whether a name may have this byte.
 pub(crate) fn is_name_byte(b: u8) -> bool
     ensures { result ≡ is_name_byte b }
 {
     b.is_ascii_alphanumeric() || b == b'_'
 }
 
-/// Returns whether an alias or an extract may have this byte.
 fn is_alias_byte(b: u8) -> bool
     ensures { result ≡ is_alias_byte b }
 {
     is_name_byte(b) || b == b'-' || b == b'[' || b == b']' || b == b'.'
 }
 
-/// Returns whether a word may have this byte. If `is_name`, the word is a name, and otherwise an
-/// alias or an extract.
 fn is_word_byte(is_name: bool, b: u8) -> bool
     ensures { result ≡ is_word_byte is_name b }
 {
@@ -59,7 +55,6 @@ fn is_word_byte(is_name: bool, b: u8) -> bool
     }
 }
 
-/// Returns the length in bytes of the word that a text begins with.
 fn word_len(text: &[u8], is_name: bool) -> usize
     ensures { result ≡ prefix_len (is_word_byte is_name) text.now }
 {
@@ -68,7 +63,6 @@ fn word_len(text: &[u8], is_name: bool) -> usize
         .count()
 }
 
-/// Returns the position of the first `{` or `}`, or the length of the text.
 fn brace_or_len(text: &[u8]) -> usize
     ensures { result ≡ position_or_len is_brace text.now }
 {
@@ -77,7 +71,6 @@ fn brace_or_len(text: &[u8]) -> usize
         .count()
 }
 
-/// Returns the word that a text begins with, and the rest of the text.
 #[tactic(auto, using(crate::proofs::RunsEndAtBoundaries::boundaries))]
 pub(crate) fn split_word<'a>(text: &'a str, is_name: bool) -> (&'a str, &'a str)
     ensures word { result.0.now ≡ take_while (is_word_byte is_name) text.now }
@@ -86,14 +79,12 @@ pub(crate) fn split_word<'a>(text: &'a str, is_name: bool) -> (&'a str, &'a str)
     text.split_at(word_len(text.as_bytes(), is_name))
 }
 
-/// Returns whether the character ends a word.
 fn is_terminator(c: char) -> bool
     ensures { result ≡ is_terminator c }
 {
     c == '}' || c == '=' || c == ':'
 }
 
-/// Reads the word that a text begins with, up to the character that ends it.
 #[tactic(auto, using(crate::proofs::WordEndsDecideFaults::word_ends), unfolding(crate::specs::Pieces::word_at))]
 fn read_word<'a>(text: &'a str, is_name: bool) -> Result<Word<'a>, Malformation<'a>>
     ensures reading { IsReadingOf word_view result (word_at (is_word_byte is_name) text.now) }
@@ -121,7 +112,6 @@ fn read_word<'a>(text: &'a str, is_name: bool) -> Result<Word<'a>, Malformation<
     })
 }
 
-/// Cuts a text at its first `{` or `}`.
 #[tactic(auto, using(crate::proofs::RunsEndAtBoundaries::boundaries))]
 fn split_brace<'a>(text: &'a str) -> (&'a str, &'a str)
     ensures front { result.0.now ≡ before_first is_brace text.now }
@@ -130,7 +120,6 @@ fn split_brace<'a>(text: &'a str) -> (&'a str, &'a str)
     text.split_at(brace_or_len(text.as_bytes()))
 }
 
-/// Reads the definition that a text begins with, up to its `}`.
 #[tactic(auto, using(crate::proofs::WordEndsDecideFaults::definition_ends), unfolding(crate::specs::Pieces::definition_at))]
 fn read_definition<'a>(text: &'a str) -> Result<(&'a str, &'a str), Malformation<'a>>
     ensures reading { IsReadingOf (λ d. (d.0.now, d.1.now)) result (definition_at text.now) }
@@ -158,7 +147,6 @@ fn read_definition<'a>(text: &'a str) -> Result<(&'a str, &'a str), Malformation
     Ok((definition, after))
 }
 
-/// Reads the rest of a placeholder after its last word.
 #[tactic(auto, unfolding(crate::specs::Pieces::close_at))]
 fn read_close<'a>(
     name: &'a str,
@@ -187,7 +175,6 @@ fn read_close<'a>(
     })
 }
 
-/// Reads the rest of a placeholder after its second `:`.
 #[tactic(auto, unfolding(crate::specs::Pieces::extract_at))]
 fn read_extract<'a>(
     name: &'a str,
@@ -214,7 +201,6 @@ fn read_extract<'a>(
     read_close(name, alias, extract.word, extract)
 }
 
-/// Reads the rest of a placeholder after its first `:`.
 #[tactic(auto, unfolding(crate::specs::Pieces::alias_at))]
 fn read_alias<'a>(name: &'a str, text: &'a str) -> Result<Inside<'a>, Malformation<'a>>
     ensures reading { IsReadingOf inside_view result (alias_at name.now text.now) }
@@ -233,7 +219,6 @@ fn read_alias<'a>(name: &'a str, text: &'a str) -> Result<Inside<'a>, Malformati
     read_close(name, alias.word, "", alias)
 }
 
-/// Reads a placeholder after its `%{`.
 #[tactic(auto, unfolding(crate::specs::Pieces::placeholder_at))]
 pub(crate) fn read_placeholder<'a>(text: &'a str) -> Result<Inside<'a>, Malformation<'a>>
     ensures reading { IsReadingOf inside_view result (placeholder_at text.now) }

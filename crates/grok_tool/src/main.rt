@@ -1,9 +1,6 @@
 //! Splits, measures and matches patterns from the command line.
 #![tactic(auto)]
 
-#[cfg(test)]
-mod tests;
-
 pub use grok_commands::{ToolFault, run};
 use std::io::ErrorKind;
 use std::process::ExitCode;

@@ -6,8 +6,6 @@ mod engine;
 mod extracts;
 mod importer;
 mod names;
-#[cfg(test)]
-mod tests;
 
 use anyhow::Result;
 use grok::Grok;

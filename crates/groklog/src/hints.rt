@@ -1,9 +1,34 @@
 //! Hints at what an input is, for a user whose lines have no fields. They are shown after its lines
 //! were answered.
 
-use crate::log_lines::Matched;
+use groklog_answers::Searches;
 use groklog_input::{Encoding, LineForm, Signs, Unit};
 use std::alloc::{AllocError, Global};
+
+/// Whether the patterns of a run match any line or event.
+#[derive(Clone, Copy, PartialEq, Eq)]
+pub enum Matched {
+    /// One of them matches one.
+    Any,
+    /// None of them matches any.
+    Nothing,
+    /// There are no patterns: they are suggested.
+    NoPatterns,
+}
+
+impl Matched {
+    /// Returns whether any line or event matched so far.
+    pub fn of(alloc: Global, searches: &Searches<'_>) -> Result<Matched, AllocError> {
+        let counts = searches.matched(alloc)?;
+        Ok(if counts.is_empty() {
+            Matched::NoPatterns
+        } else if counts.iter().any(|count| *count > 0) {
+            Matched::Any
+        } else {
+            Matched::Nothing
+        })
+    }
+}
 
 /// Returns the program that compressed an input and the one that unpacks it, or `None` if it isn't compressed.
 fn packer_of(encoding: Encoding) -> Option<(&'static str, &'static str)> {
@@ -16,14 +41,14 @@ fn packer_of(encoding: Encoding) -> Option<(&'static str, &'static str)> {
     }
 }
 
-/// Finds the hints of a run. Each hint comes once, but that at a compressed file or at UTF-16 comes
-/// once for each such input.
+/// Finds the hints of a run. Each hint comes once, except that for a compressed file or for UTF-16, which comes
+/// for each such input.
 #[derive(Drop)]
 pub struct Hints {
     form: LineForm,
-    /// What has one answer.
+    /// The unit that gets one answer.
     unit: Unit,
-    /// Whether there was the hint at lines that aren't UTF-8.
+    /// Whether the hint at lines that aren't UTF-8 was given.
     was_broken: bool,
     /// Whether the first line of an input ended in a carriage return.
     has_return: bool,
@@ -42,10 +67,6 @@ impl Hints {
 
     /// Returns the hint at the input `name`, whose lines showed these signs, or `None` if there is
     /// none.
-    ///
-    /// # Errors
-    ///
-    /// If an allocation fails.
     pub fn of_input(
         &mut self,
         alloc: Global,
@@ -83,8 +104,8 @@ impl Hints {
             return None;
         }
         match (matched, self.unit) {
-            (Matched::Any, _) => None,
-            (Matched::NoPatterns, _) => Some("lines end in a carriage return: use --crlf"),
+            // A command that is suggested has `--crlf` if it needs it.
+            (Matched::Any | Matched::NoPatterns, _) => None,
             (Matched::Nothing, Unit::Line) => {
                 Some("no line matches, and lines end in a carriage return: use --crlf")
             }

@@ -1,20 +1,18 @@
 //! Reads the files of a run, or standard input, and answers their lines or events.
 
-use crate::hints::Hints;
-use crate::log_lines::{LogLines, Matched};
-use crate::output::show_note;
-use crate::standard_input::StandardInput;
+use crate::hints::{Hints, Matched};
+use crate::output::{Outlet, show_note};
 use crate::terminal::shows_progress;
 use grok::Pattern;
-use grok_lines::{EventAnswers, LineHandler, SkipLines};
-use groklog_answers::StartPattern;
+use grok_lines::{EventAnswers, EventStarts, LineHandler, SkipLines};
+use groklog_answers::{Flow, LineTask, SearchedLines, StartPattern};
+use groklog_files::{STANDARD_INPUT, StandardInput, shown_name};
 use groklog_input::{
     Answered, Failure, Fault, FormedAnswers, Unit, Watched, answer_input, file_fault, visible,
 };
 use groklog_options::Options;
-use std::alloc::AllocError;
+use std::alloc::{AllocError, Global};
 use std::fs::File;
-use std::io;
 
 /// How a run ended in which nothing failed but reading.
 #[derive(Clone, Copy, PartialEq, Eq)]
@@ -39,8 +37,45 @@ impl Outcome {
     }
 }
 
-/// The files that are read if none is named: standard input.
-pub const STANDARD_INPUT: &[&str] = &["-"];
+/// Reads the lines of a log, or its events, and has each of them searched.
+pub trait LogLines<'p>: LineHandler {
+    /// Says that the next lines are those of the file with this name.
+    fn begin_file(&mut self, name: &'p str);
+
+    /// Returns whether no more lines are wanted. If an answer fails then, that is no fault.
+    fn has_enough(&self) -> bool;
+
+    /// Returns whether any of the lines or events matched.
+    fn matched(&self, alloc: Global) -> Result<Matched, AllocError>;
+}
+
+impl<'p, T: LineTask<'p>> LogLines<'p> for SearchedLines<'p, T> {
+    fn begin_file(&mut self, name: &'p str) {
+        SearchedLines::begin_file(self, name);
+    }
+
+    fn has_enough(&self) -> bool {
+        self.flow == Flow::Enough
+    }
+
+    fn matched(&self, alloc: Global) -> Result<Matched, AllocError> {
+        Matched::of(alloc, &self.searches)
+    }
+}
+
+impl<'p, A: LogLines<'p> + SkipLines, S: EventStarts> LogLines<'p> for EventAnswers<A, S> {
+    fn begin_file(&mut self, name: &'p str) {
+        self.answers.begin_file(name);
+    }
+
+    fn has_enough(&self) -> bool {
+        self.answers.has_enough()
+    }
+
+    fn matched(&self, alloc: Global) -> Result<Matched, AllocError> {
+        self.answers.matched(alloc)
+    }
+}
 
 /// Returns the file as an input that is watched while it is read. It shows the progress if `shows`
 /// is set and the size of the file is known and isn't 0.
@@ -57,31 +92,26 @@ fn watch<'a>(rt: &'a HostRuntime, file: File, name: &'a str, shows: bool) -> Wat
     }
 }
 
-/// Returns what messages call the file `name`.
-pub fn shown_name(name: &str) -> &str {
-    if name == "-" { "standard input" } else { name }
-}
-
 /// Answers each line or event of a file, and shows the progress if `shows` is set. The name `-` means
 /// standard input, which has no progress.
 fn answer_file<A: LineHandler>(
-    rt: &HostRuntime,
+    mut outlet: &Outlet<'_>,
     answers: &mut FormedAnswers<A>,
     name: &str,
     shows: bool,
 ) -> Result<Answered, Fault> {
+    let rt = outlet.rt;
     let alloc = rt.alloc();
-    let mut output = io::writer(rt);
     answers.begin_input();
     if name == "-" {
-        let mut input = Watched::new(StandardInput::new(rt));
-        return answer_input(alloc, answers, &mut input, &mut output, shown_name(name));
+        let mut input = Watched::new(StandardInput::new(rt, rt.stdin()));
+        return answer_input(alloc, answers, &mut input, &mut outlet, shown_name(name));
     }
     match File::open(rt, name) {
         Ok(file) => {
             let shown = visible(alloc, name)?;
             let mut input = watch(rt, file, shown.as_str(), shows);
-            answer_input(alloc, answers, &mut input, &mut output, name)
+            answer_input(alloc, answers, &mut input, &mut outlet, name)
         }
         Err(error) => Err(file_fault(alloc, name, Failure::of(&error))?),
     }
@@ -90,19 +120,20 @@ fn answer_file<A: LineHandler>(
 /// Answers each line or event of each file, and shows the hints at its lines, and its progress if `shows` is
 /// set. Reports each file that can't be read, and goes on with the next one.
 fn answer_files<'p, A: LogLines<'p>>(
-    rt: &HostRuntime,
+    outlet: &Outlet<'_>,
     answers: &mut FormedAnswers<A>,
     files: &[&'p str],
     hints: &mut Hints,
     shows: bool,
 ) -> Result<Outcome, Fault> {
+    let rt = outlet.rt;
     let mut outcome = Outcome::AllRead;
     for file in files {
         if answers.answers.has_enough() {
             break;
         }
         answers.answers.begin_file(file);
-        let answered = answer_file(rt, answers, file, shows);
+        let answered = answer_file(outlet, answers, file, shows);
         if let Some(hint) = hints.of_input(rt.alloc(), shown_name(file), answers.signs)? {
             show_note(rt, hint.as_str())?;
         }
@@ -127,16 +158,17 @@ fn answer_files<'p, A: LogLines<'p>>(
 ///
 /// Returns an error if an allocation or the output fails. A file that can't be read is only reported.
 pub fn answer_inputs<'p, A: LogLines<'p>>(
-    rt: &HostRuntime,
+    outlet: &Outlet<'_>,
     options: &Options<'p>,
     answers: &mut FormedAnswers<A>,
 ) -> Result<Outcome, Fault> {
+    let rt = outlet.rt;
     let mut hints = Hints::new(answers.form, options.unit());
     let outcome = if options.files.is_empty() {
-        answer_files(rt, answers, STANDARD_INPUT, &mut hints, false)?
+        answer_files(outlet, answers, STANDARD_INPUT, &mut hints, false)?
     } else {
         let shows = shows_progress(rt);
-        answer_files(rt, answers, &options.files, &mut hints, shows)?
+        answer_files(outlet, answers, &options.files, &mut hints, shows)?
     };
     let matched = answers.answers.matched(rt.alloc())?;
     if let Some(hint) = hints.at_end(matched) {
@@ -145,23 +177,23 @@ pub fn answer_inputs<'p, A: LogLines<'p>>(
     Ok(outcome.with_found(options, matched != Matched::Nothing))
 }
 
-/// Answers each line of the inputs, or each event if `start` is the pattern of `--start`. Returns what
-/// answered them, and how that ended.
+/// Searches each line of the inputs, or each event if `start` is the pattern of `--start`.
+/// Returns what searched them, and how that ended.
 pub fn answer_each<'p, A: LogLines<'p> + SkipLines + Drop>(
-    rt: &HostRuntime,
+    outlet: &Outlet<'_>,
     options: &Options<'p>,
     start: Option<&Pattern>,
-    answers: A,
-) -> Result<(A, Result<Outcome, Fault>), AllocError> {
-    let alloc = rt.alloc();
+    lines: A,
+) -> Result<(A, Outcome), Fault> {
+    let alloc = outlet.rt.alloc();
     let (Some(start), Some(events)) = (start, options.events) else {
-        let mut lines = FormedAnswers::new(alloc, answers, options.form);
-        let outcome = answer_inputs(rt, options, &mut lines);
+        let mut lines = FormedAnswers::new(alloc, lines, options.form);
+        let outcome = answer_inputs(outlet, options, &mut lines)?;
         return Ok((lines.into_answers(), outcome));
     };
     let start = StartPattern::new(start)?;
-    let events = EventAnswers::new(alloc, answers, start, events.most_lines);
+    let events = EventAnswers::new(alloc, lines, start, events.most_lines);
     let mut lines = FormedAnswers::new(alloc, events, options.form);
-    let outcome = answer_inputs(rt, options, &mut lines);
+    let outcome = answer_inputs(outlet, options, &mut lines)?;
     Ok((lines.into_answers().into_answers(), outcome))
 }

@@ -1,23 +1,20 @@
 //! Reads logs with grok patterns, and writes what they find.
+//!
+//! Where a call has no section `# Errors`, its error is a failed allocation.
 #![tactic(auto)]
 
-mod definition_files;
 mod hints;
 mod inputs;
-mod log_lines;
 mod notes;
 mod output;
 mod page;
 mod plans;
-mod read_files;
 mod run;
 mod show;
-mod standard_input;
 mod suggest;
 mod summary;
 mod tasks;
 mod terminal;
-mod whole_file;
 mod why;
 
 use crate::inputs::Outcome;

@@ -8,6 +8,7 @@ use groklog_patterns::bare_name;
 use std::alloc::{AllocError, Global};
 use std::collections::BTreeMap;
 use std::fs;
+use std::rt::Files;
 
 /// A pattern, and the words by which notes refer to it.
 #[derive(Clone, Copy)]
@@ -82,7 +83,7 @@ impl<'p> Noted<'p> {
     }
 }
 
-/// Returns the note on a pattern that is the name of a definition, or would be without a `%` or braces, but no
+/// Returns the note on a pattern that is the name of a definition, with or without a `%` and braces, and no
 /// placeholder. As a pattern it has no keys.
 fn note_on_name(
     alloc: Global,
@@ -100,10 +101,6 @@ fn note_on_name(
 
 /// Returns notes on a pattern: on keys that never have a value, that share one, or that are named
 /// like an extract, and on a pattern that is the name of a definition.
-///
-/// # Errors
-///
-/// If an allocation fails.
 pub fn notes_of_pattern(
     alloc: Global,
     library: &Library<'_>,
@@ -125,10 +122,6 @@ pub fn notes_of_pattern(
 }
 
 /// Returns a note for each key of a pattern that has an extract which `--typed` doesn't know.
-///
-/// # Errors
-///
-/// If an allocation fails.
 pub fn notes_of_extracts(alloc: Global, pattern: &Pattern) -> Result<Vec<String>, AllocError> {
     let mut notes = Vec::new(alloc);
     for key in pattern.capture_names() {
@@ -143,18 +136,16 @@ pub fn notes_of_extracts(alloc: Global, pattern: &Pattern) -> Result<Vec<String>
     Ok(notes)
 }
 
-/// Returns whether there is a file of this name.
-fn is_file(rt: &HostRuntime, name: &str) -> bool {
+fn is_file(rt: &impl Files, name: &str) -> bool {
     fs::exists(rt, name).unwrap_or(false)
 }
 
 /// Returns notes on words that may be in the wrong order: a pattern that is the name of a file, and
 /// names of files that look like patterns.
-///
-/// # Errors
-///
-/// If an allocation fails.
-pub fn notes_of_words(rt: &HostRuntime, options: &Options<'_>) -> Result<Vec<String>, AllocError> {
+pub fn notes_of_words(
+    rt: &(impl Files + AllocGlobal),
+    options: &Options<'_>,
+) -> Result<Vec<String>, AllocError> {
     let alloc = rt.alloc();
     let mut notes = Vec::new(alloc);
     if options.is_pattern_first

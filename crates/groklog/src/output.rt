@@ -1,15 +1,11 @@
 //! Writes to standard output and to standard error.
 
-use crate::inputs::Outcome;
 use groklog_input::{Fault, visible, write_fault};
 use std::alloc::AllocError;
+use std::cell::Cell;
 use std::io::{self, Write};
 
 /// Writes a note to standard error. The run goes on if that fails.
-///
-/// # Errors
-///
-/// If an allocation fails.
 pub fn show_note(rt: &HostRuntime, note: &str) -> Result<(), AllocError> {
     let note = visible(rt.alloc(), note)?;
     let _ = eprintln!(rt; "groklog: {note}");
@@ -17,10 +13,6 @@ pub fn show_note(rt: &HostRuntime, note: &str) -> Result<(), AllocError> {
 }
 
 /// Writes these notes to standard error.
-///
-/// # Errors
-///
-/// If an allocation fails.
 pub fn show_notes(rt: &HostRuntime, notes: &[String]) -> Result<(), AllocError> {
     for note in notes {
         show_note(rt, note.as_str())?;
@@ -52,50 +44,42 @@ pub fn write_bytes(rt: &HostRuntime, bytes: &[u8]) -> Result<(), Fault> {
     Ok(())
 }
 
-/// Standard output for what isn't an answer. If it fails, that ends the run.
+/// Standard output of a run. It holds back texts that aren't answers, until it is flushed, as `grok_lines` does before it
+/// waits for more lines.
 #[derive(Drop)]
-pub struct DirectOutput<'r> {
-    rt: &'r HostRuntime,
-    /// Why standard output failed, if it did.
-    pub failure: Option<io::Error>,
+pub struct Outlet<'r> {
+    pub rt: &'r HostRuntime,
+    held: Cell<Vec<u8>>,
 }
 
-impl<'r> DirectOutput<'r> {
-    /// Makes the output of a run.
-    pub fn new(rt: &'r HostRuntime) -> DirectOutput<'r> {
-        DirectOutput { rt, failure: None }
-    }
-
-    /// Writes a text.
-    ///
-    /// # Errors
-    ///
-    /// If the output fails. `failure` says why.
-    pub fn write(&mut self, text: &str) -> Result<(), AllocError> {
-        let mut output = io::writer(self.rt);
-        match output.write_all(text.as_bytes()) {
-            Ok(()) => Ok(()),
-            Err(error) => {
-                self.failure = Some(error);
-                // own error: the output failed, as `failure` says, and no more lines are read.
-                Err(AllocError)
-            }
+impl<'r> Outlet<'r> {
+    /// Makes the output of a run, which holds nothing yet.
+    pub fn new(rt: &'r HostRuntime) -> Outlet<'r> {
+        Outlet {
+            rt,
+            held: Cell::new(Vec::new(rt.alloc())),
         }
     }
 
-    /// Returns how the run ended in which lines were answered so. If the reader of the output closed the pipe, all
-    /// was read that is wanted.
-    ///
-    /// # Errors
-    ///
-    /// If the run failed, or the output did.
-    pub fn outcome(&self, answered: Result<Outcome, Fault>) -> Result<Outcome, Fault> {
-        let Some(error) = &self.failure else {
-            return answered;
-        };
-        match write_fault(self.rt.alloc(), error)? {
-            Some(fault) => Err(fault),
-            None => Ok(Outcome::AllRead),
-        }
+    /// Holds back a text, which comes after those that are held already.
+    pub fn hold(&self, text: &str) -> Result<(), AllocError> {
+        let mut held = self.held.replace(Vec::new(self.rt.alloc()));
+        let result = held.extend_from_slice(text.as_bytes());
+        self.held.set(held);
+        result
+    }
+}
+
+impl Write for &Outlet<'_> {
+    fn write(&mut self, buf: &[u8]) -> io::Result<usize> {
+        io::writer(self.rt).write(buf)
+    }
+
+    fn flush(&mut self) -> io::Result<()> {
+        let mut held = self.held.replace(Vec::new(self.rt.alloc()));
+        let written = io::writer(self.rt).write_all(&held);
+        held.clear();
+        self.held.set(held);
+        written
     }
 }

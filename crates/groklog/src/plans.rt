@@ -35,7 +35,6 @@ fn shared_keys<'p>(
     Ok(keys)
 }
 
-/// Returns the fault that two keys of a pattern can't both be written.
 fn clash_fault(
     alloc: Global,
     plan: PlanOptions,
@@ -55,7 +54,6 @@ fn clash_fault(
     Ok(Fault::Usage(report))
 }
 
-/// Returns the plan for the keys of one pattern.
 fn plan_of<'p>(
     alloc: Global,
     plan: PlanOptions,

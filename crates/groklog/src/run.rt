@@ -1,19 +1,15 @@
 //! Runs the program over files, or over standard input: from the options come the definitions and the patterns,
 //! and then the task of the run is done.
 
-use crate::definition_files::read_definition_files;
 use crate::inputs::Outcome;
 use crate::notes::{notes_of_extracts, notes_of_pattern, notes_of_words};
-use crate::output::{show_notes, write_output};
+use crate::output::{Outlet, show_notes, write_output};
 use crate::plans::plan_all;
-use crate::read_files::{ReadFiles, check_logs, is_same_file};
 use crate::tasks::{Run, suggest};
-use crate::whole_file::WholeFile;
 use grok::Pattern;
-use groklog_definitions::{
-    DefinitionFile, Library, RunTexts, list_common_definitions, patterns_of, start_pattern,
-};
-use groklog_input::{Fault, Report};
+use groklog_definitions::{Library, RunTexts, list_common_definitions, patterns_of, start_pattern};
+use groklog_files::{ReadFiles, WholeFile, check_logs, is_same_file, read_definition_files};
+use groklog_input::{Fault, Report, TextFile};
 use groklog_options::{Options, Task, check_keys, chosen_fields, with_tags};
 use groklog_patterns::{Adapted, adapt_all, adapt_own, compile, compile_all, definition_lines};
 use std::alloc::{AllocError, Global};
@@ -50,6 +46,26 @@ fn texts_of(
     Ok(texts)
 }
 
+/// Rewrites the definitions made for Logstash that the patterns don't use, if patterns are suggested or if the
+/// definitions are written to a file. Notes say what was changed in what is written.
+fn adapt_others(
+    rt: &HostRuntime,
+    library: &mut Library<'_>,
+    options: &Options<'_>,
+) -> Result<(), AllocError> {
+    let Some(wish) = options.definitions.wish else {
+        return Ok(());
+    };
+    let is_written = options.definitions.written.is_some();
+    if is_written || matches!(options.task, Task::Suggestions(_)) {
+        let notes = adapt_own(rt.alloc(), library, wish)?;
+        if is_written {
+            show_notes(rt, &notes)?;
+        }
+    }
+    Ok(())
+}
+
 /// Shows the notes on the patterns, before any line is read.
 fn show_notes_of_patterns(
     rt: &HostRuntime,
@@ -73,7 +89,6 @@ fn show_notes_of_patterns(
     Ok(())
 }
 
-/// Returns the fault that reports that two options ask for the same file.
 fn written_twice(alloc: Global, name: &str) -> Result<Fault, AllocError> {
     let what = format!(in alloc; "{PAGE} and {DEFINITIONS} would both write {name}")?;
     let advice = "name another file after one of them";
@@ -95,7 +110,7 @@ fn check_files(rt: &HostRuntime, options: &Options<'_>, read: &ReadFiles) -> Res
     for (option, name) in [(PAGE, page), (DEFINITIONS, options.definitions.written)] {
         if let Some(name) = name {
             WholeFile { option, name, read }.check(rt)?;
-            check_logs(rt, options)?;
+            check_logs(rt, &options.files)?;
         }
     }
     Ok(())
@@ -110,8 +125,9 @@ fn run_task(
     read: &ReadFiles,
 ) -> Result<Outcome, Fault> {
     let alloc = rt.alloc();
+    let outlet = Outlet::new(rt);
     if let Task::Suggestions(most) = options.task {
-        return suggest(rt, options, library, most);
+        return suggest(&outlet, options, library, most);
     }
     let patterns = compile_all(alloc, library, &texts.patterns, !options.is_all)?;
     let start = match &texts.start {
@@ -124,7 +140,7 @@ fn run_task(
     let fields = chosen_fields(alloc, &options.task, &patterns)?;
     let named = with_tags(alloc, &options.patterns, &patterns, &plans)?;
     Run {
-        rt,
+        outlet: &outlet,
         options,
         library,
         texts: &texts.patterns,
@@ -137,28 +153,37 @@ fn run_task(
     .perform()
 }
 
+/// Returns the fault that reports that there are no definitions to write.
+fn nothing_to_write(alloc: Global) -> Result<Fault, AllocError> {
+    let what = format!(in alloc; "{DEFINITIONS} has no definitions to write")?;
+    Ok(Fault::Usage(Report::new(alloc, what.as_str(), "give them by -d FILE or -D NAME=DEF")?))
+}
+
 /// Checks the files of a run, and does its task. After that, writes the definitions to a file if that is wanted.
 fn run_over(
     rt: &HostRuntime,
     options: &Options<'_>,
-    files: &[DefinitionFile],
+    files: &[TextFile],
     library: &Library<'_>,
     texts: &RunTexts,
 ) -> Result<Outcome, Fault> {
-    let read = ReadFiles::of(rt, options, files)?;
+    let read = ReadFiles::of(rt, &options.files, files)?;
     check_files(rt, options, &read)?;
     let given = &options.definitions;
     let Some(name) = given.written else {
         return run_task(rt, options, library, texts, &read);
     };
     let lines = definition_lines(rt.alloc(), files, &given.words, given.wish)?;
+    if lines.is_empty() {
+        return Err(nothing_to_write(rt.alloc())?);
+    }
     let outcome = run_task(rt, options, library, texts, &read)?;
     let file = WholeFile {
         option: DEFINITIONS,
         name,
         read: &read,
     };
-    file.write(rt, outcome, lines.as_str())?;
+    file.write(rt, outcome != Outcome::SomeUnread, lines.as_str())?;
     Ok(outcome)
 }
 
@@ -185,9 +210,7 @@ pub fn run(rt: &HostRuntime, options: &Options<'_>) -> Result<Outcome, Fault> {
         &given.words,
         given.most_bytes,
     )?;
-    if let (Some(wish), Task::Suggestions(_)) = (given.wish, &options.task) {
-        adapt_own(alloc, &mut library, wish)?;
-    }
     let texts = texts_of(rt, &mut library, options)?;
+    adapt_others(rt, &mut library, options)?;
     run_over(rt, options, &files, &library, &texts)
 }

@@ -2,13 +2,15 @@
 ghost use Rattle.std.specs.Prelude.{[]};
 
 use common_definitions::line_formats;
-use grok_lines::LineAnswers;
+use grok::Pattern;
+use groklog_answers::{Failure, Flow, FoundLine, LineTask};
 use groklog_definitions::Library;
 use groklog_input::visible;
-use groklog_options::Options;
+use groklog_options::{EVENT_LINES, EXPANSION, Options};
 use groklog_patterns::own_wholes;
-use log_samples::{Definitions, Fit, LogKind, kind_of_log};
+use log_samples::{Definitions, Fit, LogKind, compile_valid, count, finds_each, kind_of_log};
 use std::alloc::{AllocError, Global};
+use std::fmt::Write;
 use suggestions::{Advice, Format, Formats, Share, advise};
 
 /// How many patterns are shown at most.
@@ -20,18 +22,27 @@ const MOST_LINE_BYTES: usize = 65536;
 /// The definitions for the beginnings of lines after which there may be any message.
 const BEGINNINGS: [&str; 3] = ["SYSLOGBASE", "JOURNALBASE", "SYSLOG5424BASE"];
 
+/// A line of a sample.
+#[derive(Drop)]
+struct SampledLine {
+    /// The line, or `None` if it isn't looked at: it is too long, isn't UTF-8, or has zero bytes, which texts don't
+    /// have.
+    text: Option<String>,
+    /// Whether it is the first line of its file.
+    begins_file: bool,
+}
+
 /// The first lines of some inputs.
 #[derive(Drop)]
 pub struct Sample {
     alloc: Global,
-    /// The lines that aren't blank, not too long, UTF-8, and without zero bytes, which texts don't have.
-    lines: Vec<String>,
+    lines: Vec<SampledLine>,
+    /// Whether the next line is the first one of its file.
+    begins_file: bool,
     /// How many lines were too long.
     long: u64,
     /// How many more lines are read at most.
     left: u64,
-    /// Whether there are enough lines. Then an answer fails, so that no more are read.
-    pub is_full: bool,
 }
 
 impl Sample {
@@ -40,44 +51,54 @@ impl Sample {
         Sample {
             alloc,
             lines: Vec::new(alloc),
+            begins_file: true,
             long: 0,
             left: most,
-            is_full: most == 0,
         }
     }
 
-    /// Counts a line.
-    ///
-    /// # Errors
-    ///
-    /// If there are enough lines now.
-    fn count(&mut self) -> Result<(), AllocError> {
+    /// Adds a line, or one that isn't looked at.
+    fn add(&mut self, text: Option<String>) -> Result<Flow, AllocError> {
+        let begins_file = self.begins_file;
+        self.begins_file = false;
+        self.lines.push(SampledLine { text, begins_file })?;
         self.left = self.left.saturating_sub(1);
+        Ok(self.flow())
+    }
+
+    /// Returns whether more lines are read.
+    pub fn flow(&self) -> Flow {
         if self.left > 0 {
-            return Ok(());
+            Flow::More
+        } else {
+            Flow::Enough
         }
-        self.is_full = true;
-        // own error: there are enough lines, as `is_full` says, and no more are read.
-        Err(AllocError)
     }
 }
 
-impl LineAnswers for Sample {
-    ghost answer = { λ _ n line. [] };
+impl<'p> LineTask<'p> for Sample {
+    ghost answer = { λ _ found n line. [] };
 
-    fn answer_str(&mut self, text: &mut Vec<u8>, line: &str) -> Result<(), AllocError> {
-        let _ = text;
-        if line.len() > MOST_LINE_BYTES {
-            self.long = self.long.saturating_add(1);
-        } else if !line.trim().is_empty() && !line.contains('\0') {
-            self.lines.push(String::from_str(self.alloc, line)?)?;
-        }
-        self.count()
+    fn begin_file(&mut self, _name: &'p str) {
+        self.begins_file = true;
     }
 
-    fn answer_broken(&mut self, text: &mut Vec<u8>, line: &[u8]) -> Result<(), AllocError> {
-        let (_, _) = (text, line);
-        self.count()
+    fn needs_broken(&self) -> bool {
+        false
+    }
+
+    fn take(&mut self, line: FoundLine<'_>, out: &mut Vec<u8>) -> Result<Flow, AllocError> {
+        let _ = out;
+        if line.text.len() > MOST_LINE_BYTES {
+            self.long = self.long.saturating_add(1);
+            return self.add(None);
+        }
+        let text = if matches!(line.found, Err(Failure::NotUtf8)) || line.text.contains('\0') {
+            None
+        } else {
+            Some(String::from_str(self.alloc, line.text)?)
+        };
+        self.add(text)
     }
 }
 
@@ -95,11 +116,30 @@ fn is_plain(c: char) -> bool {
     c.is_ascii_alphanumeric() || matches!(c, '_' | '-' | '.' | '/' | ',' | ':' | '=' | '@' | '+')
 }
 
-/// Appends a word as it is written in a shell, after a blank.
-fn push_word(command: &mut String, word: &str) -> Result<(), AllocError> {
+/// Appends a word in the quotes of a shell that have escapes, `$'..'`. Only those of its characters that can be seen
+/// are written as they are.
+fn push_escaped(command: &mut String, word: &str) -> Result<(), AllocError> {
+    command.push_str("$'")?;
+    for byte in word.bytes() {
+        match byte {
+            b'\\' => command.push_str("\\\\")?,
+            b'\'' => command.push_str("\\'")?,
+            b' '..=b'~' => command.push(char::from(byte))?,
+            _ => write!(command, "\\x{byte:02x}")?,
+        }
+    }
+    command.push('\'')
+}
+
+/// Appends a word as it is written in a shell, after a blank. No byte of it is one that a terminal could take as a
+/// command.
+fn push_word(alloc: Global, command: &mut String, word: &str) -> Result<(), AllocError> {
     command.push(' ')?;
     if !word.is_empty() && word.chars().all(is_plain) {
         return command.push_str(word);
+    }
+    if visible(alloc, word)?.as_str() != word {
+        return push_escaped(command, word);
     }
     command.push('\'')?;
     for c in word.chars() {
@@ -113,25 +153,34 @@ fn push_word(command: &mut String, word: &str) -> Result<(), AllocError> {
 }
 
 /// Appends an option with each of its values.
-fn push_option(command: &mut String, option: &str, values: &[&str]) -> Result<(), AllocError> {
+fn push_option(
+    alloc: Global,
+    command: &mut String,
+    option: &str,
+    values: &[&str],
+) -> Result<(), AllocError> {
     for value in values {
-        push_word(command, option)?;
-        push_word(command, value)?;
+        push_word(alloc, command, option)?;
+        push_word(alloc, command, value)?;
     }
     Ok(())
 }
 
 /// Appends the files that the options name. If one begins with `-`, it is none of the options.
-fn push_files(command: &mut String, options: &Options<'_>) -> Result<(), AllocError> {
+fn push_files(
+    alloc: Global,
+    command: &mut String,
+    options: &Options<'_>,
+) -> Result<(), AllocError> {
     let mut is_like_option = false;
     for file in &options.files {
         is_like_option = is_like_option || (file.len() > 1 && file.starts_with('-'));
     }
     if is_like_option {
-        push_word(command, "--")?;
+        push_word(alloc, command, "--")?;
     }
     for file in &options.files {
-        push_word(command, file)?;
+        push_word(alloc, command, file)?;
     }
     Ok(())
 }
@@ -157,26 +206,35 @@ fn command_of(
     ];
     for (is_given, flag) in flags {
         if is_given {
-            push_word(&mut command, flag)?;
+            push_word(alloc, &mut command, flag)?;
         }
     }
-    push_option(&mut command, "-d", &options.definitions.files)?;
-    push_option(&mut command, "-D", &options.definitions.words)?;
+    let most_bytes = options.definitions.most_bytes;
+    if most_bytes != EXPANSION {
+        write!(command, " --max-expansion {most_bytes}")?;
+    }
+    push_option(alloc, &mut command, "-d", &options.definitions.files)?;
+    push_option(alloc, &mut command, "-D", &options.definitions.words)?;
     if let Some(start) = reading.start {
-        push_option(&mut command, "--start", &[start])?;
+        push_option(alloc, &mut command, "--start", &[start])?;
     }
     match patterns {
-        [pattern] => push_word(&mut command, pattern)?,
-        _ => push_option(&mut command, "-e", patterns)?,
+        [pattern] => push_word(alloc, &mut command, pattern)?,
+        _ => push_option(alloc, &mut command, "-e", patterns)?,
     }
-    push_files(&mut command, options)?;
-    visible(alloc, command.as_str())
+    push_files(alloc, &mut command, options)?;
+    Ok(command)
 }
 
 /// Appends the command of another program that reads the same files.
-fn push_other(report: &mut String, options: &Options<'_>, program: &str) -> Result<(), AllocError> {
+fn push_other(
+    alloc: Global,
+    report: &mut String,
+    options: &Options<'_>,
+    program: &str,
+) -> Result<(), AllocError> {
     report.push_str(program)?;
-    push_files(report, options)?;
+    push_files(alloc, report, options)?;
     report.push('\n')
 }
 
@@ -348,24 +406,125 @@ fn beginnings_of<'a>(alloc: Global, formats: &[Format<'a>]) -> Result<Vec<&'a st
 
 /// Returns whether more than half of the lines end in a carriage return.
 fn have_returns(sample: &Sample) -> bool {
+    let mut all = 0usize;
     let mut count = 0usize;
     for line in &sample.lines {
-        if line.as_str().ends_with('\r') {
-            count = count.saturating_add(1);
+        if let Some(text) = &line.text
+            && !text.as_str().trim().is_empty()
+        {
+            all = all.saturating_add(1);
+            count = count.saturating_add(usize::from(text.as_str().ends_with('\r')));
         }
     }
-    count > sample.lines.len() / 2
+    count > all / 2
 }
 
-/// Returns the lines of a sample, without the carriage returns at their ends if these are dropped.
+impl SampledLine {
+    /// Returns the line, without the carriage return at its end if that is dropped. Returns `None` if the line isn't
+    /// looked at.
+    fn text(&self, drops_return: bool) -> Option<&str> {
+        let text = self.text.as_ref()?.as_str();
+        Some(if drops_return {
+            text.strip_suffix('\r').unwrap_or(text)
+        } else {
+            text
+        })
+    }
+}
+
+/// Returns the lines of a sample that patterns are suggested for: those that are looked at and aren't blank.
 fn lines_of(sample: &Sample, drops_return: bool) -> Result<Vec<&str>, AllocError> {
     let mut lines = Vec::new(sample.alloc);
     for line in &sample.lines {
-        let line = line.as_str();
-        let trimmed = line.strip_suffix('\r').unwrap_or(line);
-        lines.push(if drops_return { trimmed } else { line })?;
+        if let Some(text) = line.text(drops_return)
+            && !text.trim().is_empty()
+        {
+            lines.push(text)?;
+        }
     }
     Ok(lines)
+}
+
+/// Returns the events that a run reads from a sample whose lines this pattern begins, each with its lines joined by
+/// line feeds, or `None` if one of them isn't looked at. No line is found in an event that isn't UTF-8.
+fn events_of(
+    sample: &Sample,
+    drops_return: bool,
+    start: &Pattern,
+) -> Result<Vec<Option<String>>, AllocError> {
+    let alloc = sample.alloc;
+    let mut texts = Vec::new(alloc);
+    for line in &sample.lines {
+        texts.push(line.text(drops_return).unwrap_or(""))?;
+    }
+    let mut events: Vec<Option<String>> = Vec::new(alloc);
+    let mut len = 0u64;
+    let starts = finds_each(alloc, start, &texts)?;
+    for ((line, text), is_start) in sample.lines.iter().zip(&texts).zip(&starts) {
+        let is_read = line.text.is_some();
+        let begins = line.begins_file || (is_read && *is_start) || len == EVENT_LINES;
+        if !begins && let Some(event) = events.last_mut() {
+            len = len.saturating_add(1);
+            *event = joined(event.take(), is_read.then_some(*text))?;
+            continue;
+        }
+        len = 1;
+        let event = String::from_str(alloc, text)?;
+        events.push(is_read.then_some(event))?;
+    }
+    Ok(events)
+}
+
+/// Adds a line to an event, if both are looked at.
+fn joined(event: Option<String>, line: Option<&str>) -> Result<Option<String>, AllocError> {
+    let (Some(mut event), Some(line)) = (event, line) else {
+        return Ok(None);
+    };
+    event.push('\n')?;
+    event.push_str(line)?;
+    Ok(Some(event))
+}
+
+/// Counts again, for these events, what a pattern is suggested for: what its command matches.
+fn recount(
+    alloc: Global,
+    definitions: Definitions<'_>,
+    advice: &mut Advice,
+    events: &[Option<String>],
+) -> Result<(), AllocError> {
+    let mut texts = Vec::new(alloc);
+    let mut is_left = Vec::new(alloc);
+    for event in events {
+        if let Some(text) = event {
+            texts.push(text.as_str())?;
+            is_left.push(true)?;
+        }
+    }
+    advice.lines = events.len();
+    for found in advice.alone.iter_mut() {
+        if let Some(pattern) = compile_valid(definitions, found.text.as_str())? {
+            found.fit.lines = count(&finds_each(alloc, &pattern, &texts)?);
+        }
+    }
+    for share in advice.together.iter_mut() {
+        if let Some(pattern) = compile_valid(definitions, share.text.as_str())? {
+            let each = finds_each(alloc, &pattern, &texts)?;
+            share.lines = take_found(&mut is_left, &each);
+        }
+    }
+    Ok(())
+}
+
+/// Takes the texts in which something is found from those that are left, and returns how many these are.
+fn take_found(is_left: &mut [bool], each: &[bool]) -> usize {
+    let mut taken = 0usize;
+    for (is_left, is_found) in is_left.iter_mut().zip(each) {
+        if *is_left && *is_found {
+            *is_left = false;
+            taken = taken.saturating_add(1);
+        }
+    }
+    taken
 }
 
 /// Appends which program reads the lines better than patterns do, if there is one. Returns whether no pattern is needed then.
@@ -378,8 +537,8 @@ fn push_reader(
     match kind {
         LogKind::Lines => Ok(false),
         LogKind::Json => {
-            report.push_str("these lines are JSON objects, which jq reads:\n")?;
-            push_other(report, options, "jq -c .")?;
+            report.push_str("these lines look like JSON objects, which jq reads:\n")?;
+            push_other(alloc, report, options, "jq -c .")?;
             Ok(true)
         }
         LogKind::Table {
@@ -394,7 +553,7 @@ fn push_reader(
             };
             let words = format!(in alloc; "each line has {columns} values{more}:\n")?;
             report.push_str(words.as_str())?;
-            push_other(report, options, reader_of(separator, has_header))?;
+            push_other(alloc, report, options, reader_of(separator, has_header))?;
             Ok(has_header)
         }
     }
@@ -431,10 +590,6 @@ impl Suggestions {
 
 /// Returns the report on the lines of a sample: which definitions and which patterns match them, or which other program is
 /// better for them.
-///
-/// # Errors
-///
-/// If an allocation fails.
 pub fn report_of_sample(
     alloc: Global,
     options: &Options<'_>,
@@ -465,7 +620,13 @@ pub fn report_of_sample(
         push_reader(alloc, &mut report, options, LogKind::Json)?;
         return Ok(Suggestions::without_pattern(report));
     }
-    let advice = advise(alloc, definitions, formats, &lines)?;
+    let mut advice = advise(alloc, definitions, formats, &lines)?;
+    if let Some(start) = &advice.start
+        && let Some(start) = compile_valid(definitions, start.as_str())?
+    {
+        let events = events_of(sample, drops_return, &start)?;
+        recount(alloc, definitions, &mut advice, &events)?;
+    }
     if advice.alone.is_empty() && push_reader(alloc, &mut report, options, kind_of_log(&lines))? {
         return Ok(Suggestions::without_pattern(report));
     }

@@ -9,10 +9,6 @@ use std::alloc::{AllocError, Global};
 
 /// Returns how many lines or events were read, how many each pattern was the first to match, how many
 /// no pattern matched, and how many weren't UTF-8.
-///
-/// # Errors
-///
-/// If an allocation fails.
 pub fn summary_of(
     alloc: Global,
     searches: &Searches<'_>,
@@ -41,10 +37,6 @@ pub fn summary_of(
 }
 
 /// Returns a note on the lines or events whose values `--count` didn't count by themselves, or `None` if there are none.
-///
-/// # Errors
-///
-/// If an allocation fails.
 pub fn note_of_others(alloc: Global, others: u64, unit: Unit) -> Result<Option<String>, AllocError>
     ensures { IfOk result (λ note. is_none note ≡ (others == 0)) }
 {

@@ -1,21 +1,21 @@
 //! Does the task of a run: one search of each line or event, and one writer or view of what was found.
 
-use crate::inputs::{Outcome, answer_each, answer_inputs};
-use crate::log_lines::LogLines;
-use crate::output::{show_note, write_bytes, write_output};
+use crate::inputs::{LogLines, Outcome, answer_each, answer_inputs};
+use crate::output::{Outlet, show_note, write_bytes, write_output};
 use crate::page::Page;
-use crate::read_files::ReadFiles;
 use crate::run::PAGE;
 use crate::show::Show;
 use crate::suggest::{Sample, report_of_sample};
 use crate::summary::{note_of_others, summary_of};
 use crate::terminal::is_coloured;
-use crate::whole_file::WholeFile;
 use crate::why::Why;
 use grok::Pattern;
 use grok_lines::SkipLines;
-use groklog_answers::{KeyCounts, LogAnswers, NamedPattern, Searches, header_of};
+use groklog_answers::{
+    KeyCounts, LineTask, LogAnswers, NamedPattern, SearchedLines, Searches, header_of,
+};
 use groklog_definitions::{Library, PatternText};
+use groklog_files::{ReadFiles, WholeFile};
 use groklog_input::{Fault, FormedAnswers};
 use groklog_options::{
     AnswerOptions, CountOptions, Options, PageOptions, ShownOptions, Task, layout_of,
@@ -27,7 +27,7 @@ use std::alloc::AllocError;
 /// A run whose patterns are compiled, before it reads a line.
 #[derive(Clone, Copy)]
 pub struct Run<'r, 'a, 'd> {
-    pub rt: &'r HostRuntime,
+    pub outlet: &'r Outlet<'r>,
     pub options: &'a Options<'a>,
     pub library: &'a Library<'d>,
     /// The texts of the patterns.
@@ -69,40 +69,38 @@ impl<'r, 'a, 'd> Run<'r, 'a, 'd> {
         };
         if self.options.has_summary {
             let (names, unit) = (&self.options.patterns, self.options.unit());
-            let line = summary_of(self.rt.alloc(), &ended.searches, names, unit)?;
+            let line = summary_of(self.rt().alloc(), &ended.searches, names, unit)?;
             // The run goes on if the line can't be written.
-            let _ = eprintln!(self.rt; "groklog: {line}");
+            let _ = eprintln!(self.rt(); "groklog: {line}");
         }
         Ok(ended.outcome)
     }
 
-    /// Reads all lines or events. Returns what was done with them, and how that ended.
-    fn read<A: LogLines<'a> + SkipLines + Drop>(
-        self,
-        lines: A,
-    ) -> Result<(A, Result<Outcome, Fault>), AllocError> {
-        answer_each(self.rt, self.options, self.start, lines)
+    fn rt(self) -> &'r HostRuntime {
+        self.outlet.rt
     }
 
-    /// Returns what finds the matches of lines or events.
-    fn searches(self) -> Result<Searches<'a>, AllocError> {
-        Searches::new(self.rt.alloc(), self.named)
+    /// Returns what searches lines or events, and gives them to this task.
+    fn searched<T: LineTask<'a> + Drop>(self, task: T) -> Result<SearchedLines<'a, T>, AllocError> {
+        let alloc = self.rt().alloc();
+        let searches = Searches::new(alloc, self.named)?;
+        Ok(SearchedLines::with_task(alloc, searches, task))
+    }
+
+    /// Reads all lines or events. Returns what searched them, and how that ended.
+    fn read<A: LogLines<'a> + SkipLines + Drop>(self, lines: A) -> Result<(A, Outcome), Fault> {
+        answer_each(self.outlet, self.options, self.start, lines)
     }
 
     /// Returns what finds where the values of keys are.
     fn located(self) -> Result<LocatedFields<'a>, AllocError> {
-        LocatedFields::new(
-            self.rt.alloc(),
-            self.searches()?,
-            self.patterns,
-            self.fields,
-        )
+        LocatedFields::new(self.rt().alloc(), self.patterns, self.fields)
     }
 
     /// Returns what explains where the patterns stop.
     fn explainer(self) -> Result<Explainer<'a, 'd>, AllocError> {
         Explainer::new(
-            self.rt.alloc(),
+            self.rt().alloc(),
             self.library,
             self.texts,
             self.patterns,
@@ -112,50 +110,50 @@ impl<'r, 'a, 'd> Run<'r, 'a, 'd> {
 
     /// Writes the answers.
     fn answer(self, answers: &'a AnswerOptions<'a>) -> Result<Ended<'a>, Fault> {
-        let alloc = self.rt.alloc();
+        let alloc = self.rt().alloc();
         let layout = layout_of(answers, self.fields);
         if self.options.task.has_records() {
-            write_bytes(self.rt, &header_of(alloc, &layout)?)?;
+            write_bytes(self.rt(), &header_of(alloc, &layout)?)?;
         }
         let (answers, outcome) = self.read(LogAnswers::new(alloc, self.named, layout)?)?;
-        let outcome = outcome?;
         let searches = answers.searches;
         Ok(Ended { searches, outcome })
     }
 
     /// Counts the values of keys, and writes them with their counts.
     fn count(self, options: &CountOptions<'a>) -> Result<Ended<'a>, Fault> {
-        let alloc = self.rt.alloc();
+        let alloc = self.rt().alloc();
         let keys = Vec::from_slice(alloc, &options.keys)?;
-        let counts = KeyCounts::new(alloc, self.searches()?, keys, options.format, options.most);
-        let (counts, outcome) = self.read(counts)?;
-        let outcome = outcome?;
-        write_bytes(self.rt, &counts.text()?)?;
+        let counts = KeyCounts::new(alloc, keys, options.format, options.most);
+        let (lines, outcome) = self.read(self.searched(counts)?)?;
+        let counts = &lines.task;
+        write_bytes(self.rt(), &counts.text()?)?;
         if let Some(note) = note_of_others(alloc, counts.counts.others(), self.options.unit())? {
-            show_note(self.rt, note.as_str())?;
+            show_note(self.rt(), note.as_str())?;
         }
-        let searches = counts.searches;
+        let searches = lines.searches;
         Ok(Ended { searches, outcome })
     }
 
     /// Shows the lines or events with their fields marked.
     fn show(self, options: &ShownOptions<'a>) -> Result<Ended<'a>, Fault> {
-        let is_coloured = is_coloured(self.rt, options.colours)?;
-        let show = Show::new(self.rt, self.located()?, options.lines, is_coloured);
-        write_output(self.rt, show.legend()?.as_str())?;
-        let (show, answered) = self.read(show)?;
-        let outcome = show.output.outcome(answered)?;
-        let searches = show.located.searches;
+        let show = Show {
+            alloc: self.rt().alloc(),
+            outlet: self.outlet,
+            located: self.located()?,
+            lines: options.lines,
+            is_coloured: is_coloured(self.rt(), options.colours)?,
+        };
+        write_output(self.rt(), show.legend()?.as_str())?;
+        let (lines, outcome) = self.read(self.searched(show)?)?;
+        let searches = lines.searches;
         Ok(Ended { searches, outcome })
     }
 
-    /// Returns what a page has about the values of these keys before a line is read.
-    fn page_content(
-        self,
-        options: &PageOptions<'a>,
-        located: &LocatedFields<'a>,
-    ) -> Result<PageContent, AllocError> {
-        let alloc = self.rt.alloc();
+    /// Returns what a page has before a line is read.
+    fn page_content(self, options: &PageOptions<'a>) -> Result<PageContent<'a>, AllocError> {
+        let alloc = self.rt().alloc();
+        let located = self.located()?;
         let titles = titles_of(
             alloc,
             self.library,
@@ -168,52 +166,52 @@ impl<'r, 'a, 'd> Run<'r, 'a, 'd> {
             lines: options.lines,
             most: options.most,
         };
-        PageContent::new(alloc, scope, titles)
+        PageContent::new(alloc, scope, located, titles)
     }
 
     /// Writes the page to the file that the options name.
     fn write_html(
         self,
         options: &PageOptions<'a>,
-        page: &Page<'a, 'a, 'd>,
+        lines: &SearchedLines<'a, Page<'a, 'a, 'd>>,
         outcome: Outcome,
     ) -> Result<(), Fault> {
-        let alloc = self.rt.alloc();
+        let alloc = self.rt().alloc();
         let tags: Vec<&str> = self.named.iter().map(|named| named.tag).collect(alloc)?;
         let html = page_html(
             alloc,
             &self.options.files,
             &tags,
-            &page.located,
-            &page.content,
+            &lines.searches,
+            &lines.task.content,
         )?;
         let file = WholeFile {
             option: PAGE,
             name: options.file,
             read: self.read,
         };
-        file.write(self.rt, outcome, html.as_str())
+        file.write(self.rt(), outcome != Outcome::SomeUnread, html.as_str())
     }
 
     /// Reads the first lines or events, and writes a page about them to a file.
     fn write_page(self, options: &PageOptions<'a>) -> Result<Ended<'a>, Fault> {
-        let located = self.located()?;
-        let content = self.page_content(options, &located)?;
-        let (page, outcome) = self.read(Page::new(located, self.explainer()?, content))?;
-        let outcome = outcome?;
-        self.write_html(options, &page, outcome)?;
-        let searches = page.located.searches;
+        let page = Page::new(self.explainer()?, self.page_content(options)?);
+        let flow = page.content.flow();
+        let mut lines = self.searched(page)?;
+        lines.flow = flow;
+        let (lines, outcome) = self.read(lines)?;
+        self.write_html(options, &lines, outcome)?;
+        let searches = lines.searches;
         Ok(Ended { searches, outcome })
     }
 
     /// Explains the first lines or events that don't match, and writes how many more there are.
     fn explain_lines(self, most: u64) -> Result<Ended<'a>, Fault> {
-        let unit = self.options.unit();
-        let why = Why::new(self.rt, self.searches()?, self.explainer()?, unit, most);
-        let (why, answered) = self.read(why)?;
-        let outcome = why.output.outcome(answered)?;
-        write_output(self.rt, why.rest(self.rt.alloc())?.as_str())?;
-        let searches = why.searches;
+        let (alloc, unit) = (self.rt().alloc(), self.options.unit());
+        let why = Why::new(alloc, self.outlet, self.explainer()?, unit, most);
+        let (lines, outcome) = self.read(self.searched(why)?)?;
+        write_output(self.rt(), lines.task.rest()?.as_str())?;
+        let searches = lines.searches;
         Ok(Ended { searches, outcome })
     }
 
@@ -223,13 +221,13 @@ impl<'r, 'a, 'd> Run<'r, 'a, 'd> {
         for (text, pattern) in self.texts.iter().zip(self.patterns) {
             let text = text.text.as_str();
             let lines = explain(
-                self.rt.alloc(),
+                self.rt().alloc(),
                 self.library,
                 text,
                 pattern,
                 with_alias_only,
             )?;
-            write_output(self.rt, lines.as_str())?;
+            write_output(self.rt(), lines.as_str())?;
         }
         Ok(Outcome::AllRead)
     }
@@ -242,15 +240,19 @@ impl<'r, 'a, 'd> Run<'r, 'a, 'd> {
 ///
 /// If an allocation or the output fails.
 pub fn suggest(
-    rt: &HostRuntime,
+    outlet: &Outlet<'_>,
     options: &Options<'_>,
     library: &Library<'_>,
     most: u64,
 ) -> Result<Outcome, Fault> {
-    let sample = Sample::new(rt.alloc(), most);
-    let mut formed = FormedAnswers::new(rt.alloc(), sample, options.form);
-    let outcome = answer_inputs(rt, options, &mut formed)?;
-    let report = report_of_sample(rt.alloc(), options, library, &formed.answers)?;
-    write_output(rt, report.text.as_str())?;
+    let alloc = outlet.rt.alloc();
+    let sample = Sample::new(alloc, most);
+    let flow = sample.flow();
+    let mut lines = SearchedLines::with_task(alloc, Searches::new(alloc, &[])?, sample);
+    lines.flow = flow;
+    let mut formed = FormedAnswers::new(alloc, lines, options.form);
+    let outcome = answer_inputs(outlet, options, &mut formed)?;
+    let report = report_of_sample(alloc, options, library, &formed.answers.task)?;
+    write_output(outlet.rt, report.text.as_str())?;
     Ok(outcome.with_found(options, report.has_pattern))
 }

@@ -17,3 +17,4 @@ mod ValuesAreByCount
 mod EmptyObjects
 mod ValuesOfKeys
 mod LinesAreCounted
+mod EnoughLines

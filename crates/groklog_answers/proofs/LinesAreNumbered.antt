@@ -11,6 +11,7 @@ use Rattle.groklog_answers.specs.AnsweredTexts.{line_of, added_text}
 use Rattle.groklog_answers.specs.Objects.{added_members}
 use Rattle.groklog_answers.specs.PairTexts.{added_line}
 use Rattle.groklog_answers.specs.Records.{added_value}
+use Rattle.groklog_answers.specs.SearchedLines.{searched_answer, searched_answers_from}
 use Rattle.groklog_answers.specs.LogAnswers.{answer_text, log_answer, log_answers_from}
 use Rattle.groklog_answers.specs.AnswerLaws.{EachLineHasItsNumber, IsNoNumber, WithoutNumbersLinesStandAlone}
 use Rattle.groklog_answers.specs.declared.layout.Addition.{Addition}
@@ -22,12 +23,12 @@ use Rattle.groklog_answers.specs.declared.layout.OutputFormat.TheVariants.{Json,
 
 -- ---- the count
 
-pub counts_on : (layout later : LayoutValue) (patterns more : List PatternText) (first count next : ℕ)
-    → later ≡ layout → more ≡ patterns → next ≡ first + count
-    → AreAnswersAfter count (log_answers_from layout patterns first) (log_answers_from later more next)
-counts_on layout later patterns more first count next l p e n =
-    ap (λ v. log_answer v more (next + n)) l ∙ ap (λ v. log_answer layout v (next + n)) p
-    ∙ ap (log_answer layout patterns) (omega (arith, e))
+pub counts_on : (answer later : Result MatchText Failure → ℕ → List ℕ → List ℕ) (patterns more : List PatternText) (first count next : ℕ)
+    → later ≡ answer → more ≡ patterns → next ≡ first + count
+    → AreAnswersAfter count (searched_answers_from answer patterns first) (searched_answers_from later more next)
+counts_on answer later patterns more first count next l p e n =
+    ap (λ v. searched_answer v more (next + n)) l ∙ ap (λ v. searched_answer answer v (next + n)) p
+    ∙ ap (searched_answer answer patterns) (omega (arith, e))
 
 pub each_line_has_its_number : EachLineHasItsNumber
 each_line_has_its_number layout patterns before after line =

@@ -139,7 +139,7 @@ abbrev pub HasShallowPlan : Option (List FieldText) → Type 0
 HasShallowPlan None = Unit {0}
 HasShallowPlan (Some fields) = IsShallow fields
 
--- The line has no match, or one whose plan is so.
+-- The line has no match, or the plan of its match has no deeper objects than that.
 abbrev pub IsShallowLine : Result MatchText Failure → Type 0
 IsShallowLine (Ok found) = HasShallowPlan found.plan
 IsShallowLine (Err why) = Unit {0}

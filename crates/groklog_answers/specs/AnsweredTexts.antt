@@ -20,8 +20,8 @@ pub record AnsweredText : Type 0 where
 abbrev pub line_of : LayoutValue → Result MatchText Failure → ℕ → List ℕ → AnsweredText
 line_of layout found n line = record { layout = layout; found = found; number = n; text = line }
 
--- The text that is added to an answer, or `None` if the line hasn't what is asked for: only a match has a tag,
--- and only a line without fields has a reason for that.
+-- The text that is added to an answer, or `None` if the line doesn't have it: only a match has a tag, and only a line
+-- without fields has a reason for that.
 abbrev pub added_text : AnsweredText → Addition → Option (List ℕ)
 added_text line Number = Some (numeral line.number)
 added_text line File = Some line.layout.file_name

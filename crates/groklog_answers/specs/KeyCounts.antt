@@ -32,7 +32,7 @@ pub record CountsOnce (old new : ValueCounts) (value : List ℕ) : Type 0 where
   pub first : count_of old value ≡ None → value_count old < most_of old → SetsCount old new value 1
   pub full : count_of old value ≡ None → most_of old ≤ value_count old → SkipsValue old new
 
--- The value came once more, if there is one, and else nothing has changed.
+-- The value came once more if there is one, and otherwise nothing has changed.
 abbrev pub CountsValue : ValueCounts → ValueCounts → Option (List ℕ) → Type 0
 CountsValue old new None = IsUnchanged old new
 CountsValue old new (Some value) = CountsOnce old new value

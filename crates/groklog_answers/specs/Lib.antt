@@ -8,6 +8,7 @@ pub mod AnsweredTexts
 pub mod Objects
 pub mod PairTexts
 pub mod Records
+pub mod SearchedLines
 pub mod LogAnswers
 pub mod Views
 pub mod Searches
@@ -22,6 +23,7 @@ pub use Rattle.groklog_answers.specs.Plans.{key_names, SharedKeyText, FieldText,
 pub use Rattle.groklog_answers.specs.PlanViews.{shared_text, plan_text}
 pub use Rattle.groklog_answers.specs.Patterns.{PatternText, MatchText, match_of, first_match, is_found}
 pub use Rattle.groklog_answers.specs.Records.{values_of, header_record}
+pub use Rattle.groklog_answers.specs.SearchedLines.{found_in, searched_answer, searched_answers_from}
 pub use Rattle.groklog_answers.specs.LogAnswers.{log_answer, log_answers_from}
 pub use Rattle.groklog_answers.specs.Views.{pattern_text, found_text_of, patterns_of, layout_of, next_number_of, finds_of, starts_of}
 pub use Rattle.groklog_answers.specs.Searches.{patterns_in, next_number_in, matched_in, unmatched_in, broken_in, first_index, one_more_at, HasNumbered, HasCounted}

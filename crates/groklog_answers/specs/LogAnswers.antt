@@ -1,12 +1,10 @@
 -- What is written for a line of a log: the match of the first pattern that matches, or the answer
 -- to a line that none matches.
-use Rattle.std.specs.Prelude.{ℕ, ◌+◌, List, [], ◌++◌, Bool, true, Option, Result, Err, if◌then◌else◌, codes}
-use Rattle.std.specs.Option.{ok_or}
+use Rattle.std.specs.Prelude.{ℕ, ◌+◌, List, [], ◌++◌, Bool, true, Result, if◌then◌else◌, codes}
 use Rattle.std.specs.Result.{is_ok, is_err}
-use Rattle.std.specs.Str.{is_utf8}
-use Rattle.std.specs.Str.Lossy.{utf8_lossy}
 use Rattle.groklog_answers.specs.Layouts.{LayoutValue}
-use Rattle.groklog_answers.specs.Patterns.{PatternText, MatchText, first_match}
+use Rattle.groklog_answers.specs.Patterns.{PatternText, MatchText}
+use Rattle.groklog_answers.specs.SearchedLines.{searched_answer}
 use Rattle.groklog_answers.specs.AnsweredTexts.{AnsweredText, line_of}
 use Rattle.groklog_answers.specs.Objects.{answer_members, object_text}
 use Rattle.groklog_answers.specs.PairTexts.{answer_lines}
@@ -14,7 +12,6 @@ use Rattle.groklog_answers.specs.Records.{answer_record}
 use Rattle.groklog_answers.specs.declared.layout.Lines.{Lines}
 use Rattle.groklog_answers.specs.declared.layout.Lines.TheVariants.{All, Matched, Unmatched}
 use Rattle.groklog_answers.specs.declared.layout.Failure.{Failure}
-use Rattle.groklog_answers.specs.declared.layout.Failure.TheVariants.{NoMatch, NotUtf8}
 use Rattle.groklog_answers.specs.declared.layout.OutputFormat.{OutputFormat}
 use Rattle.groklog_answers.specs.declared.layout.OutputFormat.TheVariants.{Json, Pairs, Csv}
 
@@ -34,17 +31,10 @@ is_answered Unmatched found = is_err found
 abbrev pub answer_to : AnsweredText → List ℕ
 answer_to line = if is_answered line.layout.lines line.found then answer_text line.layout.format line else []
 
--- The answer to the n-th line. The second argument is the match of the line, or `None` if no
--- pattern matches it.
-abbrev pub answer_by : LayoutValue → Option MatchText → ℕ → List ℕ → List ℕ
-answer_by layout found n line = answer_to (line_of layout (ok_or found NoMatch) n line)
-
 -- THE ANSWER to the n-th line. A line that isn't UTF-8 counts as unmatched. If the line itself is
 -- written, each part of it that isn't UTF-8 becomes U+FFFD.
 abbrev pub log_answer : LayoutValue → List PatternText → ℕ → List ℕ → List ℕ
-log_answer layout patterns n line =
-    if is_utf8 line then answer_by layout (first_match patterns line) n line
-    else answer_to (line_of layout (Err NotUtf8) n (utf8_lossy line))
+log_answer layout = searched_answer (λ found n line. answer_to (line_of layout found n line))
 
 -- The answer to the line that comes `n` lines after the line with the number `first`. Its number is
 -- `first + n`, whether the lines before it match or not.

@@ -33,7 +33,7 @@ added_json Failed text = string text
 added_json Tag text = string text
 added_json Line text = string text
 
--- The member for what is added. There is none if the line hasn't it.
+-- The member for what is added. There is none if the line doesn't have it.
 abbrev pub added_members : AnsweredText → Addition × List ℕ → KeyValues
 added_members line added =
     option_to_list (option_map (λ text. (added.1, added_json added.0 text)) (added_text line added.0))

@@ -41,7 +41,7 @@ unfoldable pub names_within : ℕ → List ℕ → Option (List (List ℕ))
 names_within zero text = None
 names_within (suc n) text = with_more (names_within n) (first_name text)
 
--- The most names that a key may have. The readers of JSON take objects that are nested so deep.
+-- The most names that a key may have. Readers of JSON take objects that are nested this deep.
 abbrev pub most_names : ℕ
 most_names = 100
 
@@ -50,8 +50,8 @@ most_names = 100
 abbrev pub key_names : Bool → List ℕ → List (List ℕ)
 key_names is_nested key = if is_nested then unwrap_or (names_within most_names key) (key ∷ []) else key ∷ []
 
--- These names and those lead to different members, neither of which is inside the other one: after some
--- names that are the same, the first list has a name that comes before that of the second in byte order.
+-- The names in both lists lead to different members, neither of which is inside the other one. The first list comes before
+-- the second: at the first index where their names differ, its name comes first in byte order.
 abbrev pub comes_before : List (List ℕ) → List (List ℕ) → Bool
 comes_before [] others = false
 comes_before (name ∷ names) [] = false
@@ -86,7 +86,7 @@ abbrev pub is_before : EntryText → EntryText → Bool
 is_before entry next =
     comes_before entry.names next.names || (bytes_eq entry.base next.base && nat_lt entry.index next.index)
 
--- The entry may come right before these.
+-- The entry may come right before the first of these entries, if there is one.
 abbrev pub MayPrecede : EntryText → List EntryText → Type 0
 MayPrecede entry [] = Unit {0}
 MayPrecede entry (next ∷ more) = is_before entry next ≡ true

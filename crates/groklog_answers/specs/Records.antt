@@ -7,7 +7,7 @@ use Rattle.groklog_answers.specs.AnsweredTexts.{AnsweredText, added_text}
 use Rattle.groklog_answers.specs.declared.layout.Addition.{Addition}
 use Rattle.groklog_answers.specs.declared.layout.Failure.{Failure}
 
--- The value in the column of what is added. It is empty if the line hasn't it.
+-- The value in the column of what is added. It is empty if the line doesn't have it.
 abbrev pub added_value : AnsweredText → Addition × List ℕ → List ℕ
 added_value line added = unwrap_or (added_text line added.0) []
 

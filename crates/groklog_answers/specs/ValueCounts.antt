@@ -36,7 +36,7 @@ pub record IsUnchanged (old new : ValueCounts) : Type 0 where
   pub others : others_of new ≡ others_of old
   pub most : most_of new ≡ most_of old
 
--- This value came so often, and all else is as it was.
+-- The new counts have this count for the value, and all else is as it was.
 pub record SetsCount (old new : ValueCounts) (value : List ℕ) (count : ℕ) : Type 0 where
   pub counted : count_of new value ≡ Some count
   pub same : (other : List ℕ) → other ≢ value → count_of new other ≡ count_of old other
@@ -66,11 +66,11 @@ pub record AreByCount (counts : ValueCounts) (pairs : List (List ℕ × ℕ)) : 
 abbrev pub counted_object : List ℕ × ℕ → List ℕ
 counted_object pair = object_text ((codes "value", string pair.0) ∷ (codes "count", number (numeral pair.1)) ∷ []) ++ codes "\n"
 
--- The same as a record.
+-- A value with its count as a record of comma-separated values.
 abbrev pub counted_record : List ℕ × ℕ → List ℕ
 counted_record pair = row_text default_writer (pair.0 ∷ numeral pair.1 ∷ [])
 
--- What is written of these values.
+-- The text that is written for these values with their counts.
 abbrev pub counts_text : OutputFormat → List (List ℕ × ℕ) → List ℕ
 counts_text Json pairs = flat_map counted_object pairs
 counts_text Pairs pairs = flat_map counted_object pairs

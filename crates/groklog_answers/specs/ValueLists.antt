@@ -43,7 +43,7 @@ list_text AsJson pairs = list_object pairs
 list_text Pairs pairs = list_object pairs
 list_text Csv pairs = list_record pairs
 
--- What is written before a list of values, between it and its count, and after that.
+-- The texts that are written before a list of values, between the list and its count, and after the count.
 pub record Frame : Type 0 where
   pub before : List ℕ
   pub between : List ℕ
@@ -67,6 +67,6 @@ list_header AsJson keys = []
 list_header Pairs keys = []
 list_header Csv keys = row_text default_writer (keys ++ codes "count" ∷ [])
 
--- What is written of these lists of values with their counts.
+-- The text that is written for these lists of values with their counts.
 abbrev pub lists_text : OutputFormat → List (List ℕ) → List (List ℕ × ℕ) → List ℕ
 lists_text format keys pairs = list_header format keys ++ flat_map (framed_list (frame_of format)) pairs

@@ -15,7 +15,8 @@ use Rattle.groklog_answers.specs.AnsweredTexts.{AnsweredText}
 use Rattle.groklog_answers.specs.declared.answered_line.AnsweredLine.{AnsweredLine}
 use Rattle.groklog_answers.specs.declared.layout.Failure.{Failure}
 use Rattle.groklog_answers.specs.declared.found.Found.{Found}
-use Rattle.groklog_answers.specs.declared.log_answers.LogAnswers.{LogAnswers}
+use Rattle.groklog_answers.specs.declared.answer_writer.AnswerWriter.{AnswerWriter}
+use Rattle.groklog_answers.specs.declared.searched_lines.SearchedLines.{SearchedLines}
 use Rattle.groklog_answers.specs.declared.searches.LineMatch.{LineMatch}
 use Rattle.groklog_answers.specs.declared.searches.NamedPattern.{NamedPattern}
 use Rattle.groklog_answers.specs.declared.searches.Search.{Search}
@@ -86,15 +87,15 @@ searched search = record {
 }
 
 -- The patterns of a `LogAnswers`, in the order in which they are tried.
-abbrev pub patterns_of : LogAnswers → List PatternText
+abbrev pub patterns_of : SearchedLines AnswerWriter → List PatternText
 patterns_of answers = map searched answers.searches.searches.items
 
 -- The layout of the answers.
-abbrev pub layout_of : LogAnswers → LayoutValue
-layout_of answers = layout_value answers.writer.layout
+abbrev pub layout_of : SearchedLines AnswerWriter → LayoutValue
+layout_of answers = layout_value answers.task.layout
 
 -- The number of the line that is answered next.
-abbrev pub next_number_of : LogAnswers → ℕ
+abbrev pub next_number_of : SearchedLines AnswerWriter → ℕ
 next_number_of answers = answers.searches.next_number
 
 -- Which lines are starts by a pattern: those in which it is found.

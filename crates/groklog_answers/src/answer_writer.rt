@@ -1,7 +1,6 @@
 //! Writes the answer to a line, as the layout says.
-ghost use Rattle.std.specs.Prelude.{◌≡◌, ℕ, List, [], ◌++◌, Err, IfOk, OnOk, OnErr, codes, true, false, string_bytes};
-ghost use Rattle.std.specs.Str.Lossy.{utf8_lossy};
-ghost use Rattle.groklog_answers.specs.Layouts.{layout_value, in_file};
+ghost use Rattle.std.specs.Prelude.{◌≡◌, ℕ, List, [], ◌++◌, Err, IfOk, OnOk, OnErr, codes, true};
+ghost use Rattle.groklog_answers.specs.Layouts.{layout_value};
 ghost use Rattle.groklog_answers.specs.AnsweredTexts.{line_of};
 ghost use Rattle.groklog_answers.specs.Objects.{answer_members};
 ghost use Rattle.groklog_answers.specs.declared.layout.Failure.{Failure};
@@ -10,6 +9,7 @@ ghost use Rattle.groklog_answers.specs.LogAnswers.{answer_text, answer_to};
 use crate::answered_line::{AnsweredLine, NumberedLine};
 use crate::layout::{Failure, Layout, Lines, OutputFormat};
 use crate::object::write_answer;
+use crate::searched_lines::{Flow, FoundLine, LineTask};
 use crate::searches::LineMatch;
 use crate::{pairs, record};
 use itoa::Buffer;
@@ -126,44 +126,10 @@ impl<'p> AnswerWriter<'p> {
         }
     }
 
-    /// Says that the next lines are those of the file with this name.
-    pub fn begin_file(&mut self, name: &'p str)
-        ensures { layout_value self.new.layout ≡ in_file name.now (layout_value self.old.layout) }
-    {
-        self.layout.file_name = name;
-        self.are_unmatched_empty = self.layout.answers_with_empty_objects();
-    }
-
-    /// Returns whether the answer to a line that has no fields depends on its text.
-    fn needs_text(&self) -> bool
-        ensures { result ≡ false → (why : Failure) (n : ℕ) (a b : List ℕ)
-            → answer_to (line_of (layout_value self.now.layout) (Err why) n a)
-            ≡ answer_to (line_of (layout_value self.now.layout) (Err why) n b) }
-    {
-        match self.layout.lines {
-            Lines::Matched => false,
-            Lines::All | Lines::Unmatched => !self.are_unmatched_empty,
-        }
-    }
-
-    /// Returns the text of a line that isn't UTF-8, with U+FFFD for each wrong part. If the answer doesn't
-    /// depend on it, returns the empty text: a large file that isn't text takes little time then.
-    pub fn lossy_text(&self, line: &[u8]) -> Result<String, AllocError>
-        ensures { IfOk result (λ text. (why : Failure) (n : ℕ)
-            → answer_to (line_of (layout_value self.now.layout) (Err why) n (string_bytes text))
-            ≡ answer_to (line_of (layout_value self.now.layout) (Err why) n (utf8_lossy line.now))) }
-    {
-        if self.needs_text() {
-            String::from_utf8_lossy(self.alloc, line)
-        } else {
-            Ok(String::new(self.alloc))
-        }
-    }
-
     /// Appends the answer to a line that has this match, or that has no fields for this reason. If only
     /// other lines are answered, or if an allocation fails, appends nothing.
     #[inline(always)]
-    pub fn append_answer(
+    fn append_answer(
         &mut self,
         text: &mut Vec<u8>,
         found: Result<LineMatch<'_>, Failure>,
@@ -183,5 +149,34 @@ impl<'p> AnswerWriter<'p> {
         self.layout
             .append_answer(self.alloc, &mut self.buffer, found, line)?;
         text.extend_from_slice(&self.buffer)
+    }
+}
+
+impl<'p> LineTask<'p> for AnswerWriter<'p> {
+    ghost use Rattle.groklog_answers.specs.Layouts.{layout_value, in_file};
+    ghost use Rattle.groklog_answers.specs.AnsweredTexts.{line_of};
+    ghost use Rattle.groklog_answers.specs.LogAnswers.{answer_to};
+
+    ghost answer = { λ writer found n line. answer_to (line_of (layout_value writer.layout) found n line) };
+
+    ghost begins = { λ writer name later. layout_value later.layout ≡ in_file name (layout_value writer.layout) };
+
+    fn begin_file(&mut self, name: &'p str) {
+        self.layout.file_name = name;
+        self.are_unmatched_empty = self.layout.answers_with_empty_objects();
+    }
+
+    fn needs_broken(&self) -> bool {
+        match self.layout.lines {
+            Lines::Matched => false,
+            Lines::All | Lines::Unmatched => !self.are_unmatched_empty,
+        }
+    }
+
+    #[inline(always)]
+    fn take(&mut self, line: FoundLine<'_>, out: &mut Vec<u8>) -> Result<Flow, AllocError> {
+        let FoundLine { number, text, .. } = line;
+        self.append_answer(out, line.found, NumberedLine { number, text })?;
+        Ok(Flow::More)
     }
 }

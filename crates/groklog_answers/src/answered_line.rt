@@ -29,7 +29,7 @@ impl AnsweredLine<'_> {
     ghost use Rattle.groklog_answers.specs.LogAnswers.{is_answered};
     ghost use Rattle.groklog_answers.specs.Views.{answered_text};
 
-    /// Returns the text that is added to the answer, or `None` if the line hasn't what is asked for.
+    /// Returns the text that is added to the answer, or `None` if the line doesn't have it.
     pub fn added(&self, what: Addition) -> Option<&str>
         ensures { option_map text_of result ≡ added_text (answered_text self.now) what }
     {

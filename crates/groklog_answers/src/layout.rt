@@ -55,7 +55,7 @@ pub struct Layout<'a> {
     /// What an answer has before the fields of patterns, in this order. A record has an empty value for what
     /// its line hasn't.
     pub before: &'a [Added<'a>],
-    /// What it has after them.
+    /// What an answer has after the fields of patterns.
     pub after: &'a [Added<'a>],
     /// The name of the file that the lines come from.
     pub file_name: &'a str,
@@ -74,7 +74,6 @@ pub struct Layout<'a> {
 }
 
 impl Layout<'_> {
-    /// Returns whether a key of a pattern is written.
     pub(crate) fn chooses(&self, key: &str) -> bool
         ensures { result ≡ is_chosen (layout_value self.now).fields key.now }
     {

@@ -10,6 +10,8 @@
 //! let mut answers = LogAnswers::new(alloc, &patterns, layout)?;
 //! answer_lines(alloc, &mut answers, &mut input, &mut output)?;
 //! ```
+//!
+//! Where a call has no section `# Errors`, its error is a failed allocation.
 #![tactic(auto)]
 
 mod answer_writer;
@@ -24,6 +26,7 @@ mod pairs;
 mod plan;
 mod planned;
 mod record;
+mod searched_lines;
 mod searches;
 mod start_pattern;
 mod value_counts;
@@ -35,6 +38,7 @@ pub use layout::{Added, Addition, Failure, Layout, Lines, OutputFormat};
 pub use log_answers::LogAnswers;
 pub use plan::{Clash, Plan, PlanError, SharedKey};
 pub use record::header_of;
+pub use searched_lines::{Flow, FoundLine, LineTask, SearchedLines};
 pub use searches::{LineMatch, NamedPattern, Searches};
 pub use start_pattern::StartPattern;
 pub use value_counts::{Counted, ValueCounts};

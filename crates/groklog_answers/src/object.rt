@@ -14,7 +14,6 @@ use crate::planned::write_planned;
 use json::Writer;
 use std::alloc::{AllocError, Global};
 
-/// Writes a number in decimal.
 #[tactic(auto, using(crate::proofs::NumeralsAreJson::numeral_is_decimal))]
 fn write_decimal(writer: &mut Writer, number: u64) -> Result<(), AllocError>
     ensures value { OnOk result (writer.new.tokens ≡ writer.old.tokens
@@ -24,7 +23,6 @@ fn write_decimal(writer: &mut Writer, number: u64) -> Result<(), AllocError>
     writer.u64(number)
 }
 
-/// Writes a member whose value is a string.
 pub(crate) fn write_string(writer: &mut Writer, key: &str, text: &str) -> Result<(), AllocError>
     ensures member { OnOk result (writer.new.tokens ≡ writer.old.tokens
         ++ flat_map member_tokens ((key.now, string text.now) ∷ [])) }
@@ -34,7 +32,6 @@ pub(crate) fn write_string(writer: &mut Writer, key: &str, text: &str) -> Result
     writer.string(text)
 }
 
-/// Writes a member whose value is a number.
 pub(crate) fn write_number(writer: &mut Writer, key: &str, number: u64) -> Result<(), AllocError>
     ensures member { OnOk result (writer.new.tokens ≡ writer.old.tokens
         ++ flat_map member_tokens ((key.now, Json.number (numeral number)) ∷ [])) }
@@ -44,7 +41,7 @@ pub(crate) fn write_number(writer: &mut Writer, key: &str, number: u64) -> Resul
     write_decimal(writer, number)
 }
 
-/// Writes a member that is added to the fields of a line. If the line hasn't it, writes nothing.
+/// Writes nothing if the line doesn't have what is added.
 fn write_added(
     writer: &mut Writer,
     line: &AnsweredLine<'_>,
@@ -65,7 +62,6 @@ fn write_added(
     }
 }
 
-/// Writes the members that are added to the fields of a line.
 #[tactic(auto, using(crate::proofs::TokensOfMembers::tokens_append))]
 fn write_additions(
     writer: &mut Writer,
@@ -82,8 +78,6 @@ fn write_additions(
     Ok(())
 }
 
-/// Writes a pair of a match. If the layout doesn't choose the key, or drops fields with an empty value and
-/// this is one, writes nothing.
 fn write_pair(
     alloc: Global,
     writer: &mut Writer,
@@ -102,7 +96,6 @@ fn write_pair(
     found.write_value(alloc, writer, key, value)
 }
 
-/// Writes the pairs of a match.
 #[tactic(auto, using(crate::proofs::TokensOfMembers::tokens_append))]
 fn write_pairs(alloc: Global, writer: &mut Writer, found: &Found<'_>) -> Result<(), AllocError>
     ensures members { OnOk result (writer.new.tokens ≡ writer.old.tokens
@@ -115,7 +108,6 @@ fn write_pairs(alloc: Global, writer: &mut Writer, found: &Found<'_>) -> Result<
     Ok(())
 }
 
-/// Writes the fields of a match: those of the plan, if the pattern has one, and otherwise the pairs.
 fn write_found(alloc: Global, writer: &mut Writer, found: &Found<'_>) -> Result<(), AllocError>
     ensures members { OnOk result (writer.new.tokens ≡ writer.old.tokens ++ flat_map member_tokens
         (fields_by (found_layout found.now) (found_text found.now) (found_text found.now).plan)) }
@@ -127,7 +119,6 @@ fn write_found(alloc: Global, writer: &mut Writer, found: &Found<'_>) -> Result<
     }
 }
 
-/// Writes the member with the tag of Logstash for lines that have no fields.
 #[tactic(auto, using(crate::proofs::TokensOfMembers::four_tokens))]
 fn write_tag_of_failure(writer: &mut Writer) -> Result<(), AllocError>
     ensures member { OnOk result (writer.new.tokens ≡ writer.old.tokens
@@ -140,7 +131,6 @@ fn write_tag_of_failure(writer: &mut Writer) -> Result<(), AllocError>
     writer.end_array()
 }
 
-/// Writes that member if `tags_failures` is set, and otherwise nothing.
 fn write_failure_tag(writer: &mut Writer, tags_failures: bool) -> Result<(), AllocError>
     ensures member { OnOk result (writer.new.tokens ≡ writer.old.tokens
         ++ flat_map member_tokens (failure_tag tags_failures)) }
@@ -153,8 +143,6 @@ fn write_failure_tag(writer: &mut Writer, tags_failures: bool) -> Result<(), All
     }
 }
 
-/// Writes the fields of a line. If it has none, writes the tag of Logstash for that if the layout asks for
-/// it.
 fn write_fields(
     alloc: Global,
     writer: &mut Writer,

@@ -12,7 +12,6 @@ use grok::MatchesRef;
 use grok_lines::append_pair;
 use std::alloc::AllocError;
 
-/// Appends a `KEY=VALUE` line for each of these that the line has.
 fn append_additions(
     text: &mut Vec<u8>,
     line: &AnsweredLine<'_>,
@@ -29,8 +28,6 @@ fn append_additions(
     Ok(())
 }
 
-/// Appends a `KEY=VALUE` line for a pair of a match. If the layout drops fields with an empty value,
-/// appends nothing for one.
 fn append_field(
     text: &mut Vec<u8>,
     layout: &Layout<'_>,
@@ -46,7 +43,6 @@ fn append_field(
     append_pair(text, key, value)
 }
 
-/// Appends a `KEY=VALUE` line for each pair of a match.
 fn append_all(
     text: &mut Vec<u8>,
     layout: &Layout<'_>,
@@ -61,7 +57,6 @@ fn append_all(
     Ok(())
 }
 
-/// Appends a `KEY=VALUE` line for each of these keys that has a value in a match.
 fn append_chosen(
     text: &mut Vec<u8>,
     layout: &Layout<'_>,
@@ -81,7 +76,6 @@ fn append_chosen(
     Ok(())
 }
 
-/// Appends a `KEY=VALUE` line for each pair of a match that the layout chooses, in its order.
 fn append_pairs(
     text: &mut Vec<u8>,
     layout: &Layout<'_>,
@@ -98,7 +92,6 @@ fn append_pairs(
     }
 }
 
-/// Appends a `KEY=VALUE` line for each field of a line, if it has any.
 fn append_fields(text: &mut Vec<u8>, line: &AnsweredLine<'_>) -> Result<(), AllocError>
     ensures { OnOk result (text.new.items ≡ text.old.items
         ++ field_lines (answered_text line.now).layout (answered_text line.now).found) }
@@ -110,10 +103,6 @@ fn append_fields(text: &mut Vec<u8>, line: &AnsweredLine<'_>) -> Result<(), Allo
 }
 
 /// Appends what `--pairs` writes for a line: a line `KEY=VALUE` for each value, and an empty line.
-///
-/// # Errors
-///
-/// If an allocation fails.
 pub fn append_answer(text: &mut Vec<u8>, line: &AnsweredLine<'_>) -> Result<(), AllocError>
     ensures { OnOk result (text.new.items ≡ text.old.items ++ answer_lines (answered_text line.now)) }
 {

@@ -11,8 +11,8 @@ use std::alloc::{AllocError, Global};
 use std::cmp::Ordering;
 use std::mem;
 
-/// The most names that a key may have, as [`Plan::new`] says. The readers of JSON take objects that
-/// are nested so deep.
+/// The most names that a key may have, as [`Plan::new`] says. Readers of JSON take objects that are nested
+/// this deep.
 const MOST_NAMES: usize = 100;
 
 /// A key of a pattern, with the key that its values are written under. These differ if several
@@ -33,7 +33,6 @@ pub struct Field<'k> {
 }
 
 impl<'k> Field<'k> {
-    /// Returns the first of the names that lead to the member.
     fn first_name(&self) -> &'k str
         ensures { result.now ≡ first_of (field_text self.now) }
     {
@@ -84,15 +83,12 @@ struct Entry<'k> {
     index: usize,
 }
 
-/// Returns whether a text without `]` is a name: it isn't empty, and it has no `[`.
 fn is_name(text: &str) -> bool
     ensures { result ≡ is_name text.now }
 {
     !text.is_empty() && !text.as_bytes().contains(&b'[')
 }
 
-/// Returns the name in brackets that a text begins with, and what follows it, or `None` if the text
-/// begins otherwise.
 fn first_name(text: &str) -> Option<(&str, &str)>
     ensures { option_map (λ found. (found.0.now, found.1.now)) result ≡ first_name text.now }
 {
@@ -109,8 +105,6 @@ fn first_name(text: &str) -> Option<(&str, &str)>
     }
 }
 
-/// Returns the names `a`, `b` and so on of a key that is `[a][b]..`, or `None` if it has another form
-/// or more than `MOST_NAMES` names.
 fn names_in<'k>(alloc: Global, key: &'k str) -> Result<Option<Vec<&'k str>>, AllocError>
     ensures { IfOk result (λ names. option_map (λ names. names_of names.items) names
         ≡ names_within most_names key.now) }
@@ -130,8 +124,6 @@ fn names_in<'k>(alloc: Global, key: &'k str) -> Result<Option<Vec<&'k str>>, All
     Ok(None)
 }
 
-/// Returns the names that lead to the member for a key: those in its brackets if objects are nested and
-/// it is `[a][b]..`, and otherwise the key itself.
 fn key_names<'k>(alloc: Global, key: &'k str, is_nested: bool) -> Result<Vec<&'k str>, AllocError>
     ensures { IfOk result (λ names. names_of names.items ≡ key_names is_nested key.now) }
 {
@@ -141,7 +133,6 @@ fn key_names<'k>(alloc: Global, key: &'k str, is_nested: bool) -> Result<Vec<&'k
     Vec::from_slice(alloc, &[key])
 }
 
-/// Returns the keys with their names, in reading order.
 fn entries_of<'k>(
     alloc: Global,
     keys: &[SharedKey<'k>],
@@ -162,7 +153,7 @@ fn entries_of<'k>(
     Ok(entries)
 }
 
-/// Returns with how many names both lists begin.
+/// Returns how many names both lists have in common at their beginnings.
 pub(crate) fn shared_len(names: &[&str], others: &[&str]) -> usize
     ensures value { result ≡ shared_len (names_of names.now) (names_of others.now) }
     ensures within { result ≤ length names.now }
@@ -179,8 +170,7 @@ pub(crate) fn shared_len(names: &[&str], others: &[&str]) -> usize
     names.len()
 }
 
-/// Returns whether the names lead to a member that comes before that of the other names, neither of
-/// which is inside the other one.
+/// Neither member is inside the other one.
 fn comes_before(names: &[&str], others: &[&str]) -> bool
     ensures { result ≡ comes_before (names_of names.now) (names_of others.now) }
 {
@@ -204,8 +194,6 @@ impl<'k> Entry<'k> {
         by_len.then(self.index.cmp(&other.index))
     }
 
-    /// Returns whether this entry may come right before the next one: its member does, or both have the
-    /// same base, and this one is read first.
     fn is_before(&self, next: &Entry<'_>) -> bool
         ensures { result ≡ is_before (entry_text self.now) (entry_text next.now) }
     {
@@ -213,7 +201,6 @@ impl<'k> Entry<'k> {
             || (self.base == next.base && self.index < next.index)
     }
 
-    /// Returns the field for this entry, which has its values from these keys.
     fn field(&self, alloc: Global, keys: Vec<&'k str>) -> Result<Field<'k>, AllocError>
         ensures { IfOk result (λ field. field_text field
             ≡ field_of self.now.base.now (names_of self.now.names.items) (names_of keys.entry.items)) }
@@ -236,7 +223,6 @@ impl<'k> Entry<'k> {
     }
 }
 
-/// Returns whether the next entry, if there is one, has this base.
 fn continues(base: &str, next: Option<&Entry<'_>>) -> bool
     ensures { result ≡ continues base.now (option_to_list (option_map (λ next. entry_text next.now) next.entry)) }
 {
@@ -246,7 +232,6 @@ fn continues(base: &str, next: Option<&Entry<'_>>) -> bool
     }
 }
 
-/// Returns the fields for these entries, with one for those that follow one another with one base.
 fn gather<'k>(alloc: Global, entries: &[Entry<'k>]) -> Result<Vec<Field<'k>>, AllocError>
     ensures { IfOk result (λ fields. map field_text fields.items ≡ gathered [] (map entry_text entries.now)) }
 {
@@ -262,7 +247,6 @@ fn gather<'k>(alloc: Global, entries: &[Entry<'k>]) -> Result<Vec<Field<'k>>, Al
     Ok(fields)
 }
 
-/// Returns whether the entry may come right before the next one, if there is one.
 fn may_precede(entry: &Entry<'_>, next: Option<&Entry<'_>>) -> bool
     ensures { result ≡ true → MayPrecede (entry_text entry.now) (option_to_list (option_map (λ next. entry_text next.now) next.entry)) }
 {
@@ -272,8 +256,6 @@ fn may_precede(entry: &Entry<'_>, next: Option<&Entry<'_>>) -> bool
     }
 }
 
-/// Returns the index of the first entry that may not come right before the next one, or `None` if
-/// there is none.
 fn first_clash(entries: &[Entry<'_>]) -> Option<usize>
     ensures { IfNone result (AreInOrder (map entry_text entries.now)) }
 {
@@ -285,7 +267,6 @@ fn first_clash(entries: &[Entry<'_>]) -> Option<usize>
     None
 }
 
-/// Returns the base of the entry with this index, or the empty text if there is none.
 fn base_at<'k>(entries: &[Entry<'k>], index: usize) -> &'k str {
     match entries.get(index) {
         Some(entry) => entry.base,
@@ -322,8 +303,7 @@ impl<'k> Plan<'k> {
         Ok(Plan { fields })
     }
 
-    /// Returns whether the object itself has a member with this name, of one of these fields or with
-    /// their objects.
+    /// Returns whether the outermost object has a member with this name, be it a field or an object with fields.
     pub fn has_member(&self, name: &str) -> bool
         ensures { result ≡ list_any (λ field. bytes_eq (first_of field) name.now) (plan_text self.now) }
     {

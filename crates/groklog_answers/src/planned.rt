@@ -17,7 +17,6 @@ use json::Writer;
 use std::alloc::{AllocError, Global};
 
 impl Found<'_> {
-    /// Returns the value of a key, or `None` if it has none or it is left out.
     fn value(&self, key: &str) -> Option<&str>
         ensures { option_map text_of result ≡ kept_value self.now.layout.now.drops_empty
             (value_of (borrowed_keys self.now.matches) (borrowed_captures self.now.matches) key.now) }
@@ -29,7 +28,6 @@ impl Found<'_> {
         Some(value)
     }
 
-    /// Returns 1 if the key has a value that is written, and otherwise 0.
     fn count_one(&self, key: &str) -> usize
         ensures value { result ≡ length (key_values (found_layout self.now) (found_text self.now) key.now) }
         ensures one { result ≤ 1 }
@@ -40,7 +38,6 @@ impl Found<'_> {
         }
     }
 
-    /// Returns how many of these keys have a value that is written.
     fn count(&self, keys: &[&str]) -> usize
         ensures { result ≡ length (flat_map (key_values (found_layout self.now) (found_text self.now)) (names_of keys.now)) }
     {
@@ -52,7 +49,6 @@ impl Found<'_> {
     }
 }
 
-/// Writes the value of a key, unless it has none or it is left out.
 fn write_key_value(
     alloc: Global,
     writer: &mut Writer,
@@ -69,7 +65,6 @@ fn write_key_value(
     found.write_value(alloc, writer, key, value)
 }
 
-/// Writes the values of these keys, in their order.
 #[tactic(auto, using(crate::proofs::PlannedTokens::values_append))]
 fn write_values(
     alloc: Global,
@@ -87,8 +82,6 @@ fn write_values(
     Ok(())
 }
 
-/// Writes the values of these keys, of which `count` are written: one as itself, and several as an
-/// array.
 fn write_one_or_array(
     alloc: Global,
     writer: &mut Writer,
@@ -110,7 +103,6 @@ fn write_one_or_array(
     writer.end_array()
 }
 
-/// Closes these objects.
 fn close_objects(writer: &mut Writer, names: &[&str]) -> Result<(), AllocError>
     ensures tokens { OnOk result (writer.new.tokens ≡ writer.old.tokens ++ closing (names_of names.now)) }
     ensures before { writer.new.before ≡ writer.old.before }
@@ -121,7 +113,6 @@ fn close_objects(writer: &mut Writer, names: &[&str]) -> Result<(), AllocError>
     Ok(())
 }
 
-/// Opens objects with these names, each in the one before it.
 fn open_objects(writer: &mut Writer, names: &[&str]) -> Result<(), AllocError>
     ensures tokens { OnOk result (writer.new.tokens ≡ writer.old.tokens ++ opening (names_of names.now)) }
     ensures before { writer.new.before ≡ writer.old.before }
@@ -133,8 +124,6 @@ fn open_objects(writer: &mut Writer, names: &[&str]) -> Result<(), AllocError>
     Ok(())
 }
 
-/// Closes and opens objects, so that those with the names `parents` are open in place of those with
-/// the names `opened`.
 fn move_to(writer: &mut Writer, opened: &[&str], parents: &[&str]) -> Result<(), AllocError>
     ensures tokens { OnOk result (writer.new.tokens ≡ writer.old.tokens
         ++ moving (names_of opened.now) (names_of parents.now)) }
@@ -145,8 +134,6 @@ fn move_to(writer: &mut Writer, opened: &[&str], parents: &[&str]) -> Result<(),
     open_objects(writer, parents.split_at(shared).1)
 }
 
-/// Returns the names of the objects that are open after this field was written, or no names if none
-/// was.
 fn opened_after<'f>(last: Option<&'f Field<'f>>) -> &'f [&'f str]
     ensures { names_of result.now ≡ opened_after (option_map (λ field. field_text field.now) last.entry) }
 {
@@ -156,8 +143,8 @@ fn opened_after<'f>(last: Option<&'f Field<'f>>) -> &'f [&'f str]
     }
 }
 
-/// Writes a field, unless none of its keys has a value that is written. `last` is the field that was
-/// written last, whose objects are open, if there is one. Returns whether the field was written.
+/// `last` is the field that was written last, whose objects are open, if there is one. Returns whether the
+/// field was written.
 fn write_field<'f>(
     alloc: Global,
     writer: &mut Writer,

@@ -13,7 +13,6 @@ use std::alloc::{AllocError, Global};
 /// The values of a record so far.
 type Values<'v> = Vec<&'v [u8]>;
 
-/// Writes a record to a text of its own.
 fn write_record(alloc: Global, values: &[&[u8]]) -> Result<Vec<u8>, Error>
     ensures { IfOk result (λ text. text.items ≡ row_text default_writer (map (λ value. value.now) values.now)) }
 {
@@ -26,10 +25,6 @@ fn write_record(alloc: Global, values: &[&[u8]]) -> Result<Vec<u8>, Error>
 }
 
 /// Appends a record.
-///
-/// # Errors
-///
-/// If an allocation fails.
 pub fn append_record(alloc: Global, text: &mut Vec<u8>, values: &[&[u8]]) -> Result<(), AllocError>
     ensures { OnOk result (text.new.items ≡ text.old.items
         ++ row_text default_writer (map (λ value. value.now) values.now)) }
@@ -42,7 +37,6 @@ pub fn append_record(alloc: Global, text: &mut Vec<u8>, values: &[&[u8]]) -> Res
 }
 
 impl AnsweredLine<'_> {
-    /// Returns the value of a key. It is empty if the line has none.
     fn value(&self, name: &str) -> &str
         ensures { result.now ≡ value_or_empty (value_in (answered_text self.now).found) name.now }
     {
@@ -52,7 +46,6 @@ impl AnsweredLine<'_> {
         }
     }
 
-    /// Returns the value of what is added. It is empty if the line hasn't it.
     fn added_value(&self, added: &Added<'_>) -> &str
         ensures { result.now ≡ added_value (answered_text self.now) (added_pair added.now) }
     {
@@ -60,7 +53,6 @@ impl AnsweredLine<'_> {
     }
 }
 
-/// Adds the values of the chosen keys in a line, with an empty value for each that it hasn't.
 fn add_values<'v>(
     values: &mut Values<'v>,
     line: &'v AnsweredLine<'_>,
@@ -75,7 +67,6 @@ fn add_values<'v>(
     Ok(())
 }
 
-/// Adds the values of what is added to the fields of a line, with an empty value for what it hasn't.
 fn add_additions<'v>(
     values: &mut Values<'v>,
     line: &'v AnsweredLine<'_>,
@@ -90,7 +81,6 @@ fn add_additions<'v>(
     Ok(())
 }
 
-/// Adds the keys of what is added to the fields of a line.
 fn add_keys<'v>(values: &mut Values<'v>, additions: &[Added<'v>]) -> Result<(), AllocError>
     ensures { OnOk result (map (λ value. value.now) values.new.items ≡ map (λ value. value.now) values.old.items
         ++ map (λ added. added.1) (map added_pair additions.now)) }
@@ -101,7 +91,6 @@ fn add_keys<'v>(values: &mut Values<'v>, additions: &[Added<'v>]) -> Result<(), 
     Ok(())
 }
 
-/// Adds the names of columns.
 pub(crate) fn add_names<'v>(values: &mut Values<'v>, names: &[&'v str]) -> Result<(), AllocError>
     ensures { OnOk result (map (λ value. value.now) values.new.items ≡ map (λ value. value.now) values.old.items
         ++ map (λ name. name.now) names.now) }
@@ -113,7 +102,6 @@ pub(crate) fn add_names<'v>(values: &mut Values<'v>, names: &[&'v str]) -> Resul
 }
 
 impl<'a> Layout<'a> {
-    /// Returns the keys of patterns that have columns in a record.
     fn columns(&self) -> &'a [&'a str]
         ensures { map (λ name. name.now) result.now ≡ columns_of (layout_value self.now) }
     {
@@ -122,10 +110,6 @@ impl<'a> Layout<'a> {
 }
 
 /// Appends the record of a line.
-///
-/// # Errors
-///
-/// If an allocation fails.
 pub fn append_answer(
     alloc: Global,
     text: &mut Vec<u8>,
@@ -141,10 +125,6 @@ pub fn append_answer(
 }
 
 /// Returns the record that names the columns of the other ones.
-///
-/// # Errors
-///
-/// If an allocation fails.
 pub fn header_of(alloc: Global, layout: &Layout<'_>) -> Result<Vec<u8>, AllocError>
     ensures { IfOk result (λ text. text.items ≡ header_record (layout_value layout.now)) }
 {

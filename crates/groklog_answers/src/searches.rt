@@ -40,8 +40,7 @@ struct Search<'p> {
     matched: u64,
 }
 
-// This is written by hand because the kit can't prove the drop of a list of these if `Drop` is
-// derived.
+// Written by hand, because the kit can't prove the drop of a list of these if `Drop` is derived.
 impl Drop for Search<'_> {
     fn drop(self) {
         let Search {
@@ -64,11 +63,6 @@ pub struct Searches<'p> {
     broken: u64,
 }
 
-/// Returns `number + 1`.
-///
-/// # Errors
-///
-/// If `number` is `u64::MAX`.
 fn number_after(number: u64) -> Result<u64, AllocError>
     ensures ok { number < u64.MAX → result ≡ Ok (number + 1) }
     ensures err { number ≡ u64.MAX → IsErr result }
@@ -82,7 +76,6 @@ fn number_after(number: u64) -> Result<u64, AllocError>
 }
 
 impl<'p> Search<'p> {
-    /// Searches the line for this pattern, and returns whether it matches.
     #[inline(always)]
     fn read(&mut self, line: &str) -> Result<bool, AllocError>
         ensures is_match { IfOk result (λ is_match. is_match ≡ is_some (match_of (searched self.old) line.now)) }
@@ -98,7 +91,6 @@ impl<'p> Search<'p> {
         Ok(true)
     }
 
-    /// Returns the match that `read` found in this line.
     #[inline(always)]
     fn last_match<'m>(&'m self, index: usize, line: &'m str) -> LineMatch<'m>
     where
@@ -116,8 +108,7 @@ impl<'p> Search<'p> {
     }
 }
 
-/// Returns the index of the first of these patterns that matches the line, or `None` if none does. Counts
-/// the line for that pattern.
+/// Counts the line for the pattern that matches it first.
 #[inline(always)]
 fn find_first(searches: &mut [Search<'_>], line: &str) -> Result<Option<usize>, AllocError>
     ensures index { IfOk result (λ index. index ≡ first_index (map searched searches.old) line.now) }
@@ -136,7 +127,6 @@ fn find_first(searches: &mut [Search<'_>], line: &str) -> Result<Option<usize>, 
     Ok(None)
 }
 
-/// Returns the match of the search with this index, which is that of the first pattern that matches.
 #[inline(always)]
 fn match_at<'p, 'm>(searches: &'m [Search<'p>], index: usize, line: &'m str) -> LineMatch<'m>
 where
@@ -154,10 +144,6 @@ impl<'p> Searches<'p> {
     ghost use Rattle.groklog_answers.specs.contracts.searches.Searches.{the_row};
 
     /// Makes the searches of these patterns. The first line has the number 1.
-    ///
-    /// # Errors
-    ///
-    /// If an allocation fails.
     pub fn new(alloc: Global, patterns: &[NamedPattern<'p>]) -> Result<Searches<'p>, AllocError>
         ensures patterns { IfOk result (λ searches. patterns_in searches ≡ map pattern_text patterns.now) }
         ensures number { IfOk result (λ searches. next_number_in searches ≡ 1) }
@@ -180,11 +166,8 @@ impl<'p> Searches<'p> {
     }
 
     /// Numbers and counts the line, and returns the match of the first pattern that matches it, or
-    /// `None` if none does. The match is borrowed until the next line.
-    ///
-    /// # Errors
-    ///
-    /// If an allocation fails. The line has no number then.
+    /// `None` if none does. The match is borrowed until the next line. If an allocation fails, the line has
+    /// no number.
     #[inline(always)]
     pub fn find<'m>(&'m mut self, line: &'m str) -> Result<Option<LineMatch<'m>>, AllocError>
     where
@@ -227,7 +210,7 @@ impl<'p> Searches<'p> {
         Ok(())
     }
 
-    /// Gives this many lines a number that aren't searched.
+    /// Numbers this many lines that aren't searched.
     ///
     /// # Errors
     ///
@@ -246,10 +229,6 @@ impl<'p> Searches<'p> {
     }
 
     /// Returns how many lines each pattern was the first to match, in the order of the patterns.
-    ///
-    /// # Errors
-    ///
-    /// If an allocation fails.
     pub fn matched(&self, alloc: Global) -> Result<Vec<u64>, AllocError>
         ensures { IfOk result (λ counts. counts.items ≡ matched_in self.now) }
     {

@@ -12,7 +12,7 @@ pub struct StartPattern<'p> {
     matcher: Matcher<'p>,
 }
 
-// This is written by hand for the same reason as the drop of the engine: a derived one is proved again in each crate.
+// Written by hand, since a derived drop would be proved again in each crate that drops the pattern.
 impl Drop for StartPattern<'_> {
     fn drop(self) {
         let StartPattern { matcher: _matcher } = self;
@@ -21,10 +21,6 @@ impl Drop for StartPattern<'_> {
 
 impl<'p> StartPattern<'p> {
     /// Makes the starts of events: the lines in which this pattern is found.
-    ///
-    /// # Errors
-    ///
-    /// If an allocation fails.
     pub fn new(pattern: &'p Pattern) -> Result<StartPattern<'p>, AllocError>
         ensures { IfOk result (λ start. starts_of start ≡ is_found (finds_of pattern.now.engine)) }
     {

@@ -31,7 +31,6 @@ pub struct Counted<'c> {
     pub count: u64,
 }
 
-/// Returns a value with its count.
 fn counted_of<'c>(value: &'c String, count: &u64) -> Counted<'c>
     ensures pair { counted_pair result ≡ (string_bytes value.now, count.now) }
     ensures fits { result.count < 2 ^ 64 }
@@ -40,7 +39,6 @@ fn counted_of<'c>(value: &'c String, count: &u64) -> Counted<'c>
     Counted { value, count }
 }
 
-/// Appends a value and its count as a JSON object on a line of its own, and returns the whole text.
 #[tactic(auto, using(crate::proofs::TokensOfMembers::object_in_two_parts))]
 fn write_object(text: Vec<u8>, counted: Counted<'_>) -> Result<Vec<u8>, AllocError>
     ensures { IfOk result (λ written. written.items ≡ text.items ++ counted_object (counted_pair counted.entry)) }
@@ -55,7 +53,6 @@ fn write_object(text: Vec<u8>, counted: Counted<'_>) -> Result<Vec<u8>, AllocErr
     Ok(text)
 }
 
-/// Appends a value and its count as a record.
 fn append_counted(
     alloc: Global,
     text: &mut Vec<u8>,
@@ -69,7 +66,6 @@ fn append_counted(
     append_record(alloc, text, &[value.as_bytes(), digits.as_bytes()])
 }
 
-/// Returns all values as JSON objects.
 fn objects_of(alloc: Global, all: &[Counted<'_>]) -> Result<Vec<u8>, AllocError>
     ensures { IfOk result (λ text. text.items ≡ flat_map counted_object (map counted_pair all.now)) }
 {
@@ -80,7 +76,6 @@ fn objects_of(alloc: Global, all: &[Counted<'_>]) -> Result<Vec<u8>, AllocError>
     Ok(text)
 }
 
-/// Returns all values as records, after a header.
 fn records_of(alloc: Global, all: &[Counted<'_>]) -> Result<Vec<u8>, AllocError>
     ensures { IfOk result (λ text. text.items ≡ counts_text OutputFormat.Csv (map counted_pair all.now)) }
 {
@@ -92,7 +87,7 @@ fn records_of(alloc: Global, all: &[Counted<'_>]) -> Result<Vec<u8>, AllocError>
     Ok(text)
 }
 
-/// What stands around a list of values and its count.
+/// The texts that are written before, between and after a list of values and its count.
 #[derive(Clone, Copy)]
 struct ListFrame {
     before: &'static str,
@@ -100,7 +95,6 @@ struct ListFrame {
     after: &'static str,
 }
 
-/// Returns what stands around a list of values and its count in this format.
 fn frame_of(format: OutputFormat) -> ListFrame
     ensures { frame_text result ≡ frame_of format }
 {
@@ -118,7 +112,6 @@ fn frame_of(format: OutputFormat) -> ListFrame
     }
 }
 
-/// Returns a list of values, which was counted by its text, and its count as they are written.
 fn framed_list(alloc: Global, frame: ListFrame, counted: Counted<'_>) -> Result<String, AllocError>
     ensures { IfOk result (λ text. string_bytes text
         ≡ framed_list (frame_text frame) (counted_pair counted.entry)) }
@@ -130,8 +123,6 @@ fn framed_list(alloc: Global, frame: ListFrame, counted: Counted<'_>) -> Result<
     )
 }
 
-/// Returns the header of records with a column for each of these keys, and one for the count. JSON objects
-/// have none.
 fn list_header(alloc: Global, format: OutputFormat, keys: &[&str]) -> Result<Vec<u8>, AllocError>
     ensures { IfOk result (λ text. text.items ≡ list_header format (names_of keys.now)) }
 {
@@ -145,7 +136,6 @@ fn list_header(alloc: Global, format: OutputFormat, keys: &[&str]) -> Result<Vec
     Ok(text)
 }
 
-/// Appends all lists of values with their counts to a text, and returns it.
 fn append_lists(
     alloc: Global,
     text: Vec<u8>,
@@ -178,7 +168,6 @@ impl ValueCounts {
         }
     }
 
-    /// Counts a value that came before, and returns whether it did.
     fn note_again(&mut self, value: &str) -> bool
         ensures again { (count : ℕ) → count_of self.old value.now ≡ Some count
             → SetsCount self.old self.new value.now (one_more count) }
@@ -192,12 +181,9 @@ impl ValueCounts {
         true
     }
 
-    /// Counts a value. If there is no room for one that didn't come before, it is counted with all others
-    /// of that kind. No count grows past the greatest number of 64 bits.
-    ///
-    /// # Errors
-    ///
-    /// If an allocation fails. The value isn't counted then.
+    /// Counts a value. If there is no room for a value that didn't come before, it is counted with all others
+    /// of that kind. No count grows past the greatest number of 64 bits. If an allocation fails, the value
+    /// isn't counted.
     pub fn note(&mut self, value: &str) -> Result<(), AllocError>
         ensures again { OnOk result ((count : ℕ) → count_of self.old value.now ≡ Some count
             → SetsCount self.old self.new value.now (one_more count)) }
@@ -226,7 +212,6 @@ impl ValueCounts {
         self.others
     }
 
-    /// Returns the values with their counts, in the byte order of the values.
     fn listed(&self) -> Result<Vec<Counted<'_>>, AllocError>
         ensures values { IfOk result (λ all. map counted_pair all.items ≡ counted_values self.now) }
         ensures fits { IfOk result (λ all. All (λ counted. counted.count < 2 ^ 64) all.items) }
@@ -240,10 +225,6 @@ impl ValueCounts {
 
     /// Returns the values with their counts: those that came most often first, and of these the first
     /// in byte order.
-    ///
-    /// # Errors
-    ///
-    /// If an allocation fails.
     pub fn sorted(&self) -> Result<Vec<Counted<'_>>, AllocError>
         ensures { IfOk result (λ all. AreByCount self.now (map counted_pair all.items)) }
     {
@@ -254,10 +235,6 @@ impl ValueCounts {
 
     /// Returns the values with their counts as they are written: as JSON objects, or as records with a
     /// header. Those that came most often come first, and of these the first in byte order.
-    ///
-    /// # Errors
-    ///
-    /// If an allocation fails.
     pub fn text(&self, format: OutputFormat) -> Result<Vec<u8>, AllocError>
         ensures { IfOk result (λ text. (pairs : List (List ℕ × ℕ)) × AreByCount self.now pairs
             × (text.items ≡ counts_text format pairs)) }
@@ -268,12 +245,8 @@ impl ValueCounts {
             OutputFormat::Json | OutputFormat::Pairs => objects_of(self.alloc, &all),
         }
     }
-    /// Returns the same if the values of these keys were counted together, by their texts. A record has
-    /// a column for each key.
-    ///
-    /// # Errors
-    ///
-    /// If an allocation fails.
+    /// Returns the same as `text`, for lists of values that were counted by their texts. A record has a column
+    /// for each of these keys.
     pub fn text_of_lists(&self, format: OutputFormat, keys: &[&str]) -> Result<Vec<u8>, AllocError>
         ensures { IfOk result (λ text. (pairs : List (List ℕ × ℕ)) × AreByCount self.now pairs
             × (text.items ≡ lists_text format (names_of keys.now) pairs)) }

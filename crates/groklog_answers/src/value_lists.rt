@@ -20,10 +20,6 @@ pub struct KeyValue<'v> {
 }
 
 /// Returns these keys with their values in a match, or `None` if one of them has no value there.
-///
-/// # Errors
-///
-/// If an allocation fails.
 #[tactic(auto, using(crate::proofs::ValuesOfKeys::one_more_value, crate::proofs::ValuesOfKeys::no_value_of_key))]
 pub fn pairs_of_keys<'m>(
     alloc: Global,
@@ -44,7 +40,6 @@ pub fn pairs_of_keys<'m>(
     Ok(Some(pairs))
 }
 
-/// Writes a key and its value as a member of an object.
 fn write_member(writer: &mut Writer, pair: KeyValue<'_>) -> Result<(), AllocError>
     ensures member { OnOk result (writer.new.tokens ≡ writer.old.tokens
         ++ member_tokens (string_member (key_value pair.entry))) }
@@ -54,7 +49,6 @@ fn write_member(writer: &mut Writer, pair: KeyValue<'_>) -> Result<(), AllocErro
     writer.string(pair.value)
 }
 
-/// Writes keys and their values as members of an object.
 fn write_members(writer: &mut Writer, pairs: &[KeyValue<'_>]) -> Result<(), AllocError>
     ensures members { OnOk result (writer.new.tokens ≡ writer.old.tokens
         ++ flat_map member_tokens (map string_member (map key_value pairs.now))) }
@@ -66,7 +60,6 @@ fn write_members(writer: &mut Writer, pairs: &[KeyValue<'_>]) -> Result<(), Allo
     Ok(())
 }
 
-/// Returns the JSON object with these keys and values, in their order.
 #[tactic(auto, using(crate::proofs::TokensOfMembers::object_is))]
 fn object_of(alloc: Global, pairs: &[KeyValue<'_>]) -> Result<Vec<u8>, AllocError>
     ensures { IfOk result (λ text. text.items ≡ list_object (map key_value pairs.now)) }
@@ -78,7 +71,6 @@ fn object_of(alloc: Global, pairs: &[KeyValue<'_>]) -> Result<Vec<u8>, AllocErro
     Ok(writer.into_inner())
 }
 
-/// Returns these values as bytes.
 fn values_of<'v>(alloc: Global, pairs: &[KeyValue<'v>]) -> Result<Vec<&'v [u8]>, AllocError>
     ensures { IfOk result (λ values. map (λ value. value.now) values.items
         ≡ map (λ pair. pair.1) (map key_value pairs.now)) }
@@ -90,7 +82,6 @@ fn values_of<'v>(alloc: Global, pairs: &[KeyValue<'v>]) -> Result<Vec<&'v [u8]>,
     Ok(values)
 }
 
-/// Returns the record with these values, without the line feed at its end.
 fn record_of(alloc: Global, pairs: &[KeyValue<'_>]) -> Result<Vec<u8>, AllocError>
     ensures { IfOk result (λ text. text.items ≡ list_record (map key_value pairs.now)) }
 {
@@ -102,7 +93,6 @@ fn record_of(alloc: Global, pairs: &[KeyValue<'_>]) -> Result<Vec<u8>, AllocErro
     Ok(text)
 }
 
-/// Returns these keys and values as they are written.
 fn bytes_of(
     alloc: Global,
     format: OutputFormat,
@@ -118,10 +108,6 @@ fn bytes_of(
 
 /// Returns the text that stands for the values of several keys: a JSON object, or a record of
 /// comma-separated values without its line feed.
-///
-/// # Errors
-///
-/// If an allocation fails.
 pub fn list_text(
     alloc: Global,
     format: OutputFormat,

@@ -8,7 +8,6 @@ ghost use Rattle.groklog_answers.specs.Values.{is_json_number, is_json_integer, 
 use json::{Writer, is_number};
 use std::alloc::{AllocError, Global};
 
-/// Returns whether a text is a JSON number.
 #[tactic(auto, using(crate::proofs::NumbersAreJson::number_is_decided))]
 fn is_json_number(text: &str) -> bool
     ensures { result ≡ is_json_number text.now }
@@ -16,7 +15,6 @@ fn is_json_number(text: &str) -> bool
     is_number(text)
 }
 
-/// Returns whether a text has a byte that begins a fraction or an exponent of a JSON number.
 fn has_fraction_or_exponent(text: &str) -> bool
     ensures { result ≡ list_any begins_fraction_or_exponent text.now }
 {
@@ -25,14 +23,12 @@ fn has_fraction_or_exponent(text: &str) -> bool
         .any(|b| *b == b'.' || *b == b'e' || *b == b'E')
 }
 
-/// Returns whether a text is a JSON number that has neither a fraction nor an exponent.
 fn is_json_integer(text: &str) -> bool
     ensures { result ≡ is_json_integer text.now }
 {
     is_json_number(text) && !has_fraction_or_exponent(text)
 }
 
-/// Returns whether a text begins with a digit.
 fn begins_with_digit(text: &str) -> bool
     ensures { result ≡ begins_with_digit text.now }
 {
@@ -42,7 +38,6 @@ fn begins_with_digit(text: &str) -> bool
     }
 }
 
-/// Returns whether a text begins with a point, and then a digit.
 fn begins_with_fraction(text: &str) -> bool
     ensures { result ≡ begins_with_fraction text.now }
 {
@@ -61,14 +56,12 @@ fn ends_with_point(text: &str) -> bool
     len >= 2 && bytes[len - 2].is_ascii_digit() && bytes[len - 1] == b'.'
 }
 
-/// Returns whether a text begins with a digit, or with a point and a digit.
 fn begins_with_number(text: &str) -> bool
     ensures { result ≡ begins_with_number text.now }
 {
     begins_with_digit(text) || begins_with_fraction(text)
 }
 
-/// Returns a text without the `+` that it begins with, if a number follows.
 fn without_plus(text: &str) -> &str
     ensures { result.now ≡ without_plus text.now }
 {
@@ -78,7 +71,6 @@ fn without_plus(text: &str) -> &str
     if begins_with_number(rest) { rest } else { text }
 }
 
-/// Returns the sign of the JSON number that a text may be, and the text without its sign.
 fn split_sign(text: &str) -> (&'static str, &str)
     ensures sign { result.0.now ≡ json_sign text.now }
     ensures rest { result.1.now ≡ without_sign text.now }
@@ -89,7 +81,6 @@ fn split_sign(text: &str) -> (&'static str, &str)
     }
 }
 
-/// Returns a text without the zeros that it begins with, as far as a digit follows.
 fn without_zeros(text: &str) -> &str
     ensures { result.now ≡ without_zeros text.now }
 {
@@ -105,14 +96,12 @@ fn without_zeros(text: &str) -> &str
     }
 }
 
-/// Returns a zero if one is missing, and otherwise the empty text.
 fn zero_if(is_missing: bool) -> &'static str
     ensures { result.now ≡ zero_if is_missing }
 {
     if is_missing { "0" } else { "" }
 }
 
-/// Returns a text that isn't a JSON number as JSON would have it, if it is a number.
 fn other_form(alloc: Global, text: &str) -> Result<String, AllocError>
     ensures { IfOk result (λ form. string_bytes form
         ≡ json_sign text.now ++ with_both_sides (without_zeros (without_sign text.now))) }
@@ -134,16 +123,12 @@ pub fn asks_for_numbers(extract: &str) -> bool
     extract == "int" || extract == "float"
 }
 
-/// Returns whether a text in the form of JSON is written as a number if `extract` is the extract of
-/// its key.
 fn is_written_as_number(extract: &str, form: &str) -> bool
     ensures { result ≡ is_written_as_number (Some extract.now) form.now }
 {
     (extract == "int" && is_json_integer(form)) || (extract == "float" && is_json_number(form))
 }
 
-/// Writes a text as a number if `extract`, which is the extract of its key, asks for one and `form`,
-/// which is the text in the form of JSON, is one. Otherwise writes it as a string.
 #[tactic(auto, using(crate::proofs::NumbersAreJson::is_number, crate::proofs::NumbersAreJson::written_is_number))]
 fn write_form(writer: &mut Writer, extract: &str, form: &str, text: &str) -> Result<(), AllocError>
     ensures value { OnOk result (writer.new.tokens ≡ writer.old.tokens

@@ -35,7 +35,7 @@ IsPast limit (Faulty fault) = ⊥
 IsPast limit (Sized length groups nesting) = (limit.bytes < length) ⊎ (limit.groups < groups)
 IsPast limit TooLong = ⊤
 
--- `found` says whether it is past the limit.
+-- The `Bool` says whether the measured pattern is larger than the limit allows.
 abbrev pub IsPastOrNot : Limit → Measured → Bool → Type 0
 IsPastOrNot limit measured true = IsPast limit measured
 IsPastOrNot limit measured false = IsPast limit measured → ⊥
@@ -44,12 +44,13 @@ IsPastOrNot limit measured false = IsPast limit measured → ⊥
 abbrev pub IsTooLarge : Texts → Bool → Limit → PatternText → Type 0
 IsTooLarge definitions alias_only limit text = IsPast limit (measured_tree alias_only (tree_of definitions (string_bytes text.text)))
 
--- `found` says whether it is.
+-- The `Bool` says whether the expanded text of the pattern is larger than the limit allows.
 abbrev pub IsTooLargeOrNot : Texts → Bool → Limit → PatternText → Bool → Type 0
 IsTooLargeOrNot definitions alias_only limit text =
     IsPastOrNot limit (measured_tree alias_only (tree_of definitions (string_bytes text.text)))
 
--- It says why a pattern isn't compiled: `is_too_large` holds, or `is_refused` holds, or an allocation failed.
+-- The `Refusal` is the reason why a pattern isn't compiled: `is_too_large` holds, or `is_refused` holds, or an allocation
+-- failed.
 abbrev pub IsRefusal : (is_too_large is_refused : Type 0) → Refusal → Type 0
 IsRefusal is_too_large is_refused (TooLarge pattern) = is_too_large
 IsRefusal is_too_large is_refused (Invalid pattern) = is_refused

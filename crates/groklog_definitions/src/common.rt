@@ -6,10 +6,6 @@ use common_definitions::{LineFormat, definition_groups, line_formats};
 use std::alloc::{AllocError, Global};
 
 /// Appends the common definitions to `found`.
-///
-/// # Errors
-///
-/// If an allocation fails.
 pub fn add_common_definitions(found: &mut Vec<Definition<'_>>) -> Result<(), AllocError> {
     for group in definition_groups() {
         for line in group.split('\n') {
@@ -53,10 +49,6 @@ fn push_formats(alloc: Global, lines: &mut String) -> Result<(), AllocError> {
 /// Returns the common definitions whose names contain `text`, in upper or lower case, as the lines
 /// of a file of definitions. If `text` is empty, these are all of them, and before them come the formats of
 /// whole lines as comments.
-///
-/// # Errors
-///
-/// If an allocation fails.
 pub fn list_common_definitions(alloc: Global, text: &str) -> Result<String, AllocError> {
     let mut wanted = String::from_str(alloc, text)?;
     // The names of the common definitions have no lower-case letters.

@@ -38,8 +38,6 @@ impl<T: Drop> From<AllocFailed<T>> for Refusal<'_> {
     }
 }
 
-/// Returns whether the expanded text of a pattern has no structural fault and more bytes, or more groups of
-/// placeholders, than the library takes.
 #[tactic(auto, using(crate::proofs::MeasuresDecide::carried))]
 fn is_too_large(
     library: &Library<'_>,

@@ -7,14 +7,12 @@ ghost use Rattle.groklog_definitions.specs.DefinitionTexts.{is_blank, without_bl
 
 use grok::parser::split_name;
 
-/// Returns whether the byte is a space or a tab.
 fn is_blank(b: u8) -> bool
     ensures { result ≡ is_blank b }
 {
     b == b' ' || b == b'\t'
 }
 
-/// Returns how many blanks a text begins with.
 fn blanks_len(text: &[u8]) -> usize
     ensures { result ≡ prefix_len is_blank text.now }
 {
@@ -30,15 +28,12 @@ pub fn skip_blanks(text: &str) -> &str
     rest
 }
 
-/// Returns whether a text begins with `=`.
 fn begins_with_equals(text: &str) -> bool
     ensures { result ≡ begins_with equals_sign text.now }
 {
     text.starts_with('=')
 }
 
-/// Returns the definition in `text`, which is what follows a name and a blank: the text after any
-/// further blanks. Returns `None` if that begins with `=`.
 fn definition_after_blanks(text: &str) -> Option<&str>
     ensures { option_map (λ definition. definition.now) result ≡ definition_after_blanks text.now }
 {
@@ -50,9 +45,6 @@ fn definition_after_blanks(text: &str) -> Option<&str>
     }
 }
 
-/// Returns the definition in `text`, which is what follows a name: the text after `=`, or the text
-/// after one or more blanks. Returns `None` if `text` begins with another character, if it is empty,
-/// or if `=` comes after the blanks.
 #[tactic(auto, using(crate::proofs::FirstCharacterDecides::texts_after_names))]
 fn definition_after(text: &str) -> Option<&str>
     ensures { option_map (λ definition. definition.now) result ≡ definition_after text.now }
@@ -79,7 +71,6 @@ pub fn read_definition(text: &str) -> Option<(&str, &str)>
     Some((name, definition))
 }
 
-/// Returns whether a text begins with blanks, of which there is at least one, and `=`.
 fn is_spaced(text: &str) -> bool
     ensures { result ≡ is_spaced text.now }
 {

@@ -45,13 +45,11 @@ pub struct Definition<'a> {
     pub origin: Origin<'a>,
 }
 
-/// Returns a line without the carriage return at its end.
 fn without_return(line: &str) -> &str {
     line.strip_suffix('\r').unwrap_or(line)
 }
 
-/// Returns whether a line is skipped because it is a comment or empty. The line has no blanks at
-/// its start.
+/// Comments and empty lines are skipped. The line has no blanks at its start.
 fn is_skipped(line: &str) -> bool {
     line.is_empty() || line.starts_with('#')
 }
@@ -65,10 +63,6 @@ pub fn without_mark(text: &str) -> &str {
 /// Appends the definitions in the text of a file to `found`. If a line is neither a definition nor
 /// skipped, stops there, and returns where the line is, and the line without the blanks that it
 /// begins with.
-///
-/// # Errors
-///
-/// If an allocation fails.
 pub fn read_file<'a>(
     found: &mut Vec<Definition<'a>>,
     file: &'a str,

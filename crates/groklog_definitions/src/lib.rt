@@ -8,6 +8,8 @@
 //! let texts = patterns_of(alloc, &["%{IP:client} %{WORD:verb}"])?;
 //! let patterns = compile_all(alloc, &library, &texts, true)?;
 //! ```
+//!
+//! Where a call has no section `# Errors`, its error is a failed allocation.
 #![tactic(auto)]
 
 mod common;
@@ -21,5 +23,5 @@ pub use common::{common_definition, list_common_definitions};
 pub use compiled::{Refusal, compile, compile_all};
 pub use definition::{read_definition, skip_blanks};
 pub use definitions::{Origin, without_mark};
-pub use library::{DefinitionFile, Library, Limit, Source};
+pub use library::{Library, Limit, Source};
 pub use pattern_text::{PatternText, RunTexts, ordinal, patterns_of, start_pattern};

@@ -1,6 +1,6 @@
 //! Builds the library of definitions that patterns are compiled with: the default definitions, the
 //! common definitions, those from files, and those from the words after `-D`.
-ghost use Rattle.std.specs.Prelude.{◌≡◌, ◌/◌, OnOk, OnErr};
+ghost use Rattle.std.specs.Prelude.{◌≡◌, ◌/◌, ◌&&◌, nat_le, if◌then◌else◌, OnOk, OnErr};
 ghost use Rattle.std.specs.FinMap as finite;
 ghost use Rattle.grok.specs.Measured.{measure_view};
 ghost use Rattle.groklog_definitions.specs.Compiled.{IsPastOrNot};
@@ -9,16 +9,9 @@ use crate::common::add_common_definitions;
 use crate::definition::name_of_spaced;
 use crate::definitions::{Definition, Origin, read_file, read_word};
 use grok::{Grok, Measure, patterns};
-use groklog_input::{Fault, Report, add_excerpt};
+use groklog_input::{Fault, Report, TextFile, add_excerpt};
 use std::alloc::{AllocError, Global};
 use std::collections::BTreeMap;
-
-/// The name and the text of a file of definitions.
-#[derive(Drop)]
-pub struct DefinitionFile {
-    pub name: String,
-    pub text: String,
-}
 
 /// Where a stored definition was given.
 #[derive(Clone, Copy)]
@@ -31,23 +24,35 @@ pub struct Source<'a> {
 /// all others, so 4,000 of them take most of a second.
 const BYTES_FOR_A_GROUP: usize = 250;
 
+/// From how many bytes on a limit allows 4,000 groups.
+const BYTES_FOR_MANY_GROUPS: usize = 40_000;
+
+/// How many groups such a limit allows at least.
+const MANY_GROUPS: usize = 4000;
+
 /// How large the expanded text of a pattern may be.
 #[derive(Clone, Copy)]
 pub struct Limit {
     pub bytes: usize,
-    /// How many of its groups may be those of placeholders.
+    /// How many groups of placeholders that text may have.
     pub groups: usize,
 }
 
 impl Limit {
-    /// Returns the limit of this many bytes, and of a group for each 250 of them.
+    /// Returns the limit of this many bytes, and of a group for each 250 of them, but of at least 4,000 groups from
+    /// 40,000 bytes on.
     pub fn of_bytes(bytes: usize) -> Limit
         ensures bytes { result.bytes ≡ bytes }
-        ensures groups { result.groups ≡ bytes / 250 }
+        ensures groups { result.groups ≡ (if nat_le 40000 bytes && nat_le (bytes / 250) 4000 then 4000 else bytes / 250) }
     {
+        let groups = bytes / BYTES_FOR_A_GROUP;
         Limit {
             bytes,
-            groups: bytes / BYTES_FOR_A_GROUP,
+            groups: if BYTES_FOR_MANY_GROUPS <= bytes && groups <= MANY_GROUPS {
+                MANY_GROUPS
+            } else {
+                groups
+            },
         }
     }
 
@@ -97,11 +102,10 @@ fn no_definition(alloc: Global, origin: Origin<'_>, line: &str) -> Result<Fault,
     Ok(Fault::Pattern(report))
 }
 
-/// Appends the definitions of a file to `found`.
 fn add_file<'a>(
     alloc: Global,
     found: &mut Vec<Definition<'a>>,
-    file: &'a DefinitionFile,
+    file: &'a TextFile,
 ) -> Result<(), Fault> {
     match read_file(found, file.name.as_str(), file.text.as_str())? {
         None => Ok(()),
@@ -109,7 +113,6 @@ fn add_file<'a>(
     }
 }
 
-/// Appends the definition in a word after `-D` to `found`.
 fn add_word<'a>(
     alloc: Global,
     found: &mut Vec<Definition<'a>>,
@@ -126,7 +129,7 @@ fn add_word<'a>(
 fn collect<'a>(
     alloc: Global,
     with_common: bool,
-    files: &'a [DefinitionFile],
+    files: &'a [TextFile],
     words: &[&'a str],
 ) -> Result<Vec<Definition<'a>>, Fault> {
     let mut found = Vec::new(alloc);
@@ -174,7 +177,7 @@ impl<'a> Library<'a> {
     pub fn new(
         alloc: Global,
         with_common: bool,
-        files: &'a [DefinitionFile],
+        files: &'a [TextFile],
         words: &[&'a str],
         most_bytes: usize,
     ) -> Result<Library<'a>, Fault> {
@@ -186,11 +189,7 @@ impl<'a> Library<'a> {
         Ok(library)
     }
 
-    /// Stores a definition with this text.
-    ///
-    /// # Errors
-    ///
-    /// If an allocation fails. Then the definitions are as before.
+    /// Stores a definition with this text. If an allocation fails, the definitions are as before.
     pub fn store(&mut self, source: Source<'a>, text: &str) -> Result<(), AllocError>
         ensures ok { OnOk result (self.new.grok ≡ finite.insert self.old.grok source.entry.name.now text.now) }
         ensures memory { OnErr result (self.new.grok ≡ self.old.grok) }
@@ -204,10 +203,6 @@ impl<'a> Library<'a> {
         self.sources.get(name).copied()
     }
     /// Returns where each of the user's definitions was given, in the byte order of their names.
-    ///
-    /// # Errors
-    ///
-    /// If an allocation fails.
     pub fn own_sources(&self, alloc: Global) -> Result<Vec<Source<'a>>, AllocError> {
         let mut own = Vec::new(alloc);
         for source in self.sources.values() {

@@ -17,17 +17,13 @@ pub struct PatternText {
 /// The patterns of a run.
 #[derive(Drop)]
 pub struct RunTexts {
-    /// Those that are searched for in each line or event.
+    /// The patterns that are searched for in each line or event.
     pub patterns: Vec<PatternText>,
-    /// The one that is found in each line that begins an event, if events are answered.
+    /// The pattern that is found in each line that begins an event, if events are answered.
     pub start: Option<PatternText>,
 }
 
 /// Returns an ordinal number in digits, such as `2nd`.
-///
-/// # Errors
-///
-/// If an allocation fails.
 pub fn ordinal(alloc: Global, number: usize) -> Result<String, AllocError>
     ensures { IfOk result (λ text. string_bytes text ≡ ordinal_text number) }
 {
@@ -43,10 +39,6 @@ pub fn ordinal(alloc: Global, number: usize) -> Result<String, AllocError>
 
 /// Returns the words by which reports refer to the pattern with this number, counted from 1, of
 /// `count` patterns.
-///
-/// # Errors
-///
-/// If an allocation fails.
 pub fn words_for(alloc: Global, number: usize, count: usize) -> Result<String, AllocError> {
     if count == 1 {
         return String::from_str(alloc, "the pattern");
@@ -59,10 +51,6 @@ pub fn words_for(alloc: Global, number: usize, count: usize) -> Result<String, A
 const START_WORDS: &str = "the pattern of --start";
 
 /// Returns the pattern of `--start`, which has this text.
-///
-/// # Errors
-///
-/// If an allocation fails.
 pub fn start_pattern(alloc: Global, text: &str) -> Result<PatternText, AllocError>
     ensures { IfOk result (λ pattern. string_bytes pattern.text ≡ text.now) }
 {
@@ -73,10 +61,6 @@ pub fn start_pattern(alloc: Global, text: &str) -> Result<PatternText, AllocErro
 }
 
 /// Returns the patterns with these texts.
-///
-/// # Errors
-///
-/// If an allocation fails.
 pub fn patterns_of(alloc: Global, texts: &[&str]) -> Result<Vec<PatternText>, AllocError>
     ensures { IfOk result (λ patterns. pattern_texts patterns.items ≡ map (λ text. text.now) texts.now) }
 {

@@ -40,7 +40,7 @@ formed_lines form count lines = map (λ line. formed form line.0 line.1) (enumer
 
 -- ---- what the lines show about their input
 
--- What an input seems to hold that begins with these bytes.
+-- The kind of an input, judged by the bytes that it begins with.
 abbrev pub encoding_of : List ℕ → Encoding
 encoding_of bytes =
     if starts_with ◌==◌ bytes (0x1F ∷ 0x8B ∷ []) then Gzip

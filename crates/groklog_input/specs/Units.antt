@@ -3,16 +3,16 @@ use Rattle.std.specs.Prelude.{ℕ, ◌==◌, List, ◌++◌, if◌then◌else◌
 use Rattle.groklog_input.specs.declared.unit.Unit.{Unit}
 use Rattle.groklog_input.specs.declared.unit.Unit.TheVariants.{Line, Event}
 
--- The word for `count` of them, which is singular for exactly one.
+-- The word for `count` of these units, which is singular for exactly one.
 abbrev pub unit_word : Unit → ℕ → List ℕ
 unit_word Line count = if count == 1 then codes "line" else codes "lines"
 unit_word Event count = if count == 1 then codes "event" else codes "events"
 
--- So many of them, such as `2 lines`.
+-- `count` of these units in words, such as `2 lines`.
 abbrev pub units_text : Unit → ℕ → List ℕ
 units_text unit count = decimal count ++ (codes " " ++ unit_word unit count)
 
--- The one whose first line has this number, such as `line 3`.
+-- The words for the unit whose first line has this number, such as `line 3`.
 abbrev pub place_text : Unit → ℕ → List ℕ
 place_text Line number = codes "line " ++ decimal number
 place_text Event number = codes "the event at line " ++ decimal number

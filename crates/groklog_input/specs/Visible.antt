@@ -1,4 +1,4 @@
--- How a text of a stranger is shown in a message.
+-- How a foreign text, such as the name of a file, is shown in a message.
 use Rattle.std.specs.Prelude.{ℕ, Bool, List, [], ◌∷◌, ◌==◌, ◌||◌, if◌then◌else◌}
 use Rattle.std.specs.Char.{is_control}
 use Rattle.std.specs.Int.{is_in_range}
@@ -15,7 +15,7 @@ is_bidi_control c = (c == 0x61c) || (is_in_range 0x200e 0x200f c
 abbrev pub is_raw : ℕ → Bool
 is_raw c = is_control c || is_bidi_control c
 
--- Whether a text has such a character.
+-- Whether a text has a character that a terminal could take as a command.
 abbrev pub has_raw : List ℕ → Bool
 has_raw text = list_any is_raw (chars text)
 

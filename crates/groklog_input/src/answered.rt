@@ -20,7 +20,6 @@ pub enum Answered {
     Enough,
 }
 
-/// Returns the advice for a file that is there but can't be opened or read.
 fn advice_for_unreadable(kind: ErrorKind) -> &'static str {
     match kind {
         ErrorKind::IsADirectory => "name the files in it",
@@ -30,10 +29,6 @@ fn advice_for_unreadable(kind: ErrorKind) -> &'static str {
 }
 
 /// Returns the fault that reports that a file can't be opened or read.
-///
-/// # Errors
-///
-/// If an allocation fails.
 pub fn file_fault(alloc: Global, file: &str, failure: Failure) -> Result<Fault, AllocError>
     ensures { IfOk result (IsFaultOfFile failure.kind) }
 {
@@ -56,10 +51,6 @@ pub fn file_fault(alloc: Global, file: &str, failure: Failure) -> Result<Fault, 
 
 /// Returns the fault that reports that the output can't be written, or `None` if its reader closed
 /// the pipe.
-///
-/// # Errors
-///
-/// If an allocation fails.
 pub fn write_fault(alloc: Global, error: &io::Error) -> Result<Option<Fault>, AllocError>
     ensures { IfOk result (IsFaultOfWrite error.now) }
 {
@@ -82,9 +73,7 @@ pub fn write_fault(alloc: Global, error: &io::Error) -> Result<Option<Fault>, Al
     Ok(Some(Fault::Write(Report::new(alloc, what.as_str(), advice)?)))
 }
 
-/// Returns the fault that reports `error`, with which answering the lines of the input `name`
-/// ended, or `None` if the reader of the answers closed the pipe. If reading failed, `failure` says
-/// why.
+/// Returns `None` if the reader of the answers closed the pipe. If reading failed, `failure` says why.
 fn lines_fault(
     alloc: Global,
     name: &str,
@@ -113,7 +102,7 @@ fn lines_fault(
 ///
 /// # Errors
 ///
-/// Returns an error if an allocation, reading or writing fails.
+/// If an allocation, reading or writing fails.
 pub fn answer_input<A: LineHandler, R: Read, W: Write>(
     alloc: Global,
     answers: &mut A,

@@ -13,12 +13,10 @@ const CONTEXT: usize = 30;
 /// How many characters of a part are shown at most.
 const MOST_SHOWN: usize = 40;
 
-/// Returns how many characters of a text begin before the byte position `end`.
 fn chars_before(text: &str, end: usize) -> usize {
     text.char_indices().take_while(|(at, _)| *at < end).count()
 }
 
-/// Appends `count` copies of a character.
 fn push_many(line: &mut String, c: char, count: usize) -> Result<(), AllocError> {
     for _ in 0..count {
         line.push(c)?;
@@ -45,10 +43,6 @@ pub struct Excerpt {
 
 /// Returns the part of a text at a byte range, with some of the text around it, and under it a caret
 /// for each column that it takes on a terminal. An empty part has one caret.
-///
-/// # Errors
-///
-/// If an allocation fails.
 pub fn excerpt_of(alloc: Global, text: &str, part: Range<usize>) -> Result<Excerpt, AllocError> {
     let begin = chars_before(text, part.start);
     let size = chars_before(text, part.end)
@@ -75,10 +69,7 @@ pub fn excerpt_of(alloc: Global, text: &str, part: Range<usize>) -> Result<Excer
 
 /// Adds to a report the byte range of a text that is wrong: some of the text around it, and under
 /// the range a caret for each column that it takes on a terminal. `location` says where the text is.
-///
-/// # Errors
-///
-/// If an allocation fails. The report stays as it was then.
+/// If an allocation fails, the report stays as it was.
 pub fn add_excerpt(
     alloc: Global,
     report: &mut Report,

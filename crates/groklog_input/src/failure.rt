@@ -10,12 +10,12 @@ use std::io::{self, ErrorKind};
 #[derive(Clone, Copy, PartialEq, Eq, Debug)]
 pub struct Failure {
     pub kind: ErrorKind,
-    /// The system's number for it, if the system reported it.
+    /// The system's number for the error, if it reported one.
     pub number: Option<i32>,
 }
 
 impl Failure {
-    /// Returns why a call failed that returned this error.
+    /// Returns the reason for this error of a call.
     pub fn of(error: &io::Error) -> Failure
         ensures { result ≡ failure_of error.now }
     {

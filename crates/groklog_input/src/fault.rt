@@ -46,7 +46,6 @@ pub enum Fault {
     Write(Report),
 }
 
-/// Returns two lines: a part of a text, and the carets under it. Both are shown by [`visible`].
 fn excerpt_of(alloc: Global, text: &str, carets: &str) -> Result<String, AllocError>
     ensures { IfOk result (λ excerpt. string_bytes excerpt ≡ excerpt_text text.now carets.now) }
 {
@@ -59,10 +58,6 @@ fn excerpt_of(alloc: Global, text: &str, carets: &str) -> Result<String, AllocEr
 
 impl Report {
     /// Makes a report that shows no part of a text.
-    ///
-    /// # Errors
-    ///
-    /// If an allocation fails.
     pub fn new(alloc: Global, what: &str, advice: &str) -> Result<Report, AllocError>
         ensures what { IfOk result (λ report. string_bytes report.what ≡ visible what.now) }
         ensures parts { IfOk result (λ report. report.parts.items ≡ []) }
@@ -76,11 +71,7 @@ impl Report {
     }
 
     /// Adds a part that is wrong: where its text is, the part with some of the text around it, and
-    /// the carets that stand under the part.
-    ///
-    /// # Errors
-    ///
-    /// If an allocation fails. The report stays as it was then.
+    /// the carets that stand under the part. If an allocation fails, the report stays as it was.
     pub fn add_part(
         &mut self,
         alloc: Global,
@@ -125,7 +116,6 @@ impl fmt::Display for FaultyPart {
     }
 }
 
-/// Writes each part that is wrong, the first one after "in" and each further one after "and in".
 fn write_parts<W: fmt::Write>(f: &mut fmt::Formatter<W>, parts: &[FaultyPart]) -> fmt::Result
     ensures { WritesOnOk W.write_str_gives f.old result (parts_text parts.now) f.new }
 {
@@ -139,7 +129,6 @@ fn write_parts<W: fmt::Write>(f: &mut fmt::Formatter<W>, parts: &[FaultyPart]) -
     Ok(())
 }
 
-/// Writes the advice, or nothing if it is empty.
 fn write_advice<W: fmt::Write>(f: &mut fmt::Formatter<W>, advice: &str) -> fmt::Result
     ensures { WritesOnOk W.write_str_gives f.old result (advice_text advice.now) f.new }
 {

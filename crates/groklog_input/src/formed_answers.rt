@@ -20,7 +20,7 @@ pub struct FormedAnswers<A> {
     pub signs: Signs,
 }
 
-/// What is known of an input before its first line.
+/// The signs of an input before its first line was read.
 const NO_SIGNS: Signs = Signs {
     encoding: Encoding::Other,
     has_return: false,
@@ -43,7 +43,7 @@ impl<A> FormedAnswers<A> {
         }
     }
 
-    /// Returns what handled the lines.
+    /// Returns the handler of the lines.
     pub fn into_answers(self) -> A
         ensures { result ≡ self.answers }
     {
@@ -73,11 +73,6 @@ impl<A> FormedAnswers<A> {
     }
 }
 
-/// Returns how many lines of an input were handled, once one more than `count` was.
-///
-/// # Errors
-///
-/// If `count` is `u64::MAX`.
 fn count_after(count: u64) -> Result<u64, AllocError>
     ensures ok { count < u64.MAX → result ≡ Ok (count + 1) }
     ensures err { count ≡ u64.MAX → IsErr result }
@@ -90,7 +85,7 @@ fn count_after(count: u64) -> Result<u64, AllocError>
 }
 
 impl<A: LineHandler> FormedAnswers<A> {
-    /// Handles a line that isn't UTF-8, from which its ends were taken off already.
+    /// Handles a line that isn't UTF-8, and whose ends were trimmed already.
     #[tactic(auto, using(crate::proofs::LinesAreFormed::text_is_utf8))]
     fn handle_trimmed(&mut self, text: &mut Vec<u8>, line: &[u8]) -> Result<(), AllocError>
         ensures ok { OnOk result (text.new.items ≡ text.old.items ++ A.first_answers self.old.answers

@@ -7,6 +7,8 @@
 //! let mut input = Watched::new(rt.stdin());
 //! answer_input(alloc, &mut answers, &mut input, &mut output, "standard input")?;
 //! ```
+//!
+//! Where a call has no section `# Errors`, its error is a failed allocation.
 #![tactic(auto)]
 
 mod answered;
@@ -15,6 +17,7 @@ mod failure;
 mod fault;
 mod formed_answers;
 mod line_form;
+mod text_file;
 mod unit;
 mod visible_text;
 mod watched;
@@ -25,6 +28,7 @@ pub use failure::Failure;
 pub use fault::{Fault, FaultyPart, Report};
 pub use formed_answers::FormedAnswers;
 pub use line_form::{Encoding, LineForm, Signs};
+pub use text_file::TextFile;
 pub use unit::Unit;
 pub use visible_text::visible;
 pub use watched::Watched;

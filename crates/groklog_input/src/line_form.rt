@@ -20,27 +20,22 @@ pub struct LineForm {
     pub is_lossy: bool,
 }
 
-/// What an input seems to hold, judged by the bytes that it begins with.
+/// The kind of an input, judged by the bytes that it begins with: a file that gzip, xz, zstd or bzip2
+/// compressed, a text in UTF-16 with its byte order mark, or anything else.
 #[derive(Clone, Copy, PartialEq, Eq)]
 pub enum Encoding {
-    /// A file that gzip compressed.
     Gzip,
-    /// A file that xz compressed.
     Xz,
-    /// A file that zstd compressed.
     Zstd,
-    /// A file that bzip2 compressed.
     Bzip2,
-    /// A text in UTF-16, with its byte order mark.
     Utf16,
-    /// Anything else.
     Other,
 }
 
 /// What the lines of an input show about it.
 #[derive(Clone, Copy)]
 pub struct Signs {
-    /// What the input seems to hold.
+    /// The kind of the input.
     pub encoding: Encoding,
     /// Whether its first line ends in a carriage return.
     pub has_return: bool,
@@ -48,7 +43,6 @@ pub struct Signs {
     pub first_broken: Option<u64>,
 }
 
-/// Returns the text without `part` at its front, if it begins with that, and otherwise the whole text.
 #[tactic(auto, using(crate::proofs::LinesAreFormed::prefix_is_taken_off))]
 fn without_prefix<'t>(text: &'t str, part: &str) -> &'t str
     ensures { result.now ≡ without_prefix part.now text.now }
@@ -56,7 +50,6 @@ fn without_prefix<'t>(text: &'t str, part: &str) -> &'t str
     text.strip_prefix(part).unwrap_or(text)
 }
 
-/// Returns the text without `part` at its end, if it ends with that, and otherwise the whole text.
 #[tactic(auto, using(crate::proofs::LinesAreFormed::suffix_is_taken_off))]
 fn without_suffix<'t>(text: &'t str, part: &str) -> &'t str
     ensures { result.now ≡ without_suffix part.now text.now }
@@ -64,7 +57,6 @@ fn without_suffix<'t>(text: &'t str, part: &str) -> &'t str
     text.strip_suffix(part).unwrap_or(text)
 }
 
-/// Does the same as `without_prefix`, for bytes.
 fn bytes_without_prefix<'t>(bytes: &'t [u8], part: &[u8]) -> &'t [u8]
     ensures { result.now ≡ without_prefix part.now bytes.now }
 {
@@ -75,7 +67,6 @@ fn bytes_without_prefix<'t>(bytes: &'t [u8], part: &[u8]) -> &'t [u8]
     }
 }
 
-/// Does the same as `without_suffix`, for bytes.
 fn bytes_without_suffix<'t>(bytes: &'t [u8], part: &[u8]) -> &'t [u8]
     ensures { result.now ≡ without_suffix part.now bytes.now }
 {
@@ -123,7 +114,7 @@ impl LineForm {
 }
 
 impl Signs {
-    /// Returns what is known of an input after its first line.
+    /// Returns the signs of an input after its first line.
     pub fn of_first_line(line: &[u8]) -> Signs
         ensures encoding { result.encoding ≡ encoding_of line.now }
         ensures has_return { result.has_return ≡ ends_with ◌==◌ line.now carriage_return }
@@ -137,7 +128,6 @@ impl Signs {
     }
 }
 
-/// Returns what an input seems to hold that begins with these bytes.
 fn encoding_of(bytes: &[u8]) -> Encoding
     ensures { result ≡ encoding_of bytes.now }
 {

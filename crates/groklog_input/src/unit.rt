@@ -1,20 +1,19 @@
-//! What a run answers: lines, or events of several lines.
+//! The unit of a run that gets one answer: a line, or an event of several lines.
 ghost use Rattle.std.specs.Prelude.{◌≡◌, IfOk, string_bytes};
 ghost use Rattle.groklog_input.specs.Units.{unit_word, units_text, place_text};
 
 use std::alloc::{AllocError, Global};
 
-/// What has one answer.
+/// The unit that gets one answer.
 #[derive(Clone, Copy, PartialEq, Eq)]
 pub enum Unit {
-    /// A line.
     Line,
     /// An event of one or more lines, for `--start`.
     Event,
 }
 
 impl Unit {
-    /// Returns the word for `count` of them.
+    /// Returns the word for `count` of these units, such as `lines`.
     pub fn word(self, count: u64) -> &'static str
         ensures { result.now ≡ unit_word self count }
     {
@@ -26,22 +25,14 @@ impl Unit {
         }
     }
 
-    /// Returns `count` of them in words, such as `2 lines`.
-    ///
-    /// # Errors
-    ///
-    /// If an allocation fails.
+    /// Returns `count` of these units in words, such as `2 lines`.
     pub fn counted(self, alloc: Global, count: u64) -> Result<String, AllocError>
         ensures { IfOk result (λ text. string_bytes text ≡ units_text self count) }
     {
         format!(in alloc; "{count} {}", self.word(count))
     }
 
-    /// Returns words for the one whose first line has this number.
-    ///
-    /// # Errors
-    ///
-    /// If an allocation fails.
+    /// Returns words for the unit whose first line has this number.
     pub fn at(self, alloc: Global, number: u64) -> Result<String, AllocError>
         ensures { IfOk result (λ text. string_bytes text ≡ place_text self number) }
     {

@@ -6,7 +6,7 @@ ghost use Rattle.groklog_input.specs.Visible.{is_bidi_control, is_raw, has_raw, 
 
 use std::alloc::{AllocError, Global};
 
-/// Returns whether a character changes the direction of text: Unicode's property `Bidi_Control`.
+/// These are the characters with Unicode's property `Bidi_Control`, which change the direction of text.
 fn is_bidi_control(c: char) -> bool
     ensures { result ≡ is_bidi_control c }
 {
@@ -19,15 +19,12 @@ fn is_bidi_control(c: char) -> bool
     }
 }
 
-/// Returns whether a terminal could take a character as a command.
 fn is_raw(c: char) -> bool
     ensures { result ≡ is_raw c }
 {
     c.is_control() || is_bidi_control(c)
 }
 
-/// Appends a character as it is shown: escaped, such as `\n` or `\u{1b}`, if a terminal could take
-/// it as a command, and otherwise as it is.
 fn push_visible(shown: &mut String, c: char) -> Result<(), AllocError>
     ensures { OnOk result (string_bytes shown.new
         ≡ string_bytes shown.old ++ encode_utf8_all (shown_char c)) }
@@ -44,10 +41,6 @@ fn push_visible(shown: &mut String, c: char) -> Result<(), AllocError>
 /// Returns a text as messages show it: control characters and those that change the direction of
 /// text are escaped as in Rust's `char::escape_default`, such as `\n` or `\u{1b}`. A text without
 /// them stays as it is.
-///
-/// # Errors
-///
-/// If an allocation fails.
 pub fn visible(alloc: Global, text: &str) -> Result<String, AllocError>
     ensures shown { IfOk result (λ shown. string_bytes shown ≡ visible text.now) }
     ensures safe { IfOk result (λ shown. has_raw (string_bytes shown) ≡ false) }

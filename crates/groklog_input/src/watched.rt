@@ -30,7 +30,7 @@ struct Progress<'a> {
 pub struct Watched<'a, R> {
     pub input: R,
     progress: Option<Progress<'a>>,
-    /// Why the last read that failed did so.
+    /// The reason for which the last failed read failed.
     pub failure: Option<Failure>,
 }
 
@@ -64,7 +64,6 @@ impl<'a> Progress<'a> {
         );
     }
 
-    /// Clears the line of progress.
     fn end(&self) {
         if self.shown.is_some() {
             let _ = eprint!(self.rt; "\r\x1b[K");
@@ -118,7 +117,6 @@ impl<'a, R> Watched<'a, R> {
 impl<'a, R: Read> Read for Watched<'a, R> {
     ghost remaining = { λ watched. R.remaining watched.input };
 
-    /// Reads from the input. If that fails, remembers why.
     fn read(&mut self, buf: &mut [u8]) -> io::Result<usize>
         ensures bound { ReadsAtMost result buf.new }
         ensures bytes { ReadConsumes (R.remaining self.old.input) (R.remaining self.new.input)

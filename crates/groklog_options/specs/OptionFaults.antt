@@ -2,7 +2,7 @@
 use Rattle.groklog_input.specs.declared.fault.Fault.{Fault}
 use Rattle.groklog_input.specs.declared.fault.Fault.TheVariants.{Pattern, Usage, Memory, Read, Write}
 
--- It is a fault of the options, unless an allocation failed.
+-- The `Fault` is one of the options, or an allocation failed.
 abbrev pub IsOptionFault : Fault → Type 0
 IsOptionFault (Pattern report) = ⊥
 IsOptionFault (Usage report) = Unit {0}

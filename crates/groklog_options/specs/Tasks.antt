@@ -1,5 +1,5 @@
 -- What belongs to the task of a run.
-use Rattle.std.specs.Prelude.{◌≡◌, ℕ, Bool, true, false, List, [], ◌∷◌, Option, Some, None, ⊤, codes, find, map, option_and_then, option_map, unwrap_or}
+use Rattle.std.specs.Prelude.{◌≡◌, ℕ, Bool, true, false, List, [], ◌∷◌, Option, Some, None, ⊤, codes, find, map, not, vec_len, ◌==◌, option_and_then, option_map, unwrap_or}
 use denote.Ref.{Bor}
 use Rattle.clap.specs.Matches.{first_value, matched_of}
 use Rattle.clap.specs.declared.parser.matches.Found.{Found}
@@ -41,6 +41,17 @@ has_records (Reasons most) = false
 has_records (Suggestions most) = false
 has_records Explanation = false
 has_records (task.List text) = false
+
+-- Whether something is added to the fields of answers.
+abbrev pub has_additions : Task → Bool
+has_additions (Answers answers) = not (vec_len answers.added == 0)
+has_additions (Counts counts) = false
+has_additions (Shown shown) = false
+has_additions (Page page) = false
+has_additions (Reasons most) = false
+has_additions (Suggestions most) = false
+has_additions Explanation = false
+has_additions (task.List text) = false
 
 -- Where values are written. Only answers say that.
 abbrev pub plan_of : Task → PlanOptions

@@ -31,10 +31,6 @@ pub fn option_of(what: Addition) -> &'static str
 }
 
 /// Returns what the command line adds, in the order in which an answer has it.
-///
-/// # Errors
-///
-/// If an allocation fails.
 pub fn added_of<'a>(alloc: Global, matches: &ArgMatches<'a>) -> Result<Vec<Added<'a>>, AllocError>
     ensures { IfOk result (λ added. map added_pair added.items ≡ added_in (found_of matches.now)) }
 {

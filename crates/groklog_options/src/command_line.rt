@@ -27,22 +27,19 @@ const EXAMPLES: &str =
     Exit status: 0, 1 for a fault of a pattern or a definition, 2 for wrong options, 3 if memory, reading or writing fails,\n\
     4 with --exit-status if nothing is found.";
 
-/// What an option takes. The text is what the help calls its value.
+/// What an option takes. The text is the name of its value in the help.
 #[derive(Clone, Copy)]
 enum Takes {
     /// Nothing. It may be given several times, so that a script can add it to words that may have it
     /// already.
     Nothing,
-    /// A value.
     Value(&'static str),
-    /// A value or nothing.
     ValueOrNothing(&'static str),
     /// A value that may begin with `-`, as a pattern may.
     Pattern(&'static str),
-    /// The same. The option may be given several times, each time with one. It may have a name of one
-    /// letter too.
+    /// A value that may begin with `-`, as that of `Pattern`. The option may be given several times, each time
+    /// with one. It may also have a name of one letter.
     Patterns(Option<char>, &'static str),
-    /// A whole number.
     Number,
     /// A whole number after `=`, or this one if there is none.
     NumberOr(&'static str),
@@ -65,19 +62,14 @@ enum TaskKind {
     Counts,
     /// It shows lines with their fields marked.
     Shown,
-    /// It writes a page.
     Page,
     /// It explains why lines don't match.
     Reasons,
-    /// It suggests patterns.
     Suggestions,
-    /// It explains the patterns.
     Explanation,
-    /// It lists the common definitions.
     List,
 }
 
-/// All tasks.
 const ALL: &[TaskKind] = &[
     TaskKind::Objects,
     TaskKind::PlannedObjects,
@@ -97,27 +89,27 @@ const ALL: &[TaskKind] = &[
 enum Effect {
     On(&'static [TaskKind]),
     OnAllBut(&'static [TaskKind]),
-    /// On those of these options, of which one has to be given.
+    /// On the tasks of these options, one of which has to be given.
     With(&'static [&'static str]),
 }
 
-/// On all that use definitions.
+/// On all tasks that use definitions.
 const DEFINITIONS: Effect = Effect::OnAllBut(&[TaskKind::List]);
 
-/// On all that use patterns.
+/// On all tasks that use patterns.
 const PATTERNS: Effect = Effect::OnAllBut(&[TaskKind::Suggestions, TaskKind::List]);
 
-/// On all that read lines.
+/// On all tasks that read lines.
 const LINES: Effect = Effect::OnAllBut(&[TaskKind::Explanation, TaskKind::List]);
 
-/// On all that search lines.
+/// On all tasks that search lines.
 const SEARCHES: Effect = Effect::OnAllBut(&[
     TaskKind::Suggestions,
     TaskKind::Explanation,
     TaskKind::List,
 ]);
 
-/// On all that search lines or events. A line `KEY=VALUE` has no place for an event.
+/// On all tasks that search lines or events. A line `KEY=VALUE` has no place for an event.
 const EVENTS: Effect = Effect::OnAllBut(&[
     TaskKind::Pairs,
     TaskKind::Suggestions,
@@ -125,7 +117,7 @@ const EVENTS: Effect = Effect::OnAllBut(&[
     TaskKind::List,
 ]);
 
-/// On all that write something of each line.
+/// On all tasks that write something of each line.
 const WRITTEN_LINES: Effect = Effect::On(&[
     TaskKind::Objects,
     TaskKind::PlannedObjects,
@@ -135,7 +127,7 @@ const WRITTEN_LINES: Effect = Effect::On(&[
     TaskKind::Page,
 ]);
 
-/// On all that write the values of a line under the keys of the pattern.
+/// On all tasks that write the values of a line under the keys of the pattern.
 const FIELDS: Effect = Effect::On(&[
     TaskKind::Objects,
     TaskKind::Pairs,
@@ -144,7 +136,7 @@ const FIELDS: Effect = Effect::On(&[
     TaskKind::Page,
 ]);
 
-/// On answers.
+/// On the tasks that write answers.
 const ANSWERS: Effect = Effect::On(&[
     TaskKind::Objects,
     TaskKind::PlannedObjects,
@@ -152,13 +144,13 @@ const ANSWERS: Effect = Effect::On(&[
     TaskKind::Records,
 ]);
 
-/// On answers of JSON.
+/// On the tasks that answer with JSON.
 const OBJECTS: Effect = Effect::On(&[TaskKind::Objects, TaskKind::PlannedObjects]);
 
-/// On answers of JSON in which values are written where a plan says.
+/// On the task that answers with JSON in which a plan says where values are written.
 const PLANNED: Effect = Effect::On(&[TaskKind::PlannedObjects]);
 
-/// These exclude each other, though they have the same tasks.
+/// These options exclude each other, though they have the same tasks.
 const OPPOSITES: [&str; 2] = ["matched", "unmatched"];
 
 /// An option of the command line.
@@ -194,7 +186,6 @@ impl CommandOption {
     }
 }
 
-/// The options below the heading "Patterns and definitions".
 const SOURCES: &[CommandOption] = &[
     CommandOption {
         name: "pattern",
@@ -229,7 +220,7 @@ const SOURCES: &[CommandOption] = &[
     CommandOption {
         name: "max-expansion",
         takes: Takes::Number,
-        help: "At most N bytes of regular expression for a pattern with its definitions [default: 1000000]",
+        help: "At most N bytes of regular expression for a pattern with its definitions [default: 40000]",
         effect: DEFINITIONS,
     },
     CommandOption {
@@ -258,7 +249,6 @@ const SOURCES: &[CommandOption] = &[
     },
 ];
 
-/// The options below the heading "How lines are read".
 const READING: &[CommandOption] = &[
     CommandOption {
         name: "crlf",
@@ -286,7 +276,6 @@ const READING: &[CommandOption] = &[
     },
 ];
 
-/// The options below the heading "What is written".
 const WRITING: &[CommandOption] = &[
     CommandOption {
         name: "all",
@@ -428,7 +417,6 @@ const WRITING: &[CommandOption] = &[
     },
 ];
 
-/// The options below the heading "Working on a pattern".
 const WORKING: &[CommandOption] = &[
     CommandOption {
         name: "explain",
@@ -458,17 +446,14 @@ const HEADINGS: [(&str, &[CommandOption]); 4] = [
     ("Working on a pattern", WORKING),
 ];
 
-/// Says that the option takes a value, which the help calls `value`.
 fn with_value<'a>(arg: Arg<'a>, value: &'a str) -> Arg<'a> {
     arg.value_name(value).action(ArgAction::Set)
 }
 
-/// Says that the option takes a whole number.
 fn with_number(arg: Arg<'_>) -> Arg<'_> {
     with_value(arg, "N").value_parser(value_parser!(u64))
 }
 
-/// Says that the option may be given several times, each time with a value.
 fn with_values<'a>(arg: Arg<'a>, short: Option<char>, value: &'a str) -> Arg<'a> {
     let arg = arg
         .value_name(value)
@@ -481,7 +466,6 @@ fn with_values<'a>(arg: Arg<'a>, short: Option<char>, value: &'a str) -> Arg<'a>
 }
 
 impl Takes {
-    /// Says what the option takes.
     fn describe<'a>(self, arg: Arg<'a>) -> Arg<'a> {
         match self {
             Takes::Nothing => arg.action(ArgAction::SetTrue),
@@ -501,7 +485,6 @@ impl Takes {
     }
 }
 
-/// Describes an option to clap.
 fn arg_of<'a>(alloc: Global, option: &'a CommandOption) -> Result<Arg<'a>, AllocError> {
     let arg = Arg::new(alloc, option.name)
         .long(option.name)
@@ -520,7 +503,6 @@ fn arg_of<'a>(alloc: Global, option: &'a CommandOption) -> Result<Arg<'a>, Alloc
     }
 }
 
-/// Describes options to clap.
 fn args_of<'a>(alloc: Global, options: &'a [CommandOption]) -> Result<Vec<Arg<'a>>, AllocError> {
     let mut args = Vec::new(alloc);
     for option in options {
@@ -538,10 +520,6 @@ pub fn is_given(matches: &ArgMatches<'_>, name: &str) -> bool
 
 /// Describes the command line to clap. The words that aren't options come before the first heading, so
 /// that the help has them below one of their own.
-///
-/// # Errors
-///
-/// If an allocation fails.
 pub fn describe<'a>(alloc: Global) -> Result<Command<'a>, AllocError> {
     let words = Arg::new(alloc, "words")
         .value_names(&["PATTERN", "FILE"])

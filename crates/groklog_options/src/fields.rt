@@ -10,7 +10,6 @@ use grok::Pattern;
 use groklog_input::{Fault, Report};
 use std::alloc::{AllocError, Global};
 
-/// Returns all keys of the patterns, in byte order.
 fn all_keys<'p>(alloc: Global, patterns: &'p [Pattern]) -> Result<Vec<&'p str>, AllocError> {
     let mut all = Vec::new(alloc);
     for key in key_set(alloc, patterns)?.keys() {
@@ -43,7 +42,7 @@ pub fn chosen_fields<'p>(
         return Ok(None);
     }
     let keys = all_keys(alloc, patterns)?;
-    if keys.is_empty() {
+    if keys.is_empty() && !task.has_additions() {
         let what = "--csv has no columns, since the pattern has no key";
         let advice = "give a placeholder an alias, as in %{NAME:key}";
         return Err(Fault::Usage(Report::new(alloc, what, advice)?));

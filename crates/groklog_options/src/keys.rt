@@ -58,7 +58,6 @@ fn check_repeated(alloc: Global, answers: &AnswerOptions<'_>) -> Result<(), Faul
     Ok(())
 }
 
-/// Returns whether a pattern has this key.
 fn has_key(pattern: &Pattern, key: &str) -> bool {
     pattern.group_of(key).is_some()
 }
@@ -105,10 +104,6 @@ pub fn unknown_key(alloc: Global, option: &str, key: &str) -> Result<Fault, Allo
 pub type KeySet<'p> = BTreeMap<&'p str, ()>;
 
 /// Returns all keys of the patterns.
-///
-/// # Errors
-///
-/// If an allocation fails.
 pub fn key_set<'p>(alloc: Global, patterns: &'p [Pattern]) -> Result<KeySet<'p>, AllocError> {
     let mut keys = BTreeMap::new(alloc);
     for pattern in patterns {

@@ -10,10 +10,6 @@ use std::alloc::{AllocError, Global};
 
 /// Pairs each pattern with its tag, which is its name or else its text, and with its plan if there are
 /// plans.
-///
-/// # Errors
-///
-/// If an allocation fails.
 pub fn with_tags<'p>(
     alloc: Global,
     given: &[GivenPattern<'p>],
@@ -28,14 +24,12 @@ pub fn with_tags<'p>(
     Ok(named)
 }
 
-/// Returns whether this is the line itself.
 fn is_line(added: &Added<'_>) -> bool
     ensures { result ≡ is_line added.now }
 {
     matches!(added.what, Addition::Line)
 }
 
-/// Returns how many of these an answer has before the fields of patterns: all that come before the line.
 fn count_before(added: &[Added<'_>]) -> usize
     ensures count { result ≡ count_before added.now }
     ensures within { result ≤ length added.now }

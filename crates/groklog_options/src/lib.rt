@@ -11,6 +11,8 @@
 //!     let layout = layout_of(answers, fields.as_deref());
 //! }
 //! ```
+//!
+//! Where a call has no section `# Errors`, its error is a failed allocation.
 #![tactic(auto)]
 
 mod additions;
@@ -26,7 +28,8 @@ pub use fields::chosen_fields;
 pub use keys::check_keys;
 pub use layouts::{layout_of, with_tags};
 pub use options::{
-    EventOptions, GivenDefinitions, GivenPattern, Options, is_answer, read_options, usage_fault,
+    EVENT_LINES, EXPANSION, EventOptions, GivenDefinitions, GivenPattern, Options, is_answer,
+    read_options, usage_fault,
 };
 pub use task::{
     AnswerOptions, Colours, CountOptions, PageOptions, PlanOptions, ShownOptions, Task,

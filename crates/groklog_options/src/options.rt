@@ -26,14 +26,15 @@ use std::num::NonZeroU64;
 /// How many different values `--count` counts, unless `--max` says how many.
 const VALUES: usize = 100_000;
 
-/// How many bytes the expanded text of a pattern has at most, unless `--max-expansion` says how many.
-const EXPANSION: usize = 1_000_000;
+/// How many bytes the expanded text of a pattern has at most, unless `--max-expansion` says how many. The engine
+/// needs some 4 kB of memory for each byte of a text that has nothing but `\w`.
+pub const EXPANSION: usize = 40_000;
 
 /// How many lines `--html` reads, unless `--max` says how many.
 const PAGE_LINES: usize = 1000;
 
 /// How many lines an event has at most, unless `--max-lines` says how many.
-const EVENT_LINES: u64 = 1000;
+pub const EVENT_LINES: u64 = 1000;
 
 /// The advice for an option that there isn't.
 const UNKNOWN_OPTION: &str =
@@ -47,7 +48,7 @@ pub struct GivenPattern<'a> {
 }
 
 impl<'a> GivenPattern<'a> {
-    /// Returns what answers and reports call it: its name, or else its text.
+    /// Returns the name of the pattern in answers and reports: the name that it was given, or else its text.
     pub fn tag(self) -> &'a str
         ensures { result.now ≡ (unwrap_or self.entry.name self.entry.text).now }
     {
@@ -69,7 +70,7 @@ pub struct GivenDefinitions<'a> {
     /// How definitions and patterns are rewritten that were made for Logstash, or `None` if they stay
     /// as they are.
     pub wish: Option<Wish>,
-    /// The file that those of the user are written to, once they are rewritten.
+    /// The file that the user's definitions are written to, once they are rewritten.
     pub written: Option<&'a str>,
 }
 
@@ -103,7 +104,7 @@ pub struct Options<'a> {
 }
 
 impl Options<'_> {
-    /// Returns what has one answer.
+    /// Returns the unit that gets one answer: a line, or an event.
     pub fn unit(&self) -> Unit
         ensures { result ≡ (if is_some self.now.events then Unit.Event else Unit.Line) }
     {
@@ -115,7 +116,6 @@ impl Options<'_> {
     }
 }
 
-/// Returns the values of an option, in the order of the command line.
 fn values_of<'a>(
     alloc: Global,
     matches: &ArgMatches<'a>,
@@ -127,7 +127,6 @@ fn values_of<'a>(
     }
 }
 
-/// Returns the first value of an option, or the empty text if it has none.
 fn value_of<'a>(matches: &ArgMatches<'a>, option: &str) -> &'a str
     ensures { result.now ≡ value_in (found_of matches.now) option.now }
 {
@@ -215,7 +214,6 @@ fn given_words<'a>(alloc: Global, matches: &ArgMatches<'a>) -> Result<GivenWords
     Ok(GivenWords { patterns, files })
 }
 
-/// Returns keys that are separated by commas.
 fn split_keys(alloc: Global, keys: &str) -> Result<Vec<&str>, AllocError> {
     let mut split = Vec::new(alloc);
     for key in keys.split(',') {
@@ -224,7 +222,6 @@ fn split_keys(alloc: Global, keys: &str) -> Result<Vec<&str>, AllocError> {
     Ok(split)
 }
 
-/// Returns the keys after `--fields`, if it is given.
 fn fields_of<'a>(
     alloc: Global,
     matches: &ArgMatches<'a>,
@@ -255,7 +252,6 @@ fn chosen_format(matches: &ArgMatches<'_>) -> OutputFormat {
     }
 }
 
-/// Returns how answers are written.
 fn answer_options<'a>(
     alloc: Global,
     matches: &ArgMatches<'a>,
@@ -275,7 +271,6 @@ fn answer_options<'a>(
     })
 }
 
-/// Returns what is counted.
 fn count_options<'a>(
     alloc: Global,
     matches: &ArgMatches<'a>,
@@ -287,7 +282,6 @@ fn count_options<'a>(
     })
 }
 
-/// Returns what a page shows.
 fn page_options<'a>(alloc: Global, matches: &ArgMatches<'a>) -> Result<PageOptions<'a>, AllocError>
     ensures { IfOk result (λ page. page.file.now ≡ value_in (found_of matches.now) (codes "html")) }
 {
@@ -299,7 +293,6 @@ fn page_options<'a>(alloc: Global, matches: &ArgMatches<'a>) -> Result<PageOptio
     })
 }
 
-/// Returns how lines are shown.
 fn shown_options<'a>(
     alloc: Global,
     matches: &ArgMatches<'a>,
@@ -347,7 +340,6 @@ fn events_of<'a>(matches: &ArgMatches<'a>) -> Result<Option<EventOptions<'a>>, W
     }
 }
 
-/// Returns the definitions of a run.
 fn definitions_of<'a>(
     alloc: Global,
     matches: &ArgMatches<'a>,
@@ -370,7 +362,6 @@ fn definitions_of<'a>(
     })
 }
 
-/// Returns the options that clap's matches ask for, or what is wrong with the words.
 fn options_of<'a>(alloc: Global, matches: &ArgMatches<'a>) -> Result<Options<'a>, WordsError>
     ensures { IfOk result (λ options. has_patterns options.task ≡ true → 0 < length options.patterns.items) }
 {
@@ -439,10 +430,6 @@ fn in_one_line(alloc: Global, lines: &str) -> Result<String, AllocError> {
 }
 
 /// Returns the fault that reports why clap refuses the words.
-///
-/// # Errors
-///
-/// If an allocation fails.
 pub fn usage_fault(alloc: Global, error: &Error) -> Result<Fault, AllocError>
     ensures { IfOk result IsOptionFault }
 {

@@ -1,6 +1,6 @@
 //! What a run does, with what belongs to it.
 ghost use Rattle.std.specs.Prelude.{◌≡◌, ◌||◌, option_map};
-ghost use Rattle.groklog_options.specs.Tasks.{fields_of, has_patterns, has_records, plan_of};
+ghost use Rattle.groklog_options.specs.Tasks.{fields_of, has_additions, has_patterns, has_records, plan_of};
 
 use groklog_answers::{Added, Lines, OutputFormat};
 
@@ -24,9 +24,9 @@ pub enum Task<'a> {
     Shown(ShownOptions<'a>),
     /// It writes a page about the first lines or events to a file.
     Page(PageOptions<'a>),
-    /// It explains why lines or events don't match, of this many at most.
+    /// It explains why lines or events don't match, for at most this many.
     Reasons(u64),
-    /// It suggests patterns for the first lines, this many at most.
+    /// It suggests patterns for the first lines, for at most this many.
     Suggestions(u64),
     /// It explains the patterns, and reads no lines.
     Explanation,
@@ -83,7 +83,7 @@ pub struct CountOptions<'a> {
 /// How lines or events are shown.
 #[derive(Drop)]
 pub struct ShownOptions<'a> {
-    /// Which of them are shown.
+    /// Which lines or events are shown.
     pub lines: Lines,
     /// The keys that are marked, or `None` if all are.
     pub fields: Option<Vec<&'a str>>,
@@ -93,13 +93,13 @@ pub struct ShownOptions<'a> {
 /// What a page shows, and where it is written.
 #[derive(Drop)]
 pub struct PageOptions<'a> {
-    /// The name of its file.
+    /// The name of the page's file.
     pub file: &'a str,
-    /// Which lines or events it lists.
+    /// Which lines or events the page lists.
     pub lines: Lines,
     /// The keys that are marked, or `None` if all are.
     pub fields: Option<Vec<&'a str>>,
-    /// How many lines or events it is about at most.
+    /// How many lines or events the page is about at most.
     pub most: usize,
 }
 
@@ -130,12 +130,22 @@ impl<'a> Task<'a> {
         }
     }
 
-    /// Returns whether it answers with records.
+    /// Returns whether the task answers with records.
     pub fn has_records(&self) -> bool
         ensures { result ≡ has_records self.now }
     {
         match self {
             Task::Answers(answers) => matches!(answers.format, OutputFormat::Csv),
+            _ => false,
+        }
+    }
+
+    /// Returns whether it adds something to the fields of answers.
+    pub fn has_additions(&self) -> bool
+        ensures { result ≡ has_additions self.now }
+    {
+        match self {
+            Task::Answers(answers) => !answers.added.is_empty(),
             _ => false,
         }
     }

@@ -12,7 +12,7 @@ abbrev pub IsRefused : Texts → Bool → Limit → PatternText → Type 0
 IsRefused definitions alias_only limit text =
     IsRefusedText definitions alias_only text ⊎ IsTooLarge definitions alias_only limit text
 
--- It is a fault of a pattern, and `is_refused` holds, or an allocation failed.
+-- The `Fault` is that of a pattern, and `is_refused` holds, or an allocation failed.
 abbrev pub IsCompileFault : Type 0 → Fault → Type 0
 IsCompileFault is_refused (Pattern report) = is_refused
 IsCompileFault is_refused (Usage report) = ⊥

@@ -11,7 +11,6 @@ use groklog_definitions::{Library, PatternText, Refusal};
 use groklog_input::Fault;
 use std::alloc::{AllocError, Global};
 
-/// Returns the fault that reports why a pattern isn't compiled.
 fn fault_of(
     alloc: Global,
     library: &Library<'_>,

@@ -38,7 +38,6 @@ const REGEX_SYNTAX: &str =
 /// The advice for a placeholder inside a character class.
 const NOT_IN_CLASS: &str = "write \\[ for the bracket itself";
 
-/// Returns a name with its ASCII letters in upper case.
 fn in_upper_case(alloc: Global, name: &str) -> Result<String, AllocError> {
     let mut upper = String::new(alloc);
     for c in name.chars() {
@@ -77,7 +76,6 @@ fn nearest_name(alloc: Global, grok: &Grok, name: &str) -> Result<Option<String>
     Ok(nearest)
 }
 
-/// Returns the advice for a name that has no definition.
 fn advice_for_name(alloc: Global, grok: &Grok, name: &str) -> Result<String, AllocError> {
     match nearest_name(alloc, grok, name)? {
         Some(nearest) => format!(in alloc;
@@ -92,10 +90,6 @@ fn advice_for_name(alloc: Global, grok: &Grok, name: &str) -> Result<String, All
 /// Returns the words that describe where a fault is: in the pattern, or in the definition of the
 /// last of these names. For a definition they say where it was given, and which definitions lead to
 /// it.
-///
-/// # Errors
-///
-/// If an allocation fails.
 pub fn describe_location(
     alloc: Global,
     library: &Library<'_>,
@@ -120,7 +114,6 @@ pub fn describe_location(
     Ok(words)
 }
 
-/// Appends the names of these placeholders.
 fn push_names<'a>(names: &mut Vec<&'a str>, path: &[PathStep<'a>]) -> Result<(), AllocError> {
     for step in path {
         names.push(step.name)?;
@@ -128,7 +121,6 @@ fn push_names<'a>(names: &mut Vec<&'a str>, path: &[PathStep<'a>]) -> Result<(),
     Ok(())
 }
 
-/// Adds to a report where a fault is.
 fn add_location(
     alloc: Global,
     library: &Library<'_>,
@@ -143,7 +135,6 @@ fn add_location(
     add_excerpt(alloc, report, words.as_str(), location.text, range)
 }
 
-/// Returns the report of a pattern that is empty.
 fn empty_report(alloc: Global, pattern: &PatternText) -> Result<Report, AllocError> {
     let what = format!(in alloc; "{} is empty", pattern.words)?;
     Report::new(
@@ -153,7 +144,6 @@ fn empty_report(alloc: Global, pattern: &PatternText) -> Result<Report, AllocErr
     )
 }
 
-/// Returns words that say why a placeholder is malformed.
 fn malformed_words(alloc: Global, reason: MalformedReason) -> Result<String, AllocError> {
     let words = match reason {
         MalformedReason::InvalidCharacter(c) => {
@@ -174,7 +164,6 @@ fn malformed_words(alloc: Global, reason: MalformedReason) -> Result<String, All
     String::from_str(alloc, words)
 }
 
-/// Returns the advice for a placeholder that is malformed for this reason.
 fn advice_for_malformed(reason: MalformedReason) -> &'static str {
     match reason {
         MalformedReason::InvalidCharacter('@') => NO_AT_SIGN,
@@ -182,7 +171,7 @@ fn advice_for_malformed(reason: MalformedReason) -> &'static str {
     }
 }
 
-/// Returns the report that a placeholder is malformed for this reason. It doesn't say yet where.
+/// The report doesn't say yet where the placeholder is.
 fn malformed_report(alloc: Global, reason: MalformedReason) -> Result<Report, AllocError> {
     let what = malformed_words(alloc, reason)?;
     Report::new(alloc, what.as_str(), advice_for_malformed(reason))
@@ -200,7 +189,7 @@ fn wrong_part<'a>(location: Location<'a>, byte: usize) -> Location<'a> {
     Location { path, text, range }
 }
 
-/// Returns the report that no definition has this name. It doesn't say yet where the name is.
+/// The report doesn't say yet where the name is.
 fn missing_report(alloc: Global, grok: &Grok, name: &str) -> Result<Report, AllocError> {
     let what = format!(in alloc; "there is no definition of {name}")?;
     let advice = advice_for_name(alloc, grok, name)?;
@@ -222,8 +211,7 @@ fn repeated<'a>(path: &[PathStep<'a>]) -> Option<&'a str> {
     None
 }
 
-/// Returns the report that placeholders are nested too deeply. `path` leads to the innermost of
-/// them. The report doesn't say yet where that is.
+/// `path` leads to the innermost placeholder. The report doesn't say yet where that is.
 fn too_deep_report(alloc: Global, path: &[PathStep<'_>]) -> Result<Report, AllocError> {
     let Some(name) = repeated(path) else {
         let what = format!(in alloc;
@@ -241,7 +229,7 @@ fn too_deep_report(alloc: Global, path: &[PathStep<'_>]) -> Result<Report, Alloc
     Report::new(alloc, what.as_str(), advice.as_str())
 }
 
-/// Describes how two placeholders get the same key. It is the alias of one of them. The other one
+/// Describes how two placeholders get the same key. For one of them the key is its alias. The other one
 /// gets it because the keys of placeholders with the same base key are numbered.
 fn clashing(alloc: Global, clash: &Clash<'_>) -> Result<String, AllocError> {
     let key = clash.key.as_str();
@@ -252,7 +240,6 @@ fn clashing(alloc: Global, clash: &Clash<'_>) -> Result<String, AllocError> {
     )
 }
 
-/// Returns the report of a pattern in which two placeholders get the same key.
 fn clash_report(
     alloc: Global,
     library: &Library<'_>,
@@ -266,8 +253,8 @@ fn clash_report(
     Ok(report)
 }
 
-/// Returns the name of the definition that a text is the name of, or would be without a `%` or braces, if it is
-/// no placeholder.
+/// Returns the name of a definition if a text is that name, with or without a `%` and braces, and isn't a
+/// placeholder.
 pub fn bare_name<'t>(library: &Library<'_>, text: &'t str) -> Option<&'t str> {
     if text.starts_with("%{") {
         return None;
@@ -281,7 +268,6 @@ pub fn bare_name<'t>(library: &Library<'_>, text: &'t str) -> Option<&'t str> {
     Some(name)
 }
 
-/// Returns the advice for a text that the engine refuses.
 fn advice_for_refusal(
     alloc: Global,
     library: &Library<'_>,
@@ -314,7 +300,6 @@ struct ReadSoFar {
 }
 
 impl ReadSoFar {
-    /// Returns the state after the next character.
     fn after(self, c: char) -> ReadSoFar {
         let classes = self.classes;
         let (is_escape, is_class_start) = (false, false);
@@ -344,7 +329,6 @@ impl ReadSoFar {
     }
 }
 
-/// Returns whether a byte position of a pattern or a definition is inside a character class.
 fn is_in_class(text: &str, position: usize) -> bool {
     let mut read = ReadSoFar {
         classes: 0,
@@ -357,7 +341,6 @@ fn is_in_class(text: &str, position: usize) -> bool {
     read.classes > 0
 }
 
-/// Appends copies of these steps.
 fn push_steps<'a>(steps: &mut Vec<PathStep<'a>>, path: &[PathStep<'a>]) -> Result<(), AllocError> {
     for step in path {
         steps.push(PathStep {
@@ -402,9 +385,9 @@ fn first_in_class<'a>(
     None
 }
 
-/// Returns the report of a definition whose placeholder is inside a character class, where it means its
-/// characters, and the engine refuses these for this reason. `steps` are the placeholders that lead to what it
-/// refuses. Returns `None` if none of them is in a class.
+/// Returns the report of a definition whose placeholder is inside a character class. There its text means
+/// single characters, and the engine refuses these for this reason. `steps` are the placeholders that lead
+/// to what it refuses. Returns `None` if none of them is in a class.
 fn class_report(
     alloc: Global,
     library: &Library<'_>,
@@ -431,7 +414,6 @@ fn class_report(
     Ok(Some(report))
 }
 
-/// Returns the report of a part of a pattern that the engine refuses because of its syntax.
 fn syntax_report(
     alloc: Global,
     library: &Library<'_>,
@@ -470,7 +452,6 @@ fn syntax_report(
     Ok(report)
 }
 
-/// Returns the report of a pattern that is too large for the engine.
 fn too_large_report(alloc: Global, pattern: &PatternText) -> Result<Report, AllocError> {
     let what = format!(in alloc; "{} is too large for the engine", pattern.words)?;
     Report::new(
@@ -480,7 +461,6 @@ fn too_large_report(alloc: Global, pattern: &PatternText) -> Result<Report, Allo
     )
 }
 
-/// Returns the report of a pattern whose expanded text the engine refuses.
 fn refusal_report(
     alloc: Global,
     library: &Library<'_>,
@@ -496,10 +476,6 @@ fn refusal_report(
 }
 
 /// Returns the report of why a pattern can't be compiled.
-///
-/// # Errors
-///
-/// If an allocation fails.
 pub fn report_of(
     alloc: Global,
     library: &Library<'_>,

@@ -10,7 +10,7 @@ use std::alloc::{AllocError, Global};
 use std::collections::BTreeMap;
 use std::ops::Range;
 
-/// What an expanded text has too much of.
+/// Which number of an expanded text is too great.
 #[derive(Clone, Copy, PartialEq, Eq)]
 enum Excess {
     Bytes,
@@ -37,7 +37,6 @@ struct Use<'a> {
 }
 
 impl Size {
-    /// Takes what was measured.
     fn of(measure: &Measure<'_>) -> Size {
         match measure {
             Measure::Size { length, groups, .. } => Size {
@@ -53,7 +52,8 @@ impl Size {
 }
 
 impl Use<'_> {
-    /// Returns how much of what is too much the placeholder makes, whose definition has this size.
+    /// Returns how many bytes or groups, whichever are too many, the placeholder adds if its definition has
+    /// this size.
     fn share(&self, excess: Excess, definition: Size) -> u128 {
         match excess {
             Excess::Bytes => definition.bytes as u128,
@@ -91,7 +91,6 @@ fn uses_in<'a>(
     Ok(uses)
 }
 
-/// Appends these uses.
 fn push_all<'a>(all: &mut Vec<Use<'a>>, uses: &[Use<'a>]) -> Result<(), AllocError> {
     for each in uses {
         all.push(*each)?;
@@ -104,9 +103,9 @@ fn push_all<'a>(all: &mut Vec<Use<'a>>, uses: &[Use<'a>]) -> Result<(), AllocErr
 struct Used<'a> {
     text: &'a str,
     size: Size,
-    /// How many placeholders for it have uses of their own that aren't counted yet.
+    /// How many placeholders for it there are whose uses aren't counted yet.
     waiting: usize,
-    /// How often it is used in the whole, as far as that is counted.
+    /// How often it is used in the whole pattern, as far as that is counted.
     count: u128,
 }
 
@@ -158,7 +157,7 @@ impl<'a> UsedDefinitions<'a> {
         })
     }
 
-    /// Finds out how large the expanded text of each is. Each definition is read once for that.
+    /// Measures the expanded text of each definition. Each definition is read once for that.
     fn measure(&mut self, grok: &'a Grok) -> Result<(), AllocError> {
         let mut texts = Vec::new(self.alloc);
         for used in self.by_name.values() {
@@ -171,8 +170,8 @@ impl<'a> UsedDefinitions<'a> {
         Ok(())
     }
 
-    /// Counts how often each is used. The uses of a definition are known once those of all definitions that use
-    /// it are, so each definition is read once.
+    /// Counts how often each definition is used. The uses of a definition are known once those of all
+    /// definitions that use it are, so each definition is read once.
     fn count(&mut self, pattern: &'a str) -> Result<(), AllocError> {
         let mut left = Vec::new(self.alloc);
         left.push((pattern, 1u128))?;
@@ -194,7 +193,7 @@ impl<'a> UsedDefinitions<'a> {
     }
 }
 
-/// A definition that a text uses, and what of the text it makes.
+/// A definition that a text uses, and how much of the expanded text comes from it.
 #[derive(Clone, Copy)]
 struct Part<'a> {
     /// Its first placeholder in the text.
@@ -206,7 +205,7 @@ struct Part<'a> {
 }
 
 impl<'a> Part<'a> {
-    /// Adds a placeholder to those that the text has of its name already.
+    /// Adds a placeholder to the placeholders of the same name that were found in the text before.
     fn with(part: Option<&Part<'a>>, each: &Use<'a>, share: u128) -> Part<'a> {
         let before = Part {
             first: *each,
@@ -222,7 +221,8 @@ impl<'a> Part<'a> {
     }
 }
 
-/// Returns the definition that makes most of the bytes or groups of a text, of those that the text uses itself.
+/// Returns the definition from which most of the bytes or groups of a text come, among those that the text
+/// uses itself.
 fn greatest_part<'a>(
     used: &UsedDefinitions<'a>,
     text: &'a str,
@@ -251,8 +251,9 @@ struct Growth<'a> {
     part: Option<Part<'a>>,
 }
 
-/// Goes from the pattern to what makes most of it, to what makes most of that, and so on. Returns the innermost
-/// text on this way that uses the next definition several times.
+/// Goes from the pattern to the definition from which most of it comes, from there to the one from which
+/// most of that comes, and so on. Returns the innermost text on this way that uses the next definition
+/// several times.
 fn growth_of<'a>(
     used: &UsedDefinitions<'a>,
     pattern: &'a str,
@@ -286,7 +287,6 @@ fn growth_of<'a>(
     Ok(found)
 }
 
-/// Returns the advice for a pattern that becomes too large because of this part.
 fn advice_for_size(
     used: &UsedDefinitions<'_>,
     part: Option<Part<'_>>,
@@ -313,7 +313,7 @@ fn advice_for_size(
     format!(in alloc; "use {name} less often: it is used {count} times; or {raise}")
 }
 
-/// Returns words for what is too large, and which of its numbers that is.
+/// Returns words that say how large the expanded text is, and which of its numbers is too great.
 fn excess_of(
     alloc: Global,
     library: &Library<'_>,
@@ -348,10 +348,6 @@ fn excess_of(
 
 /// Returns the report that the expanded text of a pattern would be too large: how large, and where it becomes
 /// so large.
-///
-/// # Errors
-///
-/// If an allocation fails.
 pub fn too_large_report(
     alloc: Global,
     library: &Library<'_>,

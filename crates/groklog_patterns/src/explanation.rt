@@ -5,14 +5,12 @@ use groklog_definitions::Library;
 use groklog_input::visible;
 use std::alloc::{AllocError, Global};
 
-/// Appends a line as messages show it, and a line feed.
 fn push_line(alloc: Global, lines: &mut String, line: &str) -> Result<(), AllocError> {
     let shown = visible(alloc, line)?;
     lines.push_str(shown.as_str())?;
     lines.push('\n')
 }
 
-/// Appends the line that shows a key, with its group and its extract.
 fn push_key(
     alloc: Global,
     lines: &mut String,
@@ -27,7 +25,6 @@ fn push_key(
     push_line(alloc, lines, line.as_str())
 }
 
-/// Appends a line for each key, in the order of the groups.
 fn push_keys(alloc: Global, lines: &mut String, pattern: &Pattern) -> Result<(), AllocError> {
     for (group, key) in &pattern.keys_by_group()? {
         push_key(alloc, lines, pattern, key, *group)?;
@@ -35,7 +32,6 @@ fn push_keys(alloc: Global, lines: &mut String, pattern: &Pattern) -> Result<(),
     Ok(())
 }
 
-/// Returns the line that shows the size of a pattern.
 fn size_line(
     alloc: Global,
     library: &Library<'_>,
@@ -54,10 +50,6 @@ fn size_line(
 }
 
 /// Returns lines that explain a pattern: its text, its expanded text, its size, and its keys.
-///
-/// # Errors
-///
-/// If an allocation fails.
 pub fn explain(
     alloc: Global,
     library: &Library<'_>,

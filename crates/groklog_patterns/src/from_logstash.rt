@@ -65,8 +65,8 @@ fn used_sources<'a>(
     Ok(found)
 }
 
-/// Puts the common definition of its name, if there is one, in the place of a definition of the user's, and
-/// returns whether that has no fault: the user's other definitions may lead it back to its own name.
+/// Replaces a definition of the user's by the common definition of the same name, if there is one. Returns
+/// whether the common one has no fault then: the user's other definitions may lead it back to its own name.
 fn can_leave_out<'a>(
     alloc: Global,
     library: &mut Library<'a>,
@@ -84,7 +84,6 @@ fn can_leave_out<'a>(
     Ok(!matches!(measure, Measure::Fault(_)))
 }
 
-/// Returns the advice for a definition that is refused.
 fn advice_for<'a>(
     alloc: Global,
     library: &mut Library<'a>,
@@ -102,7 +101,6 @@ fn advice_for<'a>(
     }
 }
 
-/// Returns the fault that reports why a text can't be rewritten, with this advice.
 fn refusal(
     alloc: Global,
     text: &str,
@@ -137,7 +135,13 @@ fn adapt(
     }
 }
 
-/// Rewrites a stored definition, and appends a note for each change.
+/// Returns words for a stored definition and for where it was given.
+fn location_of(alloc: Global, source: Source<'_>) -> Result<String, AllocError> {
+    let Source { name, origin } = source;
+    format!(in alloc; "the definition {name} ({origin})")
+}
+
+/// Rewrites a stored definition that the patterns use, and appends a note for each change.
 fn adapt_definition<'a>(
     alloc: Global,
     library: &mut Library<'a>,
@@ -145,12 +149,11 @@ fn adapt_definition<'a>(
     source: Source<'a>,
     wish: Wish,
 ) -> Result<(), Fault> {
-    let Source { name, origin, .. } = source;
-    let Some(text) = library.grok.definition(name) else {
+    let Some(text) = library.grok.definition(source.name) else {
         return Ok(());
     };
     let text = String::from_str(alloc, text)?;
-    let location = format!(in alloc; "the definition {name} ({origin})")?;
+    let location = location_of(alloc, source)?;
     let (text, location) = (text.as_str(), location.as_str());
     match adapt(alloc, notes, text, location, wish)? {
         Ok(rewritten) => Ok(library.store(source, rewritten.as_str())?),
@@ -219,12 +222,8 @@ pub fn adapt_all(
     Ok(Adapted { texts, notes })
 }
 
-/// Returns the names of the user's definitions that no other definition of the user uses, in byte order: those that are for
-/// whole texts, and not for parts of them.
-///
-/// # Errors
-///
-/// If an allocation fails.
+/// Returns the names of the user's definitions that no other definition of the user uses, in byte order. These
+/// are for whole texts, and not for parts of them.
 pub fn own_wholes<'a>(alloc: Global, library: &Library<'a>) -> Result<Vec<&'a str>, AllocError> {
     let own = library.own_sources(alloc)?;
     let mut used = Vec::new(alloc);
@@ -242,19 +241,22 @@ pub fn own_wholes<'a>(alloc: Global, library: &Library<'a>) -> Result<Vec<&'a st
     Ok(wholes)
 }
 
-/// Rewrites the user's definitions. One that has a part without a form for the engine stays as it is.
-///
-/// # Errors
-///
-/// If an allocation fails.
-pub fn adapt_own(alloc: Global, library: &mut Library<'_>, wish: Wish) -> Result<(), AllocError> {
+/// Rewrites the user's definitions, and returns a note for each change, ready to be shown. A definition that has
+/// a part without a form for the engine stays as it is.
+pub fn adapt_own(
+    alloc: Global,
+    library: &mut Library<'_>,
+    wish: Wish,
+) -> Result<Vec<String>, AllocError> {
+    let mut notes = Vec::new(alloc);
     for source in &library.own_sources(alloc)? {
         let Some(text) = library.grok.definition(source.name) else {
             continue;
         };
-        if let Outcome::Rewritten(Rewritten { text, .. }) = rewrite(alloc, text, wish)? {
+        let location = location_of(alloc, *source)?;
+        if let Ok(text) = adapt(alloc, &mut notes, text, location.as_str(), wish)? {
             library.store(*source, text.as_str())?;
         }
     }
-    Ok(())
+    Ok(notes)
 }

@@ -56,7 +56,7 @@ fn starts_of_groups(alloc: Global, expanded: &str) -> Result<BTreeMap<&str, usiz
     Ok(starts)
 }
 
-/// Returns where the placeholder stands to whose group a byte belongs, or `None` if the byte was copied.
+/// Returns the location of the placeholder to whose group a byte belongs, or `None` if the byte was copied.
 fn placeholder_of(written: ByteLocation<'_>) -> Option<Location<'_>> {
     let ByteLocation { location, part } = written;
     match part {
@@ -66,7 +66,6 @@ fn placeholder_of(written: ByteLocation<'_>) -> Option<Location<'_>> {
 }
 
 impl<'p> Source<'p> {
-    /// Takes a pattern and its text.
     fn new(
         alloc: Global,
         text: &'p PatternText,
@@ -79,7 +78,6 @@ impl<'p> Source<'p> {
         })
     }
 
-    /// Returns the byte position in the expanded text where the group of a key begins.
     fn start(&self, key: &str) -> Option<usize> {
         let group = self.pattern.group_of(key)?;
         let name = self.pattern.group_names().get(group)?;
@@ -87,7 +85,7 @@ impl<'p> Source<'p> {
         self.starts.get(&name.as_str()).copied()
     }
 
-    /// Returns for each key where the placeholder stands whose value it is, or `None` if its group was
+    /// Returns for each key the location of the placeholder that captures its value, or `None` if the group was
     /// written by hand.
     fn placeholders(
         &self,
@@ -137,7 +135,7 @@ fn title_of(
     Ok(title)
 }
 
-/// Gives the keys whose placeholder stands somewhere a title with it.
+/// Sets the titles of the keys that have the location of a placeholder.
 fn add_placeholders(
     alloc: Global,
     library: &Library<'_>,
@@ -170,13 +168,9 @@ fn keys_of<'k>(
     Ok((own, others))
 }
 
-/// Returns the title of each key: by which placeholder the first pattern that has the key finds it, and
-/// what that is defined as. A group that was written by hand has its key alone, and so has a key after many
-/// others. Each part of a title that is long is cut.
-///
-/// # Errors
-///
-/// If an allocation fails.
+/// Returns the title of each key: the placeholder with which the first pattern that has the key finds its
+/// value, and the definition of that placeholder. If the group was written by hand, or if many keys come
+/// before, the title is the key alone. Long parts of a title are cut.
 pub fn titles_of(
     alloc: Global,
     library: &Library<'_>,

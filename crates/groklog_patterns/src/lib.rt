@@ -9,6 +9,8 @@
 //! let mut explainer = Explainer::new(alloc, &library, &texts, &patterns, true)?;
 //! let report = explainer.report("line 1", "10.0.0.7 -")?; // it stops at %{WORD:verb}
 //! ```
+//!
+//! Where a call has no section `# Errors`, its error is a failed allocation.
 #![tactic(auto)]
 
 mod compiled;

@@ -32,12 +32,15 @@ fn shown(alloc: Global, text: &str) -> Result<String, AllocError> {
     Ok(shown)
 }
 
-/// Returns words for a piece: its text without the blanks around it, and whether it is a group.
+/// Returns words for a piece: its text without the blanks at its end, and whether it is a group. If it begins with a
+/// blank, the text stands between backticks.
 fn piece_words(alloc: Global, text: &str, range: &Range<usize>) -> Result<String, AllocError> {
-    let piece = text.get(range.start..range.end).unwrap_or("").trim();
+    let piece = text.get(range.start..range.end).unwrap_or("").trim_end();
     let text = shown(alloc, piece)?;
     if piece.is_empty() {
         String::from_str(alloc, "a blank")
+    } else if piece.starts_with(' ') {
+        format!(in alloc; "`{text}`")
     } else if piece.starts_with('(') {
         format!(in alloc; "the group {text}")
     } else {
@@ -45,7 +48,6 @@ fn piece_words(alloc: Global, text: &str, range: &Range<usize>) -> Result<String
     }
 }
 
-/// Appends a part of a text with the carets under it.
 fn push_excerpt(
     alloc: Global,
     report: &mut String,
@@ -115,7 +117,6 @@ fn bare_bracket(part: &str) -> Option<char> {
     }
 }
 
-/// Returns whether two matches end at the same position.
 fn ends_alike(one: &Option<Found>, other: &Option<Found>) -> bool {
     match (one, other) {
         (Some(one), Some(other)) => one.end == other.end,
@@ -124,9 +125,9 @@ fn ends_alike(one: &Option<Found>, other: &Option<Found>) -> bool {
     }
 }
 
-/// Returns the bracket that the line has where the beginning ends, if the pattern goes on there with the same
-/// bracket, which isn't escaped: as that of the piece that isn't found, or of one of the `groups` around it of
-/// which nothing was found yet.
+/// Returns the bracket at the position of the line where the beginning ends, if the pattern goes on there with
+/// the same bracket, unescaped. That may be the bracket of the piece that isn't found, or of one of the `groups`
+/// around it of which nothing was found yet.
 fn bracket_in_line(
     searched: &Searched<'_, '_>,
     (line, stop): (&str, &Stop),
@@ -157,10 +158,6 @@ fn bracket_in_line(
 
 impl<'p, 'd> Explainer<'p, 'd> {
     /// Takes the patterns of a run, with their texts.
-    ///
-    /// # Errors
-    ///
-    /// If an allocation fails.
     pub fn new(
         alloc: Global,
         library: &'p Library<'d>,
@@ -181,10 +178,6 @@ impl<'p, 'd> Explainer<'p, 'd> {
 
     /// Reports where the pattern stops that comes furthest in a line or an event that doesn't match.
     /// `place` are words for it, such as `line 3`.
-    ///
-    /// # Errors
-    ///
-    /// If an allocation fails.
     pub fn report(&mut self, place: &str, line: &str) -> Result<String, AllocError> {
         let (alloc, several) = (self.alloc, self.all.len() > 1);
         let mut report = format!(in alloc; "{place} doesn't match: ")?;

@@ -13,7 +13,7 @@ pub struct Searched<'p, 'd> {
     pub text: &'p PatternText,
     with_alias_only: bool,
     pub beginnings: Beginnings<'p>,
-    /// The keys after the numbers of their groups, in the order of the groups.
+    /// The keys, each after the number of its group, in the order of the groups.
     keys: Vec<(usize, &'p str)>,
 }
 
@@ -48,7 +48,6 @@ impl Stop {
     }
 }
 
-/// Returns where the pattern with this index stops in the line.
 fn stop_of(
     searched: &mut Searched<'_, '_>,
     pattern: usize,
@@ -65,10 +64,6 @@ fn stop_of(
 
 /// Finds out which of the patterns comes furthest in the line, and returns where it stops. If
 /// several come equally far, the first of them counts. Returns `None` if there is no pattern.
-///
-/// # Errors
-///
-/// If an allocation fails.
 pub fn furthest_stop(all: &mut [Searched<'_, '_>], line: &str) -> Result<Option<Stop>, AllocError> {
     let mut furthest: Option<Stop> = None;
     for (number, searched) in all.iter_mut().enumerate() {
@@ -115,10 +110,6 @@ fn part_between<'p>(first: ByteLocation<'p>, last: &ByteLocation<'p>) -> Locatio
 
 impl<'p, 'd> Searched<'p, 'd> {
     /// Takes a pattern and its text.
-    ///
-    /// # Errors
-    ///
-    /// If an allocation fails.
     pub fn new(
         alloc: Global,
         library: &'p Library<'d>,
@@ -137,10 +128,6 @@ impl<'p, 'd> Searched<'p, 'd> {
 
     /// Returns what the first `count` pieces of the pattern find in the line, or `None` if they
     /// find nothing or `count` is 0.
-    ///
-    /// # Errors
-    ///
-    /// If an allocation fails.
     pub fn find(&self, count: usize, line: &str) -> Result<Option<Found>, AllocError> {
         if count == 0 {
             return Ok(None);
@@ -182,10 +169,6 @@ impl<'p, 'd> Searched<'p, 'd> {
     }
 
     /// Returns the groups around the piece at this index, innermost first.
-    ///
-    /// # Errors
-    ///
-    /// If an allocation fails.
     pub fn groups_around(&self, alloc: Global, index: usize) -> Result<Vec<Group>, AllocError> {
         let mut around = Vec::new(alloc);
         let Some(piece) = self.beginnings.pieces().get(index) else {
@@ -205,10 +188,6 @@ impl<'p, 'd> Searched<'p, 'd> {
 
     /// Returns where a part of the expanded text was written. `part` has the start and the end of the
     /// part, which is a piece.
-    ///
-    /// # Errors
-    ///
-    /// If an allocation fails.
     pub fn written(&self, alloc: Global, part: Range<usize>) -> Result<Location<'p>, AllocError> {
         let (grok, pattern) = (&self.library.grok, self.text.text.as_str());
         let ends = [part.start, part.end.saturating_sub(1)];
@@ -229,10 +208,6 @@ impl<'p, 'd> Searched<'p, 'd> {
 
     /// Returns the placeholder of the pattern in whose definition these groups are. They are around
     /// one piece, innermost first. Returns `None` if they are written in the pattern itself.
-    ///
-    /// # Errors
-    ///
-    /// If an allocation fails.
     pub fn outermost(&self, groups: &[Group]) -> Result<Option<Outermost>, AllocError> {
         let (grok, pattern) = (&self.library.grok, self.text.text.as_str());
         for group in groups.iter().rev() {

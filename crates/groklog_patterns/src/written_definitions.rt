@@ -1,8 +1,8 @@
 //! Writes the definitions of a run as the text of one file.
 
-use groklog_definitions::{DefinitionFile, read_definition, skip_blanks, without_mark};
-use groklog_input::{Fault, Report};
-use oniguruma_syntax::{Outcome, Wish, rewrite};
+use groklog_definitions::{read_definition, skip_blanks, without_mark};
+use groklog_input::{Fault, Report, TextFile};
+use oniguruma_syntax::{Outcome, Rewritten, Wish, rewrite};
 use std::alloc::{AllocError, Global};
 
 /// The text of a file of definitions.
@@ -15,7 +15,6 @@ struct Lines {
 }
 
 impl Lines {
-    /// Adds a line with this end.
     fn push(&mut self, line: &str, end: &str) -> Result<(), AllocError> {
         self.text.push_str(line)?;
         self.text.push_str(end)
@@ -31,6 +30,23 @@ impl Lines {
         self.push(line, end)
     }
 
+    /// Adds a definition that was rewritten, and above it a comment for each change after which lines may match
+    /// in another way.
+    fn push_rewritten(
+        &mut self,
+        name: &str,
+        rewritten: &Rewritten,
+        end: &str,
+    ) -> Result<(), AllocError> {
+        for change in &rewritten.changes {
+            let comment = format!(in self.alloc; "# --from-logstash: {change}")?;
+            self.push(comment.as_str(), end)?;
+        }
+        let new = rewritten.text.as_str();
+        let line = format!(in self.alloc; "{name}={new}")?;
+        self.push(line.as_str(), end)
+    }
+
     /// Adds a line. If it is a definition, that is rewritten if need be. If it is a comment or empty, or if
     /// its definition is kept, it stays as it is.
     fn push_line(&mut self, line: &str, end: &str) -> Result<(), AllocError> {
@@ -44,15 +60,10 @@ impl Lines {
                 self.push_refused(line, end, why.as_str())
             }
             Outcome::Kept => self.push(line, end),
-            Outcome::Rewritten(rewritten) => {
-                let new = rewritten.text.as_str();
-                let line = format!(in self.alloc; "{name}={new}")?;
-                self.push(line.as_str(), end)
-            }
+            Outcome::Rewritten(rewritten) => self.push_rewritten(name, &rewritten, end),
         }
     }
 
-    /// Adds the lines of a file.
     fn push_file(&mut self, text: &str) -> Result<(), AllocError> {
         for line in without_mark(text).split_inclusive('\n') {
             let line = line.strip_suffix('\n').unwrap_or(line);
@@ -83,14 +94,15 @@ fn several_lines(alloc: Global, word: &str) -> Result<Fault, AllocError> {
 }
 
 /// Returns the text of a file that defines what these files and words after `-D` do, in this order. With `wish`,
-/// the definitions are rewritten, and a comment stands above each that can't be. All other lines stay as they are.
+/// the definitions are rewritten. Comments stand above each that can't be, and above each after whose changes lines
+/// may match in another way. All other lines stay as they are.
 ///
 /// # Errors
 ///
 /// Returns an error if the definition in a word has a line feed, or if an allocation fails.
 pub fn definition_lines(
     alloc: Global,
-    files: &[DefinitionFile],
+    files: &[TextFile],
     words: &[&str],
     wish: Option<Wish>,
 ) -> Result<String, Fault> {

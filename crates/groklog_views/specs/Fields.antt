@@ -2,9 +2,6 @@
 use Rattle.std.specs.Prelude.{ℕ, List, [], map, Option, option_map, option_and_then, unwrap_or, slice_get, slice_range, Vec}
 use Rattle.std.specs.Global.{Global}
 use Rattle.std.specs.List.{filter_map}
-use Rattle.groklog_answers.specs.Patterns.{MatchText}
-use Rattle.groklog_answers.specs.PlanViews.{names_of}
-use Rattle.groklog_views.specs.declared.located_fields.LocatedFields.{LocatedFields}
 use Rattle.marked_lines.specs.declared.runs.Field.{Field}
 
 -- The number of the key of a field, and the text of the line that the field has.
@@ -26,9 +23,3 @@ values_at value keys numbers = filter_map (numbered_value value keys) numbers
 -- The numbers of the keys of the pattern with this index.
 abbrev pub numbers_at : List (Vec ℕ Global) → ℕ → List ℕ
 numbers_at numbers_of index = unwrap_or (option_map (λ numbers. numbers.items) (slice_get numbers_of index)) []
-
--- The values that the keys of the pattern with this index have in a match, each with the number of its key, in the order
--- of the numbers of that pattern. `None` if there is no match.
-abbrev pub found_values : LocatedFields → Option MatchText → Option ℕ → Option (List (ℕ × List ℕ))
-found_values located found index = option_and_then (λ found. option_map (λ index.
-    values_at found.value (names_of located.keys.items) (numbers_at located.numbers_of.items index)) index) found

@@ -9,6 +9,9 @@ use std::cmp::OrderedFloat;
 /// How many bars over time there are at most.
 const MOST_STRETCHES: usize = 24;
 
+/// How many bytes a time has at most. A longer value with a time of day in it is a message.
+const MOST_TIME_BYTES: usize = 64;
+
 /// What numbers are like. Each figure is one of the numbers, by the nearest-rank method: the median is the first
 /// one in order that half of all numbers don't exceed.
 #[derive(Clone, Copy)]
@@ -35,7 +38,7 @@ fn number_of(text: &str) -> Option<OrderedFloat<f64>> {
     Some(OrderedFloat(number))
 }
 
-/// Returns the values as numbers, from the least to the greatest, or `None` if one of them is none.
+/// Returns the values as numbers, from the least to the greatest, or `None` if one of them isn't a number.
 fn numbers_of<'c>(
     alloc: Global,
     values: &[Counted<'c>],
@@ -68,10 +71,6 @@ fn percentile<'c>(numbers: &[CountedNumber<'c>], total: u64, percent: u64) -> &'
 
 /// Returns what these values, `total` together, are like as numbers, or `None` if there are none or one of them isn't
 /// a number.
-///
-/// # Errors
-///
-/// If an allocation fails.
 pub(crate) fn figures_of<'c>(
     alloc: Global,
     values: &[Counted<'c>],
@@ -124,21 +123,21 @@ fn is_time_at(bytes: &[u8], start: usize) -> bool {
     stands_alone && ends && is_hour(*a, *b) && is_minute(*c, *d)
 }
 
-/// Returns whether a text has a time of day in it.
-fn has_time_of_day(text: &str) -> bool {
+/// Returns whether a text is short enough for a time, and has a time of day in it.
+fn is_time(text: &str) -> bool {
     let bytes = text.as_bytes();
-    (0..bytes.len()).any(|start| is_time_at(bytes, start))
+    bytes.len() <= MOST_TIME_BYTES && (0..bytes.len()).any(|start| is_time_at(bytes, start))
 }
 
 /// The values of a key.
 #[derive(Drop)]
 pub(crate) struct KeyValues {
     alloc: Global,
-    /// How many there are.
+    /// How many values there are.
     pub(crate) total: u64,
-    /// How often each of them came.
+    /// How often each value came.
     pub(crate) counts: ValueCounts,
-    /// All of them in the order in which they were read, if each has a time of day.
+    /// All of them in the order in which they were read, if each is a time.
     pub(crate) times: Option<Vec<String>>,
 }
 
@@ -153,15 +152,10 @@ impl KeyValues {
         }
     }
 
-    /// Adds a value.
-    ///
-    /// # Errors
-    ///
-    /// If an allocation fails.
     pub(crate) fn note(&mut self, value: &str) -> Result<(), AllocError>
         ensures { OnOk result (CountsValue self.old.counts self.new.counts (Some value.now)) }
     {
-        if !has_time_of_day(value) {
+        if !is_time(value) {
             self.times = None;
         }
         if let Some(times) = &mut self.times {
@@ -213,12 +207,8 @@ fn is_cut(time: &str, cut: usize) -> bool {
     }
 }
 
-/// Returns the times over time: all of them are cut after the same number of bytes, the greatest one with which
-/// at most 24 stretches begin alike. There are none if no number is small enough.
-///
-/// # Errors
-///
-/// If an allocation fails.
+/// Returns the stretches of the times. All times are cut after the same number of bytes, the greatest number that
+/// gives at most 24 stretches. There are no stretches if each number gives more.
 pub(crate) fn stretches_of<'t>(
     alloc: Global,
     times: &'t [String],

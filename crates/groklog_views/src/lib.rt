@@ -1,15 +1,17 @@
 //! What `groklog` shows of the lines or events of a log in place of answers: lines with their fields marked, and a
 //! page of HTML. It reads and writes no files.
 //!
-//! [`LocatedFields`] finds the match of a line, and where the values of its keys are. A line is then shown on a
-//! terminal, or added to the content of a page:
+//! [`LocatedFields`] finds where in a line the values of the keys of its match are, with which the line is shown on a
+//! terminal. A page collects its lines:
 //!
 //! ```text
-//! if let Some(fields) = located.find(line)? {
-//!     let shown = shown_line(alloc, line, &fields, true)?; // in colours
-//!     content.add_matched(number, line, &fields)?;
+//! if let Ok(found) = line.found {
+//!     let shown = shown_line(alloc, line.text, &located.find(found)?, true)?; // in colours
+//!     content.add_matched(line, found)?;
 //! }
 //! ```
+//!
+//! Where a call has no section `# Errors`, its error is a failed allocation.
 #![tactic(auto)]
 
 mod key_figures;

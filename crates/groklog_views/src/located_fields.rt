@@ -1,25 +1,23 @@
 //! Finds where in a line the values of keys are.
-ghost use Rattle.std.specs.Prelude.{◌≡◌, IfOk, OnOk, ◌+◌, map, option_map};
+ghost use Rattle.std.specs.Prelude.{◌≡◌, IfOk, map, option_map};
 ghost use Rattle.std.specs.List.{filter_map};
-ghost use Rattle.std.specs.Option.{is_some};
 ghost use Rattle.grok.specs.Answers.{value_of};
 ghost use Rattle.grok.specs.BorrowedMatches.{borrowed_line, borrowed_keys, borrowed_captures};
-ghost use Rattle.groklog_answers.specs.{patterns_in, next_number_in, first_match, first_index, HasCounted};
+ghost use Rattle.groklog_answers.specs.{found_text_of};
 ghost use Rattle.groklog_answers.specs.PlanViews.{names_of};
-ghost use Rattle.groklog_views.specs.Fields.{field_text, fields_text, numbered_value, numbers_at, values_at, found_values};
+ghost use Rattle.groklog_views.specs.Fields.{field_text, fields_text, numbered_value, numbers_at, values_at};
 
 use grok::{MatchesRef, Pattern};
-use groklog_answers::Searches;
+use groklog_answers::LineMatch;
 use marked_lines::Field;
 use std::alloc::{AllocError, Global};
 use std::collections::BTreeMap;
 use std::ops::Range;
 
-/// Finds the matches of lines, and where in the line the values of the keys are.
+/// Finds where in a line the values of the keys are.
 #[derive(Drop)]
 pub struct LocatedFields<'a> {
     alloc: Global,
-    pub searches: Searches<'a>,
     /// The keys of all patterns, each once. The keys of the first pattern come first, and those of one
     /// pattern in the order of their groups.
     pub keys: Vec<&'a str>,
@@ -90,7 +88,6 @@ impl<'p> KeyNumbers<'p> {
     }
 }
 
-/// Returns where a match has the value of the key with this number, or `None` if it has none.
 fn field_of(matches: MatchesRef<'_>, keys: &[&str], key: usize) -> Option<Field>
     ensures { option_map (field_text (borrowed_line matches.entry)) result
         ≡ numbered_value (value_of (borrowed_keys matches.entry) (borrowed_captures matches.entry)) (names_of keys.now) key }
@@ -100,7 +97,6 @@ fn field_of(matches: MatchesRef<'_>, keys: &[&str], key: usize) -> Option<Field>
     Some(Field { key, start, end })
 }
 
-/// Returns where a match has the values of the keys with these numbers, without those that have none.
 fn fields_in(
     alloc: Global,
     matches: MatchesRef<'_>,
@@ -119,7 +115,6 @@ fn fields_in(
     Ok(fields)
 }
 
-/// Returns the numbers of the keys of the pattern with this index.
 fn numbers_at(numbers_of: &[Vec<usize>], index: usize) -> &[usize]
     ensures { result.now ≡ numbers_at numbers_of.now index }
 {
@@ -130,20 +125,12 @@ fn numbers_at(numbers_of: &[Vec<usize>], index: usize) -> &[usize]
 }
 
 impl<'a> LocatedFields<'a> {
-    /// Takes the patterns that `searches` has, in their order. If `fields` is given, only these keys
-    /// count.
-    ///
-    /// # Errors
-    ///
-    /// If an allocation fails.
+    /// Takes the patterns of a run, in their order. If `fields` is given, only these keys count.
     pub fn new(
         alloc: Global,
-        searches: Searches<'a>,
         patterns: &'a [Pattern],
         fields: Option<&[&'a str]>,
-    ) -> Result<LocatedFields<'a>, AllocError>
-        ensures { IfOk result (λ located. located.searches ≡ searches.entry) }
-    {
+    ) -> Result<LocatedFields<'a>, AllocError> {
         let mut numbers = KeyNumbers::new(alloc, fields)?;
         let mut numbers_of = Vec::new(alloc);
         for pattern in patterns {
@@ -152,30 +139,18 @@ impl<'a> LocatedFields<'a> {
         let KeyNumbers { keys, .. } = numbers;
         Ok(LocatedFields {
             alloc,
-            searches,
             keys,
             numbers_of,
         })
     }
 
-    /// Numbers and counts a line, and returns the fields of its match, or `None` if no pattern matches it. A
-    /// field comes after those around it.
-    ///
-    /// # Errors
-    ///
-    /// If an allocation fails.
-    pub fn find(&mut self, line: &str) -> Result<Option<Vec<Field>>, AllocError>
-        ensures is_match { IfOk result (λ fields. is_some fields ≡ is_some (first_match (patterns_in self.old.searches) line.now)) }
-        ensures fields { IfOk result (λ fields. option_map (fields_text line.now) fields
-            ≡ found_values self.old (first_match (patterns_in self.old.searches) line.now) (first_index (patterns_in self.old.searches) line.now)) }
-        ensures number { OnOk result (next_number_in self.new.searches ≡ next_number_in self.old.searches + 1) }
-        ensures counted { OnOk result (HasCounted self.old.searches self.new.searches (first_index (patterns_in self.old.searches) line.now)) }
-        ensures patterns { patterns_in self.new.searches ≡ patterns_in self.old.searches }
+    /// Returns the fields of a match in its line. A field comes after those around it.
+    pub fn find(&self, found: LineMatch<'_>) -> Result<Vec<Field>, AllocError>
+        ensures { IfOk result (λ fields. fields_text (borrowed_line found.entry.matches) fields
+            ≡ values_at (found_text_of found.entry).value (names_of self.now.keys.items)
+            (numbers_at self.now.numbers_of.items found.entry.index)) }
     {
-        let Some(found) = self.searches.find(line)? else {
-            return Ok(None);
-        };
         let numbers = numbers_at(&self.numbers_of, found.index);
-        Ok(Some(fields_in(self.alloc, found.matches, &self.keys, numbers)?))
+        fields_in(self.alloc, found.matches, &self.keys, numbers)
     }
 }

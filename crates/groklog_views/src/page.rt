@@ -4,9 +4,8 @@ ghost use Rattle.groklog_answers.specs.{matched_in};
 ghost use Rattle.groklog_views.specs.Pages.{share_count, share_counts};
 
 use crate::key_figures::{KeyValues, figures_of, stretches_of};
-use crate::located_fields::LocatedFields;
 use crate::page_content::{EXPLAINED, PageContent};
-use groklog_answers::{Counted, Failure, Searches};
+use groklog_answers::{Counted, Failure, Flow, Searches};
 use groklog_input::Unit;
 use marked_lines::Html;
 use std::alloc::{AllocError, Global};
@@ -51,7 +50,6 @@ fn tenths_of(count: u64, total: u64) -> u64 {
     (tenths / total).min(1000)
 }
 
-/// Appends the cell with a bar for a share in tenths of a percent.
 fn push_bar(alloc: Global, html: &mut Html, tenths: u64) -> Result<(), AllocError> {
     let width = format!(in alloc; "{}.{}", tenths / 10, tenths % 10)?;
     html.push_markup("<td class=\"bar\"><div style=\"width:")?;
@@ -59,7 +57,8 @@ fn push_bar(alloc: Global, html: &mut Html, tenths: u64) -> Result<(), AllocErro
     html.push_markup("%\"></div></td>")
 }
 
-/// How many of the lines or events of a page `words` are about: those that a pattern matches, or others.
+/// A part of the lines or events of a page, such as those that a pattern matches: how many there are, and the
+/// words for them.
 #[derive(Clone, Copy)]
 struct Share<'w> {
     count: u64,
@@ -67,7 +66,6 @@ struct Share<'w> {
     is_pattern: bool,
 }
 
-/// Returns how many lines or events each pattern matches. `tags` has the tag of each pattern.
 fn pattern_shares<'o>(
     alloc: Global,
     tags: &[&'o str],
@@ -87,8 +85,7 @@ fn pattern_shares<'o>(
     Ok(shares)
 }
 
-/// Returns how many lines or events each pattern matches, how many none matches, and how many aren't UTF-8,
-/// if there are any. `tags` has the tag of each pattern.
+/// `tags` has the tag of each pattern.
 fn shares_of<'o>(
     alloc: Global,
     tags: &[&'o str],
@@ -113,11 +110,10 @@ fn shares_of<'o>(
     Ok(shares)
 }
 
-/// Appends the row of a share in the lines or events of a page.
 fn push_share(
     alloc: Global,
     html: &mut Html,
-    content: &PageContent,
+    content: &PageContent<'_>,
     share: Share<'_>,
 ) -> Result<(), AllocError> {
     let tenths = tenths_of(share.count, content.count);
@@ -139,11 +135,10 @@ fn push_share(
     html.push_markup(after)
 }
 
-/// Appends the table of the shares.
 fn push_shares(
     alloc: Global,
     html: &mut Html,
-    content: &PageContent,
+    content: &PageContent<'_>,
     shares: &[Share<'_>],
 ) -> Result<(), AllocError> {
     html.push_markup("<h2>Patterns</h2>\n<table>\n")?;
@@ -170,7 +165,6 @@ fn push_count(
     html.push_markup("</code></td></tr>\n")
 }
 
-/// Appends a paragraph.
 fn push_paragraph(html: &mut Html, text: &str) -> Result<(), AllocError> {
     html.push_markup("<p>")?;
     html.push_text(text)?;
@@ -219,8 +213,9 @@ fn push_times(alloc: Global, html: &mut Html, times: &[String]) -> Result<(), Al
     html.push_markup("</table>\n")
 }
 
-/// Appends what is worth seeing of the values of a key: of times how many there are over time, of numbers what they
-/// are like, and otherwise, or if a number came twice, the commonest values, unless all of many are different.
+/// Appends what is worth seeing of the values of a key. Times are counted over time. Of numbers the least, the
+/// median, the 95th percentile and the greatest are given. The commonest values follow if a value came twice,
+/// or if there are only a few values and not all are numbers.
 fn push_values(
     alloc: Global,
     html: &mut Html,
@@ -348,17 +343,16 @@ fn push_head(alloc: Global, html: &mut Html, files: &[&str]) -> Result<(), Alloc
 }
 
 /// Returns the sentence that says which lines or events the page has.
-fn read_lines_in_words(alloc: Global, content: &PageContent) -> Result<String, AllocError> {
+fn read_lines_in_words(alloc: Global, content: &PageContent<'_>) -> Result<String, AllocError> {
     let lines = content.scope.unit.counted(alloc, content.count)?;
-    if content.is_full {
-        format!(in alloc; "The first {lines} were read: --max N reads more.")
-    } else {
-        format!(in alloc; "All {lines} were read.")
+    match content.flow() {
+        Flow::Enough => format!(in alloc; "The first {lines} were read: --max N reads more."),
+        Flow::More => format!(in alloc; "All {lines} were read."),
     }
 }
 
 /// Appends the lines or events.
-fn push_items(alloc: Global, html: &mut Html, content: &PageContent) -> Result<(), AllocError> {
+fn push_items(alloc: Global, html: &mut Html, content: &PageContent<'_>) -> Result<(), AllocError> {
     let unit = content.scope.unit;
     let words = format!(in alloc;
         "A field shows its key and its definition when the pointer is over it. Of the {} that don't match, the first {EXPLAINED} say where the pattern stops.",
@@ -377,18 +371,14 @@ fn push_items(alloc: Global, html: &mut Html, content: &PageContent) -> Result<(
 /// Returns the page about these files: which share of the lines or events each pattern matches, the
 /// values of each key, and the lines or events. `tags` has the tag of each pattern, by which the page
 /// calls it.
-///
-/// # Errors
-///
-/// If an allocation fails.
 pub fn page_html(
     alloc: Global,
     files: &[&str],
     tags: &[&str],
-    located: &LocatedFields<'_>,
-    content: &PageContent,
+    searches: &Searches<'_>,
+    content: &PageContent<'_>,
 ) -> Result<Html, AllocError> {
-    let shares = shares_of(alloc, tags, &located.searches)?;
+    let shares = shares_of(alloc, tags, searches)?;
     let mut html = Html::new(alloc);
     push_head(alloc, &mut html, files)?;
     let words = read_lines_in_words(alloc, content)?;
@@ -396,7 +386,7 @@ pub fn page_html(
     html.push_text(words.as_str())?;
     html.push_markup("</p>\n")?;
     push_shares(alloc, &mut html, content, &shares)?;
-    push_keys(alloc, &mut html, &located.keys, &content.values)?;
+    push_keys(alloc, &mut html, &content.located.keys, &content.values)?;
     push_items(alloc, &mut html, content)?;
     Ok(html)
 }

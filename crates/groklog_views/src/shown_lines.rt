@@ -8,10 +8,6 @@ use std::alloc::{AllocError, Global};
 
 /// Returns the line that shows which key has which colour, or which letter. It is empty if there are no
 /// keys.
-///
-/// # Errors
-///
-/// If an allocation fails.
 pub fn legend_of(alloc: Global, keys: &[&str], is_coloured: bool) -> Result<String, AllocError> {
     let mut legend = String::new(alloc);
     if keys.is_empty() {
@@ -35,11 +31,8 @@ pub fn legend_of(alloc: Global, keys: &[&str], is_coloured: bool) -> Result<Stri
     Ok(legend)
 }
 
-/// Returns a line that no pattern matches, as it is shown: dimmed if there are colours, and else as it is.
-///
-/// # Errors
-///
-/// If an allocation fails.
+/// Returns a line that no pattern matches, as it is shown: dimmed if there are colours, and otherwise as it
+/// is.
 pub fn shown_unmatched(alloc: Global, line: &str, is_coloured: bool) -> Result<String, AllocError>
     ensures { IfOk result (λ shown. string_bytes shown ≡ unmatched_shown is_coloured line.now) }
 {
@@ -70,12 +63,8 @@ fn push_lettered(
     shown.push_str(row)
 }
 
-/// Returns a line as it is shown with these fields: in colours if `is_coloured` is set, and else with letters
-/// under them.
-///
-/// # Errors
-///
-/// If an allocation fails.
+/// Returns a line as it is shown with these fields: in colours if `is_coloured` is set, and otherwise with
+/// letters under them.
 pub fn shown_line(
     alloc: Global,
     line: &str,

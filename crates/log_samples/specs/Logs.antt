@@ -9,7 +9,7 @@ abbrev pub is_object : List ℕ → Bool
 is_object text = starts_with nat_eq text (codes "{")
     && (starts_with nat_eq (trim_start (drop 1 text)) (codes "\"") && ends_with nat_eq text (codes "}"))
 
--- A LINE LOOKS LIKE A JSON OBJECT: such a text, with white space around it.
+-- A LINE LOOKS LIKE A JSON OBJECT: without the white space around it, it is such a text.
 abbrev pub looks_like_object : List ℕ → Bool
 looks_like_object line = is_object (trim line)
 

@@ -10,7 +10,6 @@ use crate::definitions::Definitions;
 use grok::{Error, Grok, Measure, Pattern};
 use std::alloc::AllocError;
 
-/// Returns whether something is wrong with a pattern.
 fn is_faulty(grok: &Grok, text: &str) -> Result<bool, AllocError> {
     Ok(grok.diagnose(text, true)?.is_some())
 }
@@ -18,10 +17,6 @@ fn is_faulty(grok: &Grok, text: &str) -> Result<bool, AllocError> {
 /// Compiles a pattern in which placeholders with an alias capture. Returns `None` if the pattern or
 /// a definition that it uses has a fault, or if its expanded text would be too large. That is known before any of the text
 /// is written.
-///
-/// # Errors
-///
-/// If an allocation fails.
 pub fn compile_valid(
     definitions: Definitions<'_>,
     text: &str,

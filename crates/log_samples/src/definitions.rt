@@ -8,6 +8,6 @@ pub struct Definitions<'a> {
     pub grok: &'a Grok,
     /// How many bytes the expanded text of a pattern has at most.
     pub most_bytes: usize,
-    /// How many of its groups are those of placeholders at most.
+    /// How many groups of placeholders that text has at most.
     pub most_groups: usize,
 }

@@ -16,14 +16,14 @@ pub struct Fit {
     /// How many lines it fits: those in which it finds something, but not the whole line as one
     /// value. A pattern `^..$` finds something only in lines that it matches whole.
     pub lines: usize,
-    /// How many of its keys have a value in one of these lines that isn't empty.
+    /// How many keys of the pattern have a value that isn't empty in one of these lines.
     pub fields: usize,
 }
 
 /// Which of some lines a pattern fits, and how well.
 #[derive(Drop)]
 pub struct FittedLines {
-    /// Whether it fits each of the lines.
+    /// For each of the lines, whether the pattern fits it.
     pub each: Vec<bool>,
     pub fit: Fit,
 }
@@ -33,7 +33,7 @@ pub struct FittedLines {
 pub struct Candidate {
     pub text: String,
     pub fit: Fit,
-    /// Whether it fits each of the lines.
+    /// For each of the lines, whether the pattern fits it.
     pub each: Vec<bool>,
 }
 
@@ -42,8 +42,7 @@ struct Counter<'p> {
     matcher: Matcher<'p>,
 }
 
-// This is written by hand because the kit can't prove the drop of a struct with a matcher if `Drop`
-// is derived.
+// Written by hand, because the kit can't prove the drop of a struct with a matcher if `Drop` is derived.
 impl Drop for Counter<'_> {
     fn drop(self) {
         let Counter { matcher: _matcher } = self;
@@ -51,10 +50,6 @@ impl Drop for Counter<'_> {
 }
 
 /// Returns for each line whether a pattern finds something in it.
-///
-/// # Errors
-///
-/// If an allocation fails.
 pub fn finds_each(
     alloc: Global,
     pattern: &Pattern,
@@ -68,7 +63,6 @@ pub fn finds_each(
     Ok(each)
 }
 
-/// Returns whether a match tells something about its line: no value of it is the whole line.
 fn tells(matches: MatchesRef<'_>, line: &str) -> bool
     ensures { result ≡ tells line.now (walk (borrowed_keys matches.entry) (borrowed_captures matches.entry)) }
 {
@@ -87,7 +81,6 @@ struct MissingKeys<'p> {
 }
 
 impl<'p> MissingKeys<'p> {
-    /// Takes all keys of a pattern.
     fn of(alloc: Global, pattern: &'p Pattern) -> Result<MissingKeys<'p>, AllocError> {
         let mut keys = BTreeMap::new(alloc);
         for key in pattern.capture_names() {
@@ -96,7 +89,7 @@ impl<'p> MissingKeys<'p> {
         Ok(MissingKeys { keys })
     }
 
-    /// Takes out the keys that have a value in a match.
+    /// Removes the keys that have a value in a match.
     fn note(&mut self, matches: MatchesRef<'_>) {
         if self.keys.is_empty() {
             return;
@@ -110,7 +103,6 @@ impl<'p> MissingKeys<'p> {
 }
 
 impl<'p> Counter<'p> {
-    /// Returns whether the pattern fits a line, and notes the keys that have a value if it does.
     fn fits(&mut self, line: &str, missing: &mut MissingKeys<'_>) -> Result<bool, AllocError>
         ensures fits { IfOk result (λ is_fit. is_fit ≡ fits self.old.matcher line.now) }
         ensures same { self.new.matcher ≡ self.old.matcher }
@@ -128,7 +120,6 @@ impl<'p> Counter<'p> {
     }
 }
 
-/// Returns for each line whether a pattern fits it, and notes the keys that have a value in one of these lines.
 fn fits_each(
     alloc: Global,
     pattern: &Pattern,
@@ -161,10 +152,6 @@ pub fn count(each: &[bool]) -> usize
 }
 
 /// Returns which lines a pattern fits, and how well.
-///
-/// # Errors
-///
-/// If an allocation fails.
 pub fn fitted_lines(
     alloc: Global,
     pattern: &Pattern,
@@ -185,12 +172,8 @@ pub fn fitted_lines(
 }
 
 impl Candidate {
-    /// Compiles a pattern, and finds out which of the lines it fits. Returns `None` if it can't be compiled, or fits no
-    /// line.
-    ///
-    /// # Errors
-    ///
-    /// If an allocation fails.
+    /// Compiles a pattern, and finds out which of the lines it fits. Returns `None` if the pattern can't be
+    /// compiled, or fits no line.
     pub fn new(
         alloc: Global,
         definitions: Definitions<'_>,
@@ -209,11 +192,7 @@ impl Candidate {
         Ok(Some(Candidate { text, fit, each }))
     }
 
-    /// Returns those of the lines that it doesn't fit.
-    ///
-    /// # Errors
-    ///
-    /// If an allocation fails.
+    /// Returns the lines that the pattern doesn't fit.
     pub fn unfit_lines<'l>(
         &self,
         alloc: Global,

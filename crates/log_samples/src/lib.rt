@@ -8,6 +8,8 @@
 //! let mut cutter = Cutter::new(alloc, recognizer.search(alloc)?);
 //! let tokens = cutter.cut("12 user bob")?; // a number, a blank, a word, a blank, and a word
 //! ```
+//!
+//! Where a call has no section `# Errors`, its error is a failed allocation.
 #![tactic(auto)]
 
 mod compiled;

@@ -6,10 +6,6 @@ use regex_syntax::escape;
 use std::alloc::{AllocError, Global};
 
 /// Returns a text as it is written in a pattern that finds this very text.
-///
-/// # Errors
-///
-/// If an allocation fails.
 pub fn literal(alloc: Global, text: &str) -> Result<String, AllocError>
     ensures { IfOk result (λ literal. ReadsAsText (string_bytes literal) text.now) }
 {

@@ -7,12 +7,10 @@ use crate::values::{separator_of, value_at, value_count};
 /// One line in this many may be no JSON object.
 const LINES_FOR_ONE_NO_OBJECT: usize = 10;
 
-/// Returns whether a text has a digit.
 fn has_digit(text: &str) -> bool {
     text.chars().any(|c| c.is_ascii_digit())
 }
 
-/// Returns whether the value with this index has a digit in each of the lines.
 fn has_digits(lines: &[&str], separator: char, index: usize) -> bool {
     for line in lines {
         if !has_digit(value_at(line, separator, index).unwrap_or("")) {
@@ -42,9 +40,7 @@ fn has_header(lines: &[&str], separator: char) -> bool {
 /// What lines are, if another program reads them better than patterns do.
 #[derive(Clone, Copy, PartialEq, Eq)]
 pub enum LogKind {
-    /// Lines for patterns.
     Lines,
-    /// JSON objects.
     Json,
     /// Values between separators. The first line may have their names.
     Table {
@@ -54,7 +50,6 @@ pub enum LogKind {
     },
 }
 
-/// Returns whether a line looks like a JSON object: `{"`, and at the end `}`.
 fn is_json(line: &str) -> bool
     ensures { result ≡ looks_like_object line.now }
 {
@@ -68,7 +63,6 @@ fn is_json(line: &str) -> bool
     is_open && is_closed
 }
 
-/// Returns whether nine of ten lines, and at least one, look like JSON objects.
 fn are_objects(lines: &[&str]) -> bool
     ensures { IsTrue result ↔ AreObjects lines.now }
 {
@@ -76,8 +70,8 @@ fn are_objects(lines: &[&str]) -> bool
     others < lines.len() && others <= lines.len() / LINES_FOR_ONE_NO_OBJECT
 }
 
-/// Returns what lines are: JSON objects if nine of ten look so, and a table if almost all have as many values between the
-/// same separators.
+/// Returns the kind of a log: JSON objects if nine of ten lines look like one, and a table if almost all lines
+/// have the same number of values between the same separators.
 pub fn kind_of_log(lines: &[&str]) -> LogKind
     ensures { result ≡ LogKind.Json ↔ AreObjects lines.now }
 {

@@ -6,16 +6,14 @@ use grok::Grok;
 use regex::{CaptureLocations, Matcher, Regex};
 use std::alloc::{AllocError, Global};
 
-/// What the text that a definition recognizes says.
+/// The meaning of a text that a definition recognizes.
 #[derive(Clone, Copy, PartialEq, Eq)]
 pub enum Meaning {
     /// A time, or a date and a time.
     Time,
     /// A level of a message.
     Level,
-    /// A number.
     Number,
-    /// Something else.
     Other,
 }
 
@@ -28,8 +26,8 @@ pub struct Known {
     pub meaning: Meaning,
 }
 
-/// The definitions that are looked for in lines, each with the key of its placeholder and what it says. Of those that
-/// recognize something at the same position, the first one counts.
+/// The definitions that are looked for in lines, each with the key of its placeholder and its meaning. If
+/// several recognize something at the same position, the first one counts.
 static KNOWN: [(&str, &str, Meaning); 29] = [
     ("DATESTAMP_RFC2822", "timestamp", Meaning::Time),
     ("DATESTAMP_RFC822", "timestamp", Meaning::Time),
@@ -62,7 +60,7 @@ static KNOWN: [(&str, &str, Meaning); 29] = [
     ("NUMBER", "number", Meaning::Number),
 ];
 
-/// Returns the definitions of [`KNOWN`]. Each function that named them itself would be proved with all of them.
+/// Returns [`KNOWN`]. A function that named it itself would be proved with all 29 definitions.
 fn known_definitions() -> &'static [(&'static str, &'static str, Meaning)] {
     &KNOWN
 }
@@ -78,7 +76,6 @@ pub fn known_definition(index: usize) -> Known {
 /// A group of the regular expression of a recognizer.
 #[derive(Clone, Copy)]
 struct Group {
-    /// Its number.
     number: usize,
     /// The index of its definition in [`KNOWN`].
     known: usize,
@@ -93,7 +90,7 @@ pub struct Recognizer<'d> {
     groups: Vec<Group>,
 }
 
-/// What a definition recognizes in a line.
+/// A part of a line that a definition recognizes.
 #[derive(Clone, Copy)]
 pub(crate) struct Recognized {
     /// The byte range in the line.
@@ -127,10 +124,6 @@ fn alternatives(alloc: Global, grok: &Grok) -> Result<String, AllocError> {
 
 impl<'d> Recognizer<'d> {
     /// Makes the recognizer with these definitions. If one of them has a fault, nothing is recognized.
-    ///
-    /// # Errors
-    ///
-    /// If an allocation fails.
     pub fn new(alloc: Global, definitions: Definitions<'d>) -> Result<Recognizer<'d>, AllocError> {
         let mut groups = Vec::new(alloc);
         let text = alternatives(alloc, definitions.grok)?;
@@ -164,10 +157,6 @@ impl<'d> Recognizer<'d> {
     }
 
     /// Makes a search for what is recognized.
-    ///
-    /// # Errors
-    ///
-    /// If an allocation fails.
     pub fn search(&self, alloc: Global) -> Result<RecognizerSearch<'_>, AllocError> {
         let Some(regex) = &self.regex else {
             return Ok(RecognizerSearch {
@@ -192,7 +181,7 @@ pub struct RecognizerSearch<'r> {
 }
 
 impl RecognizerSearch<'_> {
-    /// Returns what is recognized first in the line from the byte position `from` on.
+    /// Returns the first part of the line from the byte position `from` on that a definition recognizes.
     pub(crate) fn find(&mut self, line: &str, from: usize) -> Option<Recognized> {
         let (matcher, locations) = self.engine.as_mut()?;
         let found = matcher.captures_read_at(locations, line, from)?;

@@ -5,10 +5,10 @@ ghost use Rattle.log_samples.specs.Tokens.{joined};
 use crate::recognizer::{Meaning, Recognized, RecognizerSearch, known_definition};
 use std::alloc::{AllocError, Global};
 
-/// How many tokens of a line are told apart at most. What comes after them is one token.
+/// How many tokens are cut from a line at most. The rest of the line is one more token.
 const MOST_TOKENS: usize = 200;
 
-/// How many bytes of a line are looked at. What comes after them is one token.
+/// How many bytes of a line are cut into tokens. The rest of the line is one more token.
 const MOST_BYTES: usize = 4096;
 
 /// The units that may follow a number directly, as in `12ms`.
@@ -39,7 +39,7 @@ pub struct Token<'l> {
     pub text: &'l str,
 }
 
-/// Returns what a character belongs to that no definition recognizes.
+/// Returns the kind of the token that a character belongs to, if no definition recognizes it.
 fn kind_of(c: char) -> Kind {
     match c {
         '[' | ']' | '(' | ')' | '{' | '}' | '<' | '>' => Kind::Mark(c),
@@ -89,7 +89,7 @@ fn is_unit(line: &str, at: usize) -> bool {
     UNITS.iter().any(|unit| *unit == word)
 }
 
-/// Returns the part of a line that is looked at.
+/// Returns the part of a line that is cut into tokens.
 fn part_looked_at(line: &str) -> &str {
     for len in [MOST_BYTES, MOST_BYTES - 1, MOST_BYTES - 2, MOST_BYTES - 3] {
         if let Some(part) = line.get(..len) {
@@ -104,7 +104,7 @@ fn part_looked_at(line: &str) -> &str {
 pub struct Cutter<'r> {
     alloc: Global,
     search: RecognizerSearch<'r>,
-    /// What is recognized next in this line.
+    /// The next part of the line that a definition recognizes.
     next: Option<Recognized>,
 }
 
@@ -144,10 +144,6 @@ impl<'r> Cutter<'r> {
     }
 
     /// Cuts a line. Nothing of it is lost: the tokens, one after another, are the line.
-    ///
-    /// # Errors
-    ///
-    /// If an allocation fails.
     pub fn cut<'l>(&mut self, line: &'l str) -> Result<Vec<Token<'l>>, AllocError>
         ensures { IfOk result (λ tokens. joined tokens.items ≡ line.now) }
     {

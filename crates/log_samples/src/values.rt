@@ -33,7 +33,6 @@ fn value_len(text: &str, separator: char) -> usize {
 }
 
 impl<'l> Values<'l> {
-    /// Begins at the start of a line.
     fn of(line: &'l str, separator: char) -> Values<'l> {
         Values {
             rest: Some(line),
@@ -41,7 +40,6 @@ impl<'l> Values<'l> {
         }
     }
 
-    /// Takes the next value, if there is one.
     fn take(&mut self) -> Option<&'l str> {
         let rest = self.rest?;
         let (value, after) = rest.split_at_checked(value_len(rest, self.separator))?;
@@ -77,7 +75,7 @@ fn is_of_a_sentence(line: &str, separator: char) -> bool {
     false
 }
 
-/// Returns whether almost all lines have as many values as the first one, and enough of them.
+/// Returns whether almost all lines have as many values as the first one, and at least `LEAST_VALUES`.
 fn are_values(lines: &[&str], separator: char) -> bool {
     let count = match lines.first() {
         Some(first) => value_count(first_line(first), separator),
@@ -96,7 +94,7 @@ fn are_values(lines: &[&str], separator: char) -> bool {
     others <= lines.len() / LINES_FOR_ONE_OTHER
 }
 
-/// Returns what separates the values of lines, or `None` if they aren't values between separators.
+/// Returns the separator of the values of lines, or `None` if the lines aren't values between separators.
 pub fn separator_of(lines: &[&str]) -> Option<char> {
     for separator in SEPARATORS {
         if are_values(lines, separator) {

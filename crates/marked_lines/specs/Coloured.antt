@@ -28,7 +28,7 @@ abbrev pub shown_byte : Bool → ℕ → List ℕ
 shown_byte false b = if b == 27 then [] else b ∷ []
 shown_byte true b = []
 
--- A text without its codes. The first argument says whether it begins inside one.
+-- A text without its codes. The first argument says whether the text begins inside a code.
 unfoldable pub without_codes : Bool → List ℕ → List ℕ
 without_codes is_code [] = []
 without_codes is_code (b ∷ rest) = shown_byte is_code b ++ without_codes (is_code_after is_code b) rest

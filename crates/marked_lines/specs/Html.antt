@@ -6,14 +6,14 @@ use Rattle.groklog_input.specs.Visible.{visible}
 use Rattle.marked_lines.specs.Colours.{colour_digit}
 use Rattle.marked_lines.specs.declared.runs.Run.{Run}
 
--- A byte of a text as HTML means it: a reference for those that have a meaning of their own there, which
--- are & < > " and '.
+-- A byte of a text as it is written in HTML: as a reference if it is & < > " or ', which have a meaning of their own
+-- there, and otherwise as it is.
 abbrev pub escaped_byte : ℕ → List ℕ
 escaped_byte b = if b == 38 then codes "&amp;" else if b == 60 then codes "&lt;"
     else if b == 62 then codes "&gt;" else if b == 34 then codes "&quot;"
     else if b == 39 then codes "&#39;" else b ∷ []
 
--- A text in which each such byte is a reference.
+-- A text as it is written in HTML, byte by byte.
 abbrev pub escaped : List ℕ → List ℕ
 escaped text = flat_map escaped_byte text
 
@@ -21,7 +21,7 @@ escaped text = flat_map escaped_byte text
 abbrev pub is_markup : ℕ → Bool
 is_markup b = (b == 60) || ((b == 62) || ((b == 34) || (b == 39)))
 
--- Whether a text has such a byte.
+-- Whether a text has a byte that begins or ends a tag, or ends the value of an attribute.
 abbrev pub has_markup : List ℕ → Bool
 has_markup text = list_any is_markup text
 
@@ -43,14 +43,15 @@ place_after InText b = if b == 60 then InTag else if b == 38 then InReference []
 place_after InTag b = if b == 62 then InText else InTag
 place_after (InReference name) b = if b == 59 then InText else InReference (name ++ b ∷ [])
 
--- What the reader sees at a byte.
+-- The text that the page shows for a byte of HTML: the byte itself outside tags and references, nothing for the bytes of a
+-- tag, and the meaning of a reference at its semicolon.
 abbrev pub seen_byte : Place → ℕ → List ℕ
 seen_byte InText b = if (b == 60) || (b == 38) then [] else b ∷ []
 seen_byte InTag b = []
 seen_byte (InReference name) b = if b == 59 then referenced name else []
 
--- The text that a reader of HTML sees, from this place on: without the tags, and with what the
--- references mean.
+-- The text that the page shows, if its reader is at this place: the HTML without its tags, and with the meaning of each
+-- reference.
 unfoldable pub html_text : Place → List ℕ → List ℕ
 html_text place [] = []
 html_text place (b ∷ rest) = seen_byte place b ++ html_text (place_after place b) rest

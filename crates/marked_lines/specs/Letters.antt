@@ -4,7 +4,7 @@ use Rattle.unicode_width.specs.Width.{str_width}
 use Rattle.groklog_input.specs.Visible.{visible}
 use Rattle.marked_lines.specs.declared.runs.Run.{Run}
 
--- The letter of a key: those from `a` to `z`, from `A` to `Z`, and then `a` again.
+-- The letter of a key: `a` to `z` for the first keys, then `A` to `Z`, and then `a` again.
 abbrev pub letter_of : ℕ → ℕ
 letter_of key = let number = key % 52 in if nat_lt number 26 then 97 + number else 65 + (number - 26)
 

@@ -2,8 +2,6 @@
 ghost use Rattle.std.specs.Prelude.{◌≡◌};
 ghost use Rattle.marked_lines.specs.Colours.{colour_digit};
 
-/// Returns the digit of the colour of a key, as terminals number their colours: cyan, green, yellow,
-/// magenta, blue and red, and then cyan again.
 pub(crate) fn colour_digit(key: usize) -> char
     ensures { result ≡ colour_digit key }
 {

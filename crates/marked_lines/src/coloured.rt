@@ -10,7 +10,6 @@ use crate::runs::Run;
 use groklog_input::visible;
 use std::alloc::{AllocError, Global};
 
-/// Appends the code after which a terminal writes in the colour of a key.
 fn push_code(text: &mut String, key: usize) -> Result<(), AllocError>
     ensures { OnOk result (string_bytes text.new ≡ string_bytes text.old ++ colour_code key) }
 {
@@ -19,7 +18,6 @@ fn push_code(text: &mut String, key: usize) -> Result<(), AllocError>
     text.push('m')
 }
 
-/// Appends a run: in the colour of its key, if it has one.
 fn push_run(alloc: Global, text: &mut String, run: &Run) -> Result<(), AllocError>
     ensures { OnOk result (string_bytes text.new ≡ string_bytes text.old ++ coloured_run run.now) }
 {
@@ -35,11 +33,8 @@ fn push_run(alloc: Global, text: &mut String, run: &Run) -> Result<(), AllocErro
 }
 
 /// Appends runs, each in the colour of its key. Without the codes of the colours, what is appended is
-/// the text of the runs as messages show it, so nothing in it is a command to the terminal.
-///
-/// # Errors
-///
-/// If an allocation fails. Some of the runs may be appended then.
+/// the text of the runs as messages show it, so nothing in it is a command to the terminal. If an
+/// allocation fails, some of the runs may have been appended.
 pub fn push_coloured(alloc: Global, text: &mut String, runs: &[Run]) -> Result<(), AllocError>
     ensures coloured { OnOk result (string_bytes text.new
         ≡ string_bytes text.old ++ flat_map coloured_run runs.now) }

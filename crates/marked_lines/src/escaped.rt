@@ -6,7 +6,6 @@ ghost use Rattle.marked_lines.specs.Html.{escaped};
 use groklog_input::visible;
 use std::alloc::{AllocError, Global};
 
-/// Appends a character, or the reference by which HTML means it if it has a meaning of its own there.
 fn push_escaped_char(html: &mut String, c: char) -> Result<(), AllocError>
     ensures { OnOk result (string_bytes html.new
         ≡ string_bytes html.old ++ escaped (encode_utf8 c)) }
@@ -21,7 +20,6 @@ fn push_escaped_char(html: &mut String, c: char) -> Result<(), AllocError>
     }
 }
 
-/// Appends each character of a text.
 fn push_escaped_chars(html: &mut String, text: &str) -> Result<(), AllocError>
     ensures { OnOk result (string_bytes html.new ≡ string_bytes html.old ++ escaped text.now) }
 {
@@ -31,8 +29,6 @@ fn push_escaped_chars(html: &mut String, text: &str) -> Result<(), AllocError>
     Ok(())
 }
 
-/// Appends a foreign text, as messages show it, so that HTML takes none of it as markup: neither
-/// between tags nor in the value of an attribute in quotes.
 pub(crate) fn push_escaped(alloc: Global, html: &mut String, text: &str) -> Result<(), AllocError>
     ensures { OnOk result (string_bytes html.new ≡ string_bytes html.old ++ escaped (visible text.now)) }
 {

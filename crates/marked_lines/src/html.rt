@@ -19,7 +19,6 @@ pub struct Html {
     text: String,
 }
 
-// Contracts see what is written so far.
 impl Model for Html {
     ghost use Rattle.std.specs.Prelude.{ℕ, List, string_bytes};
 
@@ -28,7 +27,6 @@ impl Model for Html {
     ghost view = { λ html. string_bytes html.text };
 }
 
-/// Returns the title of a key, or the empty text if it has none.
 fn title_at(titles: &[String], key: usize) -> &str
     ensures { result.now ≡ title_at (map string_bytes titles.now) key }
 {
@@ -57,10 +55,6 @@ impl Html {
     }
 
     /// Appends markup, which is a text of the program.
-    ///
-    /// # Errors
-    ///
-    /// If an allocation fails.
     pub fn push_markup(&mut self, markup: &'static str) -> Result<(), AllocError>
         ensures { OnOk result (self.new ≡ self.old ++ markup.now) }
     {
@@ -68,22 +62,14 @@ impl Html {
     }
 
     /// Appends a page that was written before.
-    ///
-    /// # Errors
-    ///
-    /// If an allocation fails.
     pub fn push_html(&mut self, html: &Html) -> Result<(), AllocError>
         ensures { OnOk result (self.new ≡ self.old ++ html.now) }
     {
         self.text.push_str(html.as_str())
     }
 
-    /// Appends a foreign text, escaped. It may stand between tags and in the value of an attribute in
-    /// quotes. What a reader of the page sees of it is the text as messages show it.
-    ///
-    /// # Errors
-    ///
-    /// If an allocation fails.
+    /// Appends a foreign text, escaped for use between tags and in the value of an attribute in quotes. A
+    /// reader of the page sees the text as messages show it.
     pub fn push_text(&mut self, text: &str) -> Result<(), AllocError>
         ensures escaped { OnOk result (self.new ≡ self.old ++ escaped (visible text.now)) }
         ensures text { html_text InText (escaped (visible text.now)) ≡ visible text.now }
@@ -93,10 +79,6 @@ impl Html {
     }
 
     /// Appends the class of the colour of a key, such as `c6`.
-    ///
-    /// # Errors
-    ///
-    /// If an allocation fails.
     pub fn push_class(&mut self, key: usize) -> Result<(), AllocError>
         ensures { OnOk result (self.new ≡ self.old ++ (99 ∷ colour_digit key ∷ [])) }
     {
@@ -104,7 +86,6 @@ impl Html {
         self.text.push(colour_digit(key))
     }
 
-    /// Appends the beginning of the `span` of a key.
     fn begin_span(&mut self, key: usize, titles: &[String]) -> Result<(), AllocError>
         ensures { OnOk result (self.new ≡ self.old ++ span_begin (map string_bytes titles.now) key) }
     {
@@ -116,8 +97,6 @@ impl Html {
         Ok(())
     }
 
-    /// Appends a run. If it has a key, that is a `span` with the class of its colour and a title, which
-    /// is the text at the number of the key.
     fn push_run(&mut self, run: &Run, titles: &[String]) -> Result<(), AllocError>
         ensures { OnOk result (self.new ≡ self.old ++ run_html (map string_bytes titles.now) run.now) }
     {
@@ -132,13 +111,9 @@ impl Html {
         }
     }
 
-    /// Appends runs. Each one that has a key is a `span` with the class of its colour and a title, which
-    /// is the text at the number of the key. The text that a reader of the page sees is that of the
-    /// runs, as messages show it.
-    ///
-    /// # Errors
-    ///
-    /// If an allocation fails.
+    /// Appends runs. A run with a key becomes a `span` that has the class of the key's colour, and as its
+    /// title the text in `titles` at the number of the key. A reader of the page sees the text of the runs,
+    /// as messages show it.
     pub fn push_runs(&mut self, runs: &[Run], titles: &[String]) -> Result<(), AllocError>
         ensures html { OnOk result (self.new
             ≡ self.old ++ flat_map (run_html (map string_bytes titles.now)) runs.now) }

@@ -7,7 +7,7 @@ use groklog_input::visible;
 use std::alloc::{AllocError, Global};
 use unicode_width::UnicodeWidthStr;
 
-/// Returns the letter of a key: those from `a` to `z`, from `A` to `Z`, and then `a` again.
+/// Returns the letter of a key: `a` to `z` for the first keys, then `A` to `Z`, and then `a` again.
 pub fn letter_of(key: usize) -> char
     ensures { result ≡ letter_of key }
 {
@@ -19,7 +19,6 @@ pub fn letter_of(key: usize) -> char
     }
 }
 
-/// Returns the letter of a key, or a blank if there is none.
 fn letter_or_blank(key: Option<usize>) -> char
     ensures letter { result ≡ letter_or_blank key }
     ensures ascii { result < 128 }
@@ -30,7 +29,6 @@ fn letter_or_blank(key: Option<usize>) -> char
     }
 }
 
-/// Appends a letter so many times.
 fn push_many(row: &mut String, letter: char, count: usize) -> Result<(), AllocError>
     requires { letter < 128 }
     ensures { OnOk result (string_bytes row.new ≡ string_bytes row.old ++ replicate count letter) }
@@ -41,7 +39,6 @@ fn push_many(row: &mut String, letter: char, count: usize) -> Result<(), AllocEr
     Ok(())
 }
 
-/// Appends the letters that stand under a run.
 fn push_run_letters(alloc: Global, row: &mut String, run: &Run) -> Result<(), AllocError>
     ensures { OnOk result (string_bytes row.new ≡ string_bytes row.old ++ run_letters run.now) }
 {
@@ -51,11 +48,8 @@ fn push_run_letters(alloc: Global, row: &mut String, run: &Run) -> Result<(), Al
 }
 
 /// Appends the row that stands under runs on a terminal: for each column of a run the letter of its
-/// key, or a blank if it has none.
-///
-/// # Errors
-///
-/// If an allocation fails. A part of the row may be appended then.
+/// key, or a blank if the run has no key. If an allocation fails, a part of the row may have been
+/// appended.
 pub fn push_letters(alloc: Global, row: &mut String, runs: &[Run]) -> Result<(), AllocError>
     ensures { OnOk result (string_bytes row.new
         ≡ string_bytes row.old ++ flat_map run_letters runs.now) }

@@ -9,6 +9,8 @@
 //! let runs = runs_of(alloc, "root logged in", &fields)?;
 //! push_coloured(alloc, &mut text, &runs)?; // root is coloured
 //! ```
+//!
+//! Where a call has no section `# Errors`, its error is a failed allocation.
 #![tactic(auto)]
 
 mod colour;

@@ -24,7 +24,6 @@ pub struct Run {
     pub text: String,
 }
 
-/// Returns the key of the byte at this position: that of the last field that has it.
 fn key_at(fields: &[Field], at: usize) -> Option<usize>
     ensures { result ≡ key_at fields.now at }
 {
@@ -35,8 +34,6 @@ fn key_at(fields: &[Field], at: usize) -> Option<usize>
     Some(field.key)
 }
 
-/// Appends a character to the last run, or begins another one if the character has another key. The
-/// runs before the last one are in `runs`.
 fn push_char(
     alloc: Global,
     runs: &mut Vec<Run>,
@@ -58,10 +55,6 @@ fn push_char(
 
 /// Cuts a line into runs. A character that is in several fields has the key of the last of them. If
 /// `fields` has each field after those that it lies in, this is the innermost one.
-///
-/// # Errors
-///
-/// If an allocation fails.
 pub fn runs_of(alloc: Global, line: &str, fields: &[Field]) -> Result<Vec<Run>, AllocError>
     ensures text { IfOk result (λ runs. runs_text runs.items ≡ line.now) }
     ensures keys { IfOk result (λ runs. flat_map run_bytes runs.items

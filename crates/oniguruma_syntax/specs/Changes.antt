@@ -19,7 +19,8 @@ has_kind changes kind = not (same_kind kind Lost) && list_any (λ change. same_k
 abbrev pub with_change : List Change → Change → List Change
 with_change changes change = if has_kind changes change.kind then changes else changes ++ change ∷ []
 
--- What a change says: its kind, the text that was changed, and the keys that are never found. A copy says the same.
+-- The contents of a change: its kind, the text that was changed, and the keys that are never found. A copy has the same
+-- contents.
 abbrev pub change_text : Change → ChangeKind × List ℕ × List ℕ
 change_text change = (change.kind, string_bytes change.text, string_bytes change.keys)
 

@@ -7,8 +7,7 @@ use Rattle.oniguruma_syntax.specs.declared.rewriting.Outcome.TheVariants.{Kept, 
 abbrev pub IsPartOf : List ℕ → (start end : ℕ) → Type 0
 IsPartOf text start end = (start ≤ end) × IsCharBoundary text start × IsCharBoundary text end
 
--- A text that is kept has no other text in its place. One that is rewritten has another one. A part that is refused is
--- one of the text.
+-- What rewriting this text returns. A rewritten text differs from it, and a refused part is a part of it.
 abbrev pub IsOutcomeOf : List ℕ → Outcome → Type 0
 IsOutcomeOf text Kept = ⊤
 IsOutcomeOf text (Rewritten rewritten) = string_bytes rewritten.text ≢ text

@@ -3,7 +3,7 @@ use Rattle.std.specs.Prelude.{ℕ, List, codes}
 use Rattle.oniguruma_syntax.specs.declared.refusal.Reason.{Reason}
 use Rattle.oniguruma_syntax.specs.declared.refusal.Reason.TheVariants.{Lookaround, RepeatedLookaround, Backreference, Call, Condition, Absent, UnknownGroup, UnknownFlags, Unclosed, Unopened, NothingToRepeat, Counts, Escape, Code, Property, Range, EmptySide, PlaceholderInClass, PlaceholderInExtended, NamedGroup, InlineDefinition}
 
--- The advice for a form that has nothing of its own.
+-- The advice for a form that has no advice of its own.
 abbrev pub write_otherwise : List ℕ
 write_otherwise = codes "write it in another way"
 

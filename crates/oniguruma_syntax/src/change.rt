@@ -35,7 +35,6 @@ pub struct Change {
 }
 
 impl Change {
-    /// Makes a change of a text without keys.
     pub(crate) fn new(alloc: Global, kind: ChangeKind, text: &str) -> Result<Change, AllocError>
         ensures kind { IfOk result (λ change. change.kind ≡ kind) }
         ensures text { IfOk result (λ change. string_bytes change.text ≡ text.now) }
@@ -49,8 +48,8 @@ impl Change {
     }
 }
 
-/// The changes of a text, in reading order. Each kind comes once, but that of keys which are lost comes
-/// for each lookaround that has such keys.
+/// The changes of a text, in reading order. Each kind is recorded once, except that of lost keys, which is
+/// recorded for each lookaround that has keys.
 #[derive(Drop)]
 pub(crate) struct Changes {
     recorded: Vec<Change>,
@@ -66,14 +65,12 @@ impl Changes {
         }
     }
 
-    /// Returns whether a further change of this kind isn't recorded.
     pub fn has(&self, kind: ChangeKind) -> bool
         ensures { result ≡ has_kind self.now.recorded.items kind }
     {
         kind != ChangeKind::Lost && self.recorded.iter().any(|change| change.kind == kind)
     }
 
-    /// Records a change, unless there is one of its kind already.
     pub fn add(&mut self, change: Change) -> Result<(), AllocError>
         ensures { OnOk result (self.new.recorded.items ≡ with_change self.old.recorded.items change) }
     {
@@ -83,7 +80,6 @@ impl Changes {
         Ok(())
     }
 
-    /// Records the changes of an inline definition of the text.
     pub fn add_all(&mut self, changes: &[Change]) -> Result<(), AllocError>
         ensures { OnOk result (HasCopies self.old.recorded.items changes.now self.new.recorded.items) }
     {
@@ -93,7 +89,6 @@ impl Changes {
         Ok(())
     }
 
-    /// Returns the changes.
     pub fn into_recorded(self) -> Vec<Change>
         ensures recorded { result ≡ self.recorded }
         ensures once { NameKindsOnce result.items }

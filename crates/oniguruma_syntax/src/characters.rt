@@ -1,7 +1,7 @@
 //! What escapes, numbers and names of sets stand for.
 
 use crate::refusal::{Reason, Stop};
-use crate::sets::{is_category, named_set};
+use crate::sets::{is_property, named_set};
 use crate::token::{Form, Node, Token};
 use std::alloc::{AllocError, Global};
 
@@ -9,7 +9,7 @@ use std::alloc::{AllocError, Global};
 #[derive(Drop)]
 pub(crate) enum Member {
     Char(char),
-    /// The items of a class that are the same characters.
+    /// The items of a class of `regex` that stand for the same characters.
     Set(String),
 }
 
@@ -29,7 +29,6 @@ pub(crate) fn escaped_char(letter: char) -> Option<char> {
     }
 }
 
-/// Returns the number that hexadecimal digits stand for.
 fn hexadecimal(digits: &str) -> Option<u32> {
     if !digits.bytes().all(|b| b.is_ascii_hexdigit()) {
         return None;
@@ -79,7 +78,7 @@ pub(crate) fn char_by_number(node: &Node<'_>) -> Result<Option<char>, Stop> {
     }
 }
 
-/// Returns items of a class: these, or the class of all other characters if `is_negated` is set.
+/// Returns these items of a class, or the class of all other characters if `is_negated` is set.
 fn items_text(alloc: Global, items: &str, is_negated: bool) -> Result<String, AllocError> {
     if is_negated {
         format!(in alloc; "[^{items}]")
@@ -102,7 +101,7 @@ fn property_text(
     if let Some(set) = named_set(name) {
         return Ok(items_text(alloc, set.items, is_negated)?);
     }
-    if !is_category(name) {
+    if !is_property(name) {
         return Err(Stop::at(Reason::Property, node));
     }
     let letter = if is_negated { 'P' } else { 'p' };
@@ -140,7 +139,6 @@ fn member_char(node: &Node<'_>) -> Result<Option<char>, Stop> {
     }
 }
 
-/// Returns what a token stands for in a class.
 pub(crate) fn read_member(alloc: Global, node: &Node<'_>) -> Result<Member, Stop> {
     if let Some(c) = member_char(node)? {
         return Ok(Member::Char(c));

@@ -29,19 +29,29 @@ struct ClassWriter<'w, 'a> {
     next: usize,
 }
 
-/// Appends a character of a class. A control character is written by its number.
+/// Appends a character of a class. One that isn't shown is written by its number.
 fn push_member(text: &mut String, c: char) -> Result<(), AllocError> {
-    if c.is_ascii_control() {
-        let number = u32::from(c);
-        write_number(text, number)
+    if is_hidden(c) {
+        write_number(text, c)
     } else {
         push_class_literal(text, c)
     }
 }
 
-/// Appends the character with this number, which has at most two hexadecimal digits.
-pub(crate) fn write_number(text: &mut String, number: u32) -> Result<(), AllocError> {
-    write!(text, "\\x{number:02X}")
+/// Returns whether a character isn't shown in a text: whether it is a control character, or ends a line or a
+/// paragraph.
+pub(crate) fn is_hidden(c: char) -> bool {
+    c.is_control() || c == '\u{2028}' || c == '\u{2029}'
+}
+
+/// Appends a character that isn't shown by its number, as both engines read it.
+pub(crate) fn write_number(text: &mut String, c: char) -> Result<(), AllocError> {
+    let number = u32::from(c);
+    if c.is_ascii() {
+        write!(text, "\\x{number:02X}")
+    } else {
+        write!(text, "\\u{number:04X}")
+    }
 }
 
 impl ClassWriter<'_, '_> {
@@ -68,13 +78,27 @@ impl ClassWriter<'_, '_> {
         is_after_set && self.is_hyphen(index) && !self.is_end(index.saturating_add(1))
     }
 
+    /// Returns whether the token with this index is a hyphen that needs no backslash: it begins a class and no
+    /// range, or it ends a class.
+    fn is_plain_hyphen(&self, index: usize) -> bool {
+        let after = index.saturating_add(1);
+        let is_last = match self.nodes.get(after) {
+            Some(node) => matches!(node.token, Token::Class(Mark::Close, _)),
+            None => false,
+        };
+        let is_first = match self.nodes.get(index.saturating_sub(1)) {
+            Some(node) => matches!(node.token, Token::Class(Mark::Open | Mark::NotOpen, _)),
+            None => false,
+        };
+        self.is_hyphen(index) && (is_last || (is_first && !self.is_hyphen(after)))
+    }
+
     /// Writes a set of characters.
     fn write_set(&mut self, items: &str) -> Result<(), AllocError> {
         self.before = Before::Set;
         self.text.push_str(items)
     }
 
-    /// Writes a mark of a class.
     fn write_mark(&mut self, node: &Node<'_>, mark: Mark, spelling: &str) -> Result<(), Stop> {
         let is_end = matches!(mark, Mark::Close | Mark::And);
         if is_end && self.before == Before::Start {
@@ -92,7 +116,11 @@ impl ClassWriter<'_, '_> {
     fn write_char(&mut self, index: usize, node: &Node<'_>, c: char) -> Result<(), Stop> {
         let hyphen = index.saturating_add(1);
         let last = index.saturating_add(2);
-        push_member(&mut self.text, c)?;
+        if self.is_plain_hyphen(index) {
+            self.text.push(c)?;
+        } else {
+            push_member(&mut self.text, c)?;
+        }
         if self.is_hyphen(hyphen) && !self.is_end(last) {
             let Some(end) = self.nodes.get(last) else {
                 return Ok(());
@@ -110,7 +138,6 @@ impl ClassWriter<'_, '_> {
         Ok(())
     }
 
-    /// Writes the token with this index.
     fn write_token(&mut self, index: usize, node: &Node<'_>) -> Result<(), Stop> {
         self.next = index.saturating_add(1);
         if let Token::Class(mark, spelling) = node.token {

@@ -7,7 +7,6 @@ use crate::reader::read;
 use crate::token::{Form, Node, Opening, Token};
 use std::alloc::{AllocError, Global};
 
-/// Returns whether `regex` doesn't have the form of a token.
 fn is_own_form(node: &Node<'_>) -> bool
     ensures { result ≡ is_own_form node.now.token }
 {
@@ -25,10 +24,6 @@ fn is_own_form(node: &Node<'_>) -> bool
 
 /// Returns whether a text has a form of Oniguruma's syntax that `regex` doesn't have, such as a
 /// lookaround.
-///
-/// # Errors
-///
-/// If an allocation fails.
 pub fn has_own_forms(alloc: Global, text: &str) -> Result<bool, AllocError>
     ensures { IfOk result (FindsOwnForm text.now) }
 {

@@ -11,6 +11,8 @@
 //!     Outcome::Refused(Refused { reason, range }) => ..
 //! }
 //! ```
+//!
+//! Where a call has no section `# Errors`, its error is a failed allocation.
 #![tactic(auto)]
 
 mod change;

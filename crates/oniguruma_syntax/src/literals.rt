@@ -4,7 +4,6 @@ ghost use Rattle.oniguruma_syntax.specs.Literals.{is_meta, is_class_meta, litera
 
 use std::alloc::AllocError;
 
-/// Returns whether a character has a meaning outside a class.
 fn is_meta(c: char) -> bool
     ensures { result ≡ is_meta c }
 {
@@ -16,7 +15,6 @@ fn is_meta(c: char) -> bool
     }
 }
 
-/// Returns whether a character has a meaning in a class.
 fn is_class_meta(c: char) -> bool
     ensures { result ≡ is_class_meta c }
 {
@@ -27,11 +25,6 @@ fn is_class_meta(c: char) -> bool
     }
 }
 
-/// Appends a character that stands for itself outside a class.
-///
-/// # Errors
-///
-/// If an allocation fails.
 pub(crate) fn push_literal(text: &mut String, c: char) -> Result<(), AllocError>
     ensures { OnOk result (string_bytes text.new ≡ string_bytes text.old ++ literal c) }
 {
@@ -41,11 +34,6 @@ pub(crate) fn push_literal(text: &mut String, c: char) -> Result<(), AllocError>
     text.push(c)
 }
 
-/// Appends a character that stands for itself in a class.
-///
-/// # Errors
-///
-/// If an allocation fails.
 pub(crate) fn push_class_literal(text: &mut String, c: char) -> Result<(), AllocError>
     ensures { OnOk result (string_bytes text.new ≡ string_bytes text.old ++ class_literal c) }
 {

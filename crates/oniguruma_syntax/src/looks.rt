@@ -6,7 +6,7 @@ use crate::token::{Form, Mark, Node, Token};
 use std::alloc::{AllocError, Global};
 use std::ops::Range;
 
-/// How the characters of a set are related to those of `\w`.
+/// How the characters of a set are related to the characters of `\w`.
 #[derive(Clone, Copy, PartialEq, Eq)]
 pub(crate) enum WordSet {
     /// They are those of `\w`.
@@ -17,7 +17,6 @@ pub(crate) enum WordSet {
     Other,
 }
 
-/// Returns the tokens with these indexes.
 pub(crate) fn part<'a>(nodes: &'a [Node<'a>], range: &Range<usize>) -> &'a [Node<'a>] {
     nodes.get(range.start..range.end).unwrap_or(&[])
 }
@@ -55,7 +54,7 @@ fn are_alike(a: char, b: char) -> bool {
         || (a.is_ascii_uppercase() && b.is_ascii_uppercase())
 }
 
-/// Returns whether a hyphen between these tokens is that of a range of digits or letters.
+/// Returns whether a hyphen between these tokens makes a range of digits or letters.
 fn is_word_range(before: Option<&Node<'_>>, after: Option<&Node<'_>>) -> bool {
     let (Some(before), Some(after)) = (before, after) else {
         return false;
@@ -66,7 +65,6 @@ fn is_word_range(before: Option<&Node<'_>>, after: Option<&Node<'_>>) -> bool {
     }
 }
 
-/// Returns how the set with this name is related to `\w`.
 fn named_word_set(name: &str) -> WordSet {
     match named_set(name) {
         Some(set) if set.name == "word" => WordSet::All,
@@ -75,7 +73,6 @@ fn named_word_set(name: &str) -> WordSet {
     }
 }
 
-/// Returns how the characters that the token with this index stands for are related to `\w`.
 fn word_set_of(nodes: &[Node<'_>], index: usize) -> WordSet {
     let Some(node) = nodes.get(index) else {
         return WordSet::Other;
@@ -130,7 +127,6 @@ pub(crate) fn is_literal(nodes: &[Node<'_>]) -> bool {
         })
 }
 
-/// Appends a key to a list of keys.
 fn push_key(keys: &mut String, key: &str) -> Result<(), AllocError> {
     if !keys.is_empty() {
         keys.push_str(", ")?;

@@ -9,21 +9,18 @@ use std::alloc::{AllocError, Global};
 /// The name of the inline definitions.
 pub(crate) const GROUP_NAME: &str = "NAMED_GROUP";
 
-/// Returns whether a name of a group may begin with this character.
 fn begins_name(c: char) -> bool
     ensures { result ≡ begins_name c }
 {
     c.is_alphabetic() || c == '_'
 }
 
-/// Returns whether a name of a group may have this character.
 fn continues_name(c: char) -> bool
     ensures { result ≡ continues_name c }
 {
     c.is_alphanumeric() || c == '_'
 }
 
-/// Returns whether `regex` and Oniguruma both take a name of a group.
 pub(crate) fn is_group_name(name: &str) -> bool
     ensures { result ≡ is_group_name name.now }
 {
@@ -35,10 +32,6 @@ pub(crate) fn is_group_name(name: &str) -> bool
 
 /// Returns the start of a placeholder with this alias, up to the `=` before its inline definition.
 /// Returns `None` if a placeholder can't have this alias.
-///
-/// # Errors
-///
-/// If an allocation fails.
 pub(crate) fn placeholder_start(alloc: Global, alias: &str) -> Result<Option<String>, AllocError> {
     let start = format!(in alloc; "%{{{GROUP_NAME}:{alias}=")?;
     let whole = format!(in alloc; "{}.}}", start.as_str())?;

@@ -24,8 +24,8 @@ struct Placeholders<'a> {
     malformed: Option<usize>,
 }
 
-/// Returns whether `%%` begins at a byte of a text, and a placeholder with its second `%`. The library of grok
-/// patterns reads no placeholder in `%%{INT}`, but in Logstash it is a `%` and one.
+/// Returns whether `%%` begins at a byte of a text, and a placeholder with its second `%`. In `%%{INT}` the
+/// library of grok patterns reads no placeholder, but Logstash reads a `%` and a placeholder.
 fn is_doubled(text: &str, at: usize) -> bool {
     let (_, rest) = split_after(text, at);
     match rest.strip_prefix('%') {
@@ -138,7 +138,6 @@ fn read_first<'a>(alloc: Global, text: &'a str) -> Result<Option<Placeholder<'a>
     }
 }
 
-/// Finds the placeholders of a text.
 fn find_placeholders<'a>(alloc: Global, text: &'a str) -> Result<Placeholders<'a>, AllocError> {
     let mut found = Vec::new(alloc);
     let mut start = 0usize;
@@ -191,12 +190,10 @@ impl<'a> Reader<'a> {
         })
     }
 
-    /// Returns whether the flag `x` is set.
     fn is_extended(&self) -> bool {
         self.extended.as_slice().last().copied().unwrap_or(false)
     }
 
-    /// Returns how the next token is read.
     fn mode(&self) -> Mode {
         Mode {
             is_in_class: self.classes > 0,
@@ -219,7 +216,7 @@ impl<'a> Reader<'a> {
         }
     }
 
-    /// Notes flags: of a group that begins, or of what follows in the same group.
+    /// Notes the flags of a group that begins, or the flags that are set for what follows in the same group.
     fn note_flags(&mut self, flags: &str, end: &str) -> Result<(), AllocError>
         ensures { self.new.nodes ≡ self.old.nodes }
     {
@@ -230,7 +227,7 @@ impl<'a> Reader<'a> {
         Ok(self.extended.push(is_set)?)
     }
 
-    /// Notes what a token says of how the next ones are read.
+    /// Notes how the tokens after this one are read.
     fn note(&mut self, token: Token<'a>) -> Result<(), AllocError>
         ensures { self.new.nodes ≡ self.old.nodes }
     {
@@ -250,7 +247,6 @@ impl<'a> Reader<'a> {
         Ok(())
     }
 
-    /// Adds a token with this many bytes.
     #[tactic(auto, using(crate::proofs::TextsOfTokens::one_more))]
     fn add(&mut self, token: Token<'a>, len: usize) -> Result<(), AllocError>
         ensures { OnOk result (spelled_all self.new.nodes.items
@@ -269,7 +265,7 @@ impl<'a> Reader<'a> {
         self.note(token)
     }
 
-    /// Reads a part of the text that has no placeholder.
+    /// The part of the text has no placeholder.
     fn read_run(&mut self, run: &'a str) -> Result<(), AllocError>
         ensures { OnOk result (spelled_all self.new.nodes.items
             ≡ spelled_all self.old.nodes.items ++ run.now) }
@@ -289,7 +285,6 @@ impl<'a> Reader<'a> {
         self.add(Token::Unread(rest), rest.len())
     }
 
-    /// Reads a placeholder, with which the text begins. Returns the text after it.
     fn read_placeholder(
         &mut self,
         placeholder: Placeholder<'a>,
@@ -307,7 +302,8 @@ impl<'a> Reader<'a> {
         }
     }
 
-    /// Reads what follows the last placeholder. A malformed one begins at this byte of it.
+    /// Reads the text after the last placeholder. A malformed one begins at the byte `malformed` of it, if
+    /// there is one.
     fn read_rest(&mut self, text: &'a str, malformed: Option<usize>) -> Result<(), AllocError>
         ensures { OnOk result (spelled_all self.new.nodes.items
             ≡ spelled_all self.old.nodes.items ++ text.now) }
@@ -322,10 +318,6 @@ impl<'a> Reader<'a> {
 }
 
 /// Reads a text into its tokens. What can't be read is a token too, so that no byte is lost.
-///
-/// # Errors
-///
-/// If an allocation fails.
 #[tactic(auto, using(crate::proofs::TextsOfTokens::none_yet))]
 pub fn read<'a>(alloc: Global, text: &'a str) -> Result<Vec<Node<'a>>, AllocError>
     ensures { IfOk result (λ nodes. spelled_all nodes.items ≡ text.now) }

@@ -55,7 +55,7 @@ pub enum Reason {
 }
 
 impl Reason {
-    /// Returns what can be done about it.
+    /// Returns what users can do about this reason.
     pub fn advice(self) -> &'static str
         ensures { result.now ≡ advice_for self }
     {
@@ -120,7 +120,6 @@ pub(crate) enum Stop {
 }
 
 impl Stop {
-    /// The text is refused for a token.
     pub fn at(reason: Reason, node: &Node<'_>) -> Stop
         ensures { result ≡ Stop.Refused (record {
           reason = reason;

@@ -21,7 +21,7 @@ pub enum Outcome {
     Refused(Refused),
 }
 
-/// Rewrites a text whose placeholders have no inline definitions but these.
+/// Rewrites a text. `inlines` has the rewritten inline definitions of its placeholders.
 fn rewrite_text(
     alloc: Global,
     text: &str,
@@ -65,7 +65,6 @@ fn rewrite_inline(alloc: Global, definition: &str, wish: Wish) -> Result<Rewritt
     rewrite_text(alloc, definition, &nodes, &[], Wish { is_whole, ..wish })
 }
 
-/// Rewrites the inline definitions of the placeholders among tokens, in their order.
 fn rewrite_inlines(alloc: Global, nodes: &[Node<'_>], wish: Wish) -> Result<Vec<Rewritten>, Stop> {
     let mut inlines = Vec::new(alloc);
     for node in nodes {
@@ -95,8 +94,8 @@ fn rewrite_all(alloc: Global, text: &str, wish: Wish) -> Result<Option<Rewritten
     Ok(Some(rewrite_text(alloc, text, &nodes, &inlines, wish)?))
 }
 
-/// Returns this byte range of a text, or that of its end if it doesn't begin and end between characters
-/// of the text.
+/// Returns this byte range of a text, or the empty range at its end if the given range doesn't begin and end
+/// between characters.
 #[tactic(auto, using(crate::proofs::EndsOfTexts::end_of_text))]
 fn range_in(text: &str, range: Range<usize>) -> Range<usize>
     ensures { IsPartOf text.now result.start result.end }
@@ -114,10 +113,6 @@ fn range_in(text: &str, range: Range<usize>) -> Range<usize>
 /// a line feed, except for the changes that are returned with it. A text of which nothing has to be written
 /// in another form is kept, and so is one with a malformed placeholder: whoever reads its placeholders
 /// reports that.
-///
-/// # Errors
-///
-/// If an allocation fails.
 pub fn rewrite(alloc: Global, text: &str, wish: Wish) -> Result<Outcome, AllocError>
     ensures { IfOk result (IsOutcomeOf text.now) }
 {

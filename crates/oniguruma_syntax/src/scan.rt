@@ -6,7 +6,7 @@ use crate::cut::{split_after, split_counts, split_digits, split_flags, split_lin
 use crate::sets::SETS;
 use crate::token::{Form, Greed, Mark, Opening, Token};
 
-/// What the tokens before say of how the next one is read.
+/// How the next token is read, as the tokens before it decide.
 #[derive(Clone, Copy)]
 pub(crate) struct Mode {
     /// Whether a character class is open.
@@ -70,8 +70,7 @@ const MARKS: [(Mark, &str); 4] = [
     (Mark::And, "&&"),
 ];
 
-/// Returns the form that a text begins with, if it has this start and this end. A form without an
-/// end is unread, with all that follows it.
+/// A form without an end is unread, with all that follows it.
 fn strip_enclosed<'a>(
     text: &'a str,
     form: Form,
@@ -89,7 +88,6 @@ fn strip_enclosed<'a>(
     Some((Token::Enclosed(form, start, inside, end), rest))
 }
 
-/// Returns the form with a text in it that a text begins with, and the text after it.
 fn strip_any_enclosed(text: &str) -> Option<(Token<'_>, &str)>
     ensures { IfSome result (λ found. text.now ≡ spelled found.0 ++ found.1.now) }
 {
@@ -101,8 +99,7 @@ fn strip_any_enclosed(text: &str) -> Option<(Token<'_>, &str)>
     None
 }
 
-/// Returns the start of a group that a text begins with, and the text after it. A group with a name
-/// or flags isn't among these.
+/// A group with a name or flags isn't among these.
 fn strip_opening(text: &str) -> Option<(Token<'_>, &str)>
     ensures { IfSome result (λ found. text.now ≡ spelled found.0 ++ found.1.now) }
 {
@@ -114,8 +111,7 @@ fn strip_opening(text: &str) -> Option<(Token<'_>, &str)>
     None
 }
 
-/// Returns the start of a group that a text begins with, and the text after it. The text has no
-/// other form that begins with a bracket.
+/// The text has no other form that begins with a bracket.
 fn strip_other_opening(text: &str) -> Option<(Token<'_>, &str)>
     ensures { IfSome result (λ found. text.now ≡ spelled found.0 ++ found.1.now) }
 {
@@ -127,7 +123,7 @@ fn strip_other_opening(text: &str) -> Option<(Token<'_>, &str)>
     None
 }
 
-/// Returns the flags that a text begins with, such as `(?i)` or `(?i-m:`, and the text after them.
+/// These are flags such as `(?i)` or `(?i-m:`.
 fn strip_flags(text: &str) -> Option<(Token<'_>, &str)>
     ensures { IfSome result (λ found. text.now ≡ spelled found.0 ++ found.1.now) }
 {
@@ -140,8 +136,6 @@ fn strip_flags(text: &str) -> Option<(Token<'_>, &str)>
     Some((Token::Flags(flags, ":"), rest))
 }
 
-/// Returns the start of a group, the flags or the comment that a text begins with, and the text
-/// after it.
 fn strip_group(text: &str) -> Option<(Token<'_>, &str)>
     ensures { IfSome result (λ found. text.now ≡ spelled found.0 ++ found.1.now) }
 {
@@ -157,7 +151,6 @@ fn strip_group(text: &str) -> Option<(Token<'_>, &str)>
     strip_other_opening(text)
 }
 
-/// Returns the quantifier of one character that a text begins with, and the text after it.
 fn strip_quantifier(text: &str) -> Option<(Token<'_>, &str)>
     ensures { IfSome result (λ found. text.now ≡ spelled found.0 ++ found.1.now) }
 {
@@ -178,8 +171,7 @@ fn are_counts(counts: &str) -> bool {
     }
 }
 
-/// Returns the quantifier in braces that a text begins with, and the text after it. One with a
-/// single number is never lazy: a `?` after it is a quantifier of its own.
+/// An interval with a single number is never lazy: a `?` after it is a quantifier of its own.
 fn strip_interval(text: &str) -> Option<(Token<'_>, &str)>
     ensures { IfSome result (λ found. text.now ≡ spelled found.0 ++ found.1.now) }
 {
@@ -197,8 +189,7 @@ fn strip_interval(text: &str) -> Option<(Token<'_>, &str)>
     Some((Token::Interval(counts, "}"), rest))
 }
 
-/// Returns the character by its number that a text begins with, and the text after it. `\x{..}`
-/// isn't among these.
+/// `\x{..}` isn't among these.
 fn strip_code(text: &str) -> Option<(Token<'_>, &str)>
     ensures { IfSome result (λ found. text.now ≡ spelled found.0 ++ found.1.now) }
 {
@@ -211,8 +202,7 @@ fn strip_code(text: &str) -> Option<(Token<'_>, &str)>
     None
 }
 
-/// Returns the escape that a text begins with, and the text after it. A backslash at the end of the
-/// text is unread.
+/// A backslash at the end of the text is unread.
 fn strip_escape(text: &str) -> Option<(Token<'_>, &str)>
     ensures { IfSome result (λ found. text.now ≡ spelled found.0 ++ found.1.now) }
 {
@@ -231,7 +221,6 @@ fn strip_escape(text: &str) -> Option<(Token<'_>, &str)>
     Some((Token::Escape(escaped), characters.as_str()))
 }
 
-/// Returns the start or the end of a word that a text begins with, and the text after it.
 fn strip_edge(text: &str) -> Option<(Token<'_>, &str)>
     ensures { IfSome result (λ found. text.now ≡ spelled found.0 ++ found.1.now) }
 {
@@ -243,7 +232,6 @@ fn strip_edge(text: &str) -> Option<(Token<'_>, &str)>
     None
 }
 
-/// Returns the first character of a text as a token, and the text after it.
 fn strip_character(text: &str) -> Option<(Token<'_>, &str)>
     ensures { IfSome result (λ found. text.now ≡ spelled found.0 ++ found.1.now) }
 {
@@ -252,8 +240,7 @@ fn strip_character(text: &str) -> Option<(Token<'_>, &str)>
     Some((Token::Char(first), characters.as_str()))
 }
 
-/// Returns the first character of a text as a token, and the text after it. Outside a class some
-/// characters have a meaning.
+/// Outside a class some characters have a meaning.
 fn strip_symbol(text: &str) -> Option<(Token<'_>, &str)>
     ensures { IfSome result (λ found. text.now ≡ spelled found.0 ++ found.1.now) }
 {
@@ -267,7 +254,7 @@ fn strip_symbol(text: &str) -> Option<(Token<'_>, &str)>
     Some((token, characters.as_str()))
 }
 
-/// Returns the name of a set that a text begins with, such as `[:alpha:]`, and the text after it.
+/// These are names of sets such as `[:alpha:]`.
 fn strip_posix<'a>(text: &'a str, start: &'static str) -> Option<(Token<'a>, &'a str)>
     ensures { IfSome result (λ found. text.now ≡ spelled found.0 ++ found.1.now) }
 {
@@ -282,7 +269,6 @@ fn strip_posix<'a>(text: &'a str, start: &'static str) -> Option<(Token<'a>, &'a
     None
 }
 
-/// Returns the mark of a class that a text begins with, and the text after it.
 fn strip_mark(text: &str) -> Option<(Token<'_>, &str)>
     ensures { IfSome result (λ found. text.now ≡ spelled found.0 ++ found.1.now) }
 {
@@ -294,8 +280,7 @@ fn strip_mark(text: &str) -> Option<(Token<'_>, &str)>
     None
 }
 
-/// Returns the token of a class that a text begins with, and the text after it. A `]` that comes
-/// first stands for itself.
+/// A `]` that comes first stands for itself.
 fn strip_member(text: &str, is_class_start: bool) -> Option<(Token<'_>, &str)>
     ensures { IfSome result (λ found. text.now ≡ spelled found.0 ++ found.1.now) }
 {
@@ -317,8 +302,6 @@ fn strip_member(text: &str, is_class_start: bool) -> Option<(Token<'_>, &str)>
     strip_character(text)
 }
 
-/// Returns the blank or the comment that a text begins with, and the text after it, if the flag `x`
-/// is set.
 fn strip_blank(text: &str) -> Option<(Token<'_>, &str)>
     ensures { IfSome result (λ found. text.now ≡ spelled found.0 ++ found.1.now) }
 {
@@ -334,7 +317,6 @@ fn strip_blank(text: &str) -> Option<(Token<'_>, &str)>
     Some((Token::Blank(first), characters.as_str()))
 }
 
-/// Returns the token outside classes that a text begins with, and the text after it.
 fn strip_plain(text: &str) -> Option<(Token<'_>, &str)>
     ensures { IfSome result (λ found. text.now ≡ spelled found.0 ++ found.1.now) }
 {
@@ -355,8 +337,7 @@ fn strip_plain(text: &str) -> Option<(Token<'_>, &str)>
     strip_symbol(text)
 }
 
-/// Returns the token that a text begins with, and the text after it, or `None` if the text is
-/// empty. The text has no placeholder.
+/// The text has no placeholder.
 pub(crate) fn next_token(text: &str, mode: Mode) -> Option<(Token<'_>, &str)>
     ensures { IfSome result (λ found. text.now ≡ spelled found.0 ++ found.1.now) }
 {

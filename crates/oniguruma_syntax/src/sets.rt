@@ -30,7 +30,7 @@ pub(crate) const SETS: [NamedSet; 14] = [
     },
     NamedSet {
         name: "blank",
-        items: r"\p{Zs}\t",
+        items: r"\p{Zs}\x09",
         is_of_words: false,
     },
     NamedSet {
@@ -85,10 +85,49 @@ pub(crate) const SETS: [NamedSet; 14] = [
     },
 ];
 
-/// The general categories of Unicode, which both engines call by these names.
-const CATEGORIES: [&str; 31] = [
-    "L", "Lu", "Ll", "Lt", "Lm", "Lo", "M", "Mn", "Mc", "Me", "N", "Nd", "Nl", "No", "P", "Pc",
-    "Pd", "Ps", "Pe", "Pi", "Pf", "Po", "S", "Sm", "Sc", "Sk", "So", "Z", "Zs", "Zl", "Zp",
+/// The properties of Unicode that both engines call by these names: the general categories, and those
+/// that the items of `SETS` have.
+const PROPERTIES: [&str; 40] = [
+    "L",
+    "Lu",
+    "Ll",
+    "Lt",
+    "Lm",
+    "Lo",
+    "M",
+    "Mn",
+    "Mc",
+    "Me",
+    "N",
+    "Nd",
+    "Nl",
+    "No",
+    "P",
+    "Pc",
+    "Pd",
+    "Ps",
+    "Pe",
+    "Pi",
+    "Pf",
+    "Po",
+    "S",
+    "Sm",
+    "Sc",
+    "Sk",
+    "So",
+    "Z",
+    "Zs",
+    "Zl",
+    "Zp",
+    "C",
+    "Cc",
+    "Cf",
+    "Cn",
+    "Co",
+    "Alphabetic",
+    "Lowercase",
+    "Uppercase",
+    "White_Space",
 ];
 
 /// Returns the set with this name, in upper or lower case, or `None` if there is none.
@@ -101,7 +140,7 @@ pub(crate) fn named_set(name: &str) -> Option<NamedSet> {
     None
 }
 
-/// Returns whether a name is that of a general category.
-pub(crate) fn is_category(name: &str) -> bool {
-    CATEGORIES.iter().any(|category| *category == name)
+/// Returns whether both engines call a property by this name.
+pub(crate) fn is_property(name: &str) -> bool {
+    PROPERTIES.iter().any(|property| *property == name)
 }

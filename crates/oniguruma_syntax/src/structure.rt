@@ -7,31 +7,30 @@ use crate::refusal::{Reason, Stop};
 use crate::token::{Form, Mark, Node, Token};
 use std::alloc::{AllocError, Global};
 
-/// What a token has to do with others.
+/// How a token is linked to others.
 #[derive(Clone, Copy)]
 pub(crate) struct Links {
-    /// Of a token that begins a group or a class, the index of the one that closes it.
+    /// For a token that begins a group or a class, the index of the token that closes it.
     pub close: usize,
     /// How many quantifiers repeat what begins at the token.
     pub repeats: usize,
-    /// Of a quantifier, whether another one follows, which repeats what this one repeats.
+    /// For a quantifier, whether another one follows, which repeats what this one repeats.
     pub is_repeated: bool,
-    /// Of a token that begins a group, whether what is inside the group can match in one way only,
-    /// wherever it matches. Then an atomic group is the same as a plain one.
+    /// For a token that begins a group, whether what is inside the group can match in one way only, wherever
+    /// it matches. Then an atomic group is the same as a plain one.
     pub is_fixed: bool,
 }
 
 /// How the tokens of a text belong together.
 #[derive(Drop)]
 pub(crate) struct Structure {
-    /// In the order of the tokens.
+    /// The links of each token, in the order of the tokens.
     pub links: Vec<Links>,
     /// Whether the text has alternatives outside all groups.
     pub has_alternatives: bool,
 }
 
 impl Links {
-    /// Returns what a token without a partner and without a quantifier has, if it has this index.
     fn of_one(index: usize) -> Links
         ensures { result ≡ links_of_one index }
     {
@@ -45,7 +44,6 @@ impl Links {
 }
 
 impl Structure {
-    /// Returns what the token with this index has to do with others.
     pub fn links_of(&self, index: usize) -> Links
         ensures { result ≡ links_at self.now.links.items index }
     {
@@ -102,7 +100,6 @@ impl Linker {
         self.quantifier = None;
     }
 
-    /// Begins a group or a class at the token with this index.
     fn begin(&mut self, index: usize) -> Result<(), AllocError> {
         self.open.push(index)?;
         self.set_atom(None);
@@ -127,7 +124,7 @@ impl Linker {
         true
     }
 
-    /// Counts a quantifier of what is before it. Returns `false` if there is nothing to repeat.
+    /// Counts a quantifier that repeats what is before it. Returns `false` if there is nothing to repeat.
     fn repeat(&mut self, index: usize) -> bool {
         let Some(atom) = self.atom else {
             return false;
@@ -144,7 +141,6 @@ impl Linker {
         true
     }
 
-    /// Links a token inside a class.
     fn link_member(&mut self, index: usize, mark: Mark) -> Result<(), AllocError> {
         match mark {
             Mark::Open | Mark::NotOpen => {
@@ -160,7 +156,6 @@ impl Linker {
         }
     }
 
-    /// Links a token outside classes.
     fn link_plain(&mut self, index: usize, node: &Node<'_>) -> Result<(), Stop> {
         match node.token {
             Token::Open(_, _) | Token::Enclosed(Form::Name, _, _, _) | Token::Flags(_, ":") => {
@@ -188,7 +183,6 @@ impl Linker {
         Ok(())
     }
 
-    /// Links the next token, which has this index.
     fn link(&mut self, index: usize, node: &Node<'_>) -> Result<(), Stop> {
         self.structure.links.push(Links::of_one(index))?;
         if is_choice(node) {

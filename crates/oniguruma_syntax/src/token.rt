@@ -100,7 +100,7 @@ pub enum Token<'a> {
     Edge(&'static str),
     /// A character by its number: the start, such as `\x`, the radix of its digits, and the digits.
     Code(&'static str, u32, &'a str),
-    /// A form, its start, what is in it, and its end.
+    /// A form: its start, the text inside it, and its end.
     Enclosed(Form, &'static str, &'a str, &'static str),
     /// The start of a group.
     Open(Opening, &'static str),

@@ -3,7 +3,7 @@ ghost use Rattle.oniguruma_syntax.specs.Changes.{NameKindsOnce};
 
 use crate::change::{Change, ChangeKind, Changes};
 use crate::characters::{char_by_number, escaped_char, set_text};
-use crate::class::{class_text, write_number};
+use crate::class::{class_text, is_hidden, write_number};
 use crate::flags::{FlagChange, read_flags};
 use crate::literals::push_literal;
 use crate::looks::{WordSet, is_literal, is_one_character, keys_in, part, word_set};
@@ -23,8 +23,8 @@ pub struct Wish {
     pub is_loose: bool,
 }
 
-/// A text that was written for `regex`, and what was changed in it, in reading order. A kind of
-/// change comes once, but that of keys which are lost comes for each of these lookarounds.
+/// A text that was written for `regex`, and its changes in reading order. Each kind of change comes once,
+/// except that of lost keys, which comes for each lookaround that has keys.
 #[derive(Drop)]
 pub struct Rewritten {
     pub text: String,
@@ -125,14 +125,12 @@ fn has_dot_all(letters: &str) -> bool {
     letters.contains('m') || letters.contains('s')
 }
 
-/// Returns whether letters are flags that are known.
 fn are_known(letters: &str) -> bool {
     letters
         .bytes()
         .all(|b| matches!(b, b'i' | b'm' | b'x' | b's'))
 }
 
-/// Returns whether a text has a brace.
 fn has_brace(text: &str) -> bool {
     text.contains('{') || text.contains('}')
 }
@@ -147,7 +145,6 @@ impl<'a> Writer<'_, 'a> {
         self.changes.add(Change::new(self.alloc, kind, text)?)
     }
 
-    /// Returns the text of the tokens with these indexes.
     fn spelled(&self, range: &Range<usize>) -> &'a str {
         let nodes = part(self.source.nodes, range);
         match (nodes.first(), nodes.last()) {
@@ -161,8 +158,8 @@ impl<'a> Writer<'_, 'a> {
     /// Writes a character that stands for itself. A `%` that could begin a placeholder with what is
     /// written after it becomes a class.
     fn write_char(&mut self, index: usize, c: char) -> Result<(), AllocError> {
-        if c.is_ascii_control() {
-            return write_number(&mut self.text, u32::from(c));
+        if is_hidden(c) {
+            return write_number(&mut self.text, c);
         }
         if c != '%' {
             return push_literal(&mut self.text, c);
@@ -174,7 +171,6 @@ impl<'a> Writer<'_, 'a> {
         self.text.push_str(if is_plain { "%" } else { "[%]" })
     }
 
-    /// Writes the escape of a letter.
     fn write_letter(&mut self, index: usize, node: &Node<'_>, letter: char) -> Result<(), Stop> {
         match letter {
             'A'
@@ -201,7 +197,7 @@ impl<'a> Writer<'_, 'a> {
             'H' => self.text.push_str("[^0-9A-Fa-f]")?,
             'R' => self
                 .text
-                .push_str("(?:\\r\\n|[\\n-\\r\\u0085\\u2028\\u2029])")?,
+                .push_str("(?:\\r\\n|[\\x0A-\\x0D\\u0085\\u2028\\u2029])")?,
             '1'..='9' | 'k' => return Err(Stop::at(Reason::Backreference, node)),
             'g' => return Err(Stop::at(Reason::Call, node)),
             _ => match escaped_char(letter) {
@@ -212,7 +208,6 @@ impl<'a> Writer<'_, 'a> {
         Ok(())
     }
 
-    /// Writes a token that is a character or a set of characters.
     fn write_one(&mut self, index: usize, node: &Node<'_>) -> Result<(), Stop> {
         if let Some(c) = char_by_number(node)? {
             return Ok(self.write_char(index, c)?);
@@ -228,7 +223,6 @@ impl<'a> Writer<'_, 'a> {
         }
     }
 
-    /// Begins a group at the token with this index.
     fn begin_group(&mut self, index: usize, inline: Option<usize>) -> Result<(), AllocError> {
         self.groups.push(OpenGroup {
             index,
@@ -246,7 +240,6 @@ impl<'a> Writer<'_, 'a> {
         Ok(())
     }
 
-    /// Ends the innermost group.
     fn end_group(&mut self) -> Result<(), Stop> {
         let Some(group) = self.groups.pop() else {
             return Ok(());
@@ -332,7 +325,9 @@ impl<'a> Writer<'_, 'a> {
         if greed == Greed::Possessive {
             self.text
                 .push_str(spelling.strip_suffix('+').unwrap_or(spelling))?;
-            self.note(ChangeKind::Possessive, &range)?;
+            if !self.is_at_end(index) {
+                self.note(ChangeKind::Possessive, &range)?;
+            }
         } else {
             self.text.push_str(spelling)?;
         }
@@ -348,7 +343,6 @@ impl<'a> Writer<'_, 'a> {
         Ok(())
     }
 
-    /// Writes a quantifier in braces.
     fn write_interval(
         &mut self,
         index: usize,
@@ -550,7 +544,6 @@ impl<'a> Writer<'_, 'a> {
         Ok(self.changes.add(Change { kind, text, keys })?)
     }
 
-    /// Writes a lookaround that begins at the token with this index.
     fn write_look(&mut self, index: usize, node: &Node<'_>, opening: Opening) -> Result<(), Stop> {
         let Links { close, repeats, .. } = self.source.structure.links_of(index);
         let after = close.saturating_add(1);
@@ -570,6 +563,16 @@ impl<'a> Writer<'_, 'a> {
         self.drop_look(node, &whole, is_repeated)
     }
 
+    /// Returns whether the pattern has matched once the token with this index has: only the ends of groups
+    /// follow. Nothing is tried again there, so that an atomic group or a possessive quantifier is the same as a
+    /// plain one.
+    fn is_at_end(&self, index: usize) -> bool {
+        let rest = index.saturating_add(1)..self.source.nodes.len();
+        self.wish.is_whole
+            && part(self.source.nodes, &rest).iter().all(|node| node.is_blank()
+                || matches!(node.token, Token::Symbol(')')))
+    }
+
     /// Begins a group.
     fn write_opening(
         &mut self,
@@ -582,7 +585,7 @@ impl<'a> Writer<'_, 'a> {
             Opening::Plain => self.text.push_str("(?:")?,
             Opening::Atomic => {
                 let links = self.source.structure.links_of(index);
-                if !links.is_fixed {
+                if !links.is_fixed && !self.is_at_end(links.close) {
                     self.note(ChangeKind::Atomic, &(index..links.close.saturating_add(1)))?;
                 }
                 self.text.push_str("(?:")?;
@@ -595,7 +598,6 @@ impl<'a> Writer<'_, 'a> {
         Ok(self.begin_group(index, None)?)
     }
 
-    /// Writes a form with a text in it.
     fn write_enclosed(
         &mut self,
         index: usize,
@@ -612,7 +614,6 @@ impl<'a> Writer<'_, 'a> {
         }
     }
 
-    /// Writes a class that begins at the token with this index.
     fn write_class(&mut self, index: usize) -> Result<(), Stop> {
         let end = self
             .source
@@ -625,7 +626,6 @@ impl<'a> Writer<'_, 'a> {
         Ok(self.text.push_str(text.as_str())?)
     }
 
-    /// Writes the token with this index.
     fn write_token(&mut self, index: usize, node: &Node<'a>) -> Result<(), Stop> {
         self.next = index.saturating_add(1);
         for _ in 1..self.source.structure.links_of(index).repeats {

@@ -12,7 +12,7 @@ abbrev pub text_upto_last : Option Piece → List ℕ
 text_upto_last None = []
 text_upto_last (Some piece) = text_upto piece
 
--- THE BEGINNING of `count` pieces: the text up to the end of the last of them. That of no piece is empty.
+-- THE BEGINNING of `count` pieces: the text up to the end of the last of them. The beginning of no piece is empty.
 abbrev pub beginning_text : List Piece → ℕ → List ℕ
 beginning_text pieces count = if count == 0 then [] else text_upto_last (slice_get pieces (count - 1))
 

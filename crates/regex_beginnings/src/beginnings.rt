@@ -11,24 +11,22 @@ use std::alloc::{AllocError, Global};
 use std::collections::BTreeMap;
 
 /// The beginnings of a regular expression. The beginning of `count` pieces is the text up to the end
-/// of the last of them, with a `)` for each group that is still open there. That of no piece is
-/// empty.
+/// of the last of them, with a `)` for each group that is still open there. The beginning of no piece
+/// is empty.
 #[derive(Drop)]
 pub struct Beginnings<'a> {
     alloc: Global,
     pieces: Vec<Piece<'a>>,
     groups: Vec<Group>,
-    /// Some of the beginnings that were needed so far, by their number of pieces: for each step of a search
-    /// for the longest one that which was compiled last. So at most about log2(N) of N beginnings take
-    /// memory, and lines that stop at the same piece one after another need no other.
+    /// Compiled beginnings, by their number of pieces. For each step of the search for the longest
+    /// beginning, only the one that was compiled last is kept. So of N beginnings at most about log2(N)
+    /// take memory, and if lines stop at the same piece one after another, none is compiled again.
     compiled: BTreeMap<usize, Compiled>,
-    /// For each step the number of pieces of that beginning.
+    /// For each step of a search, the number of pieces of the beginning that is kept for it.
     kept: BTreeMap<usize, usize>,
 }
 
 impl Piece<'_> {
-    /// Returns the text up to the end of this piece, with a `)` for each group that is still open
-    /// there.
     fn closed_text(&self, alloc: Global) -> Result<String, AllocError>
         ensures { IfOk result (λ text. string_bytes text ≡ text_upto self.now) }
     {
@@ -41,10 +39,6 @@ impl Piece<'_> {
 
 impl<'a> Beginnings<'a> {
     /// Cuts the text of a regular expression that `regex` takes.
-    ///
-    /// # Errors
-    ///
-    /// If an allocation fails.
     pub fn new(alloc: Global, text: &'a str) -> Result<Beginnings<'a>, AllocError>
         ensures { IfOk result (λ beginnings. ArePiecesOf text.now (pieces_of beginnings)) }
     {
@@ -72,7 +66,6 @@ impl<'a> Beginnings<'a> {
         self.groups.as_slice()
     }
 
-    /// Returns the text of the beginning of `count` pieces.
     fn text_of(&self, count: usize) -> Result<String, AllocError>
         ensures { IfOk result (λ text. string_bytes text ≡ beginning_text (pieces_of self.now) count) }
     {
@@ -85,8 +78,6 @@ impl<'a> Beginnings<'a> {
         }
     }
 
-    /// Returns the compiled beginning with this text, which has `count` pieces, if it was compiled
-    /// before.
     fn known(&self, count: usize, text: &str) -> Option<&Compiled>
         ensures { MatchOption result ⊤ (λ known. regex_source known.now.regex ≡ text.now) }
     {
@@ -96,7 +87,7 @@ impl<'a> Beginnings<'a> {
         }
     }
 
-    /// Keeps a compiled beginning of `count` pieces in place of that which this step of a search needed
+    /// Keeps a compiled beginning of `count` pieces. It replaces the one that this step of a search needed
     /// before.
     fn keep(&mut self, step: usize, count: usize, compiled: Compiled) -> Result<(), AllocError>
         ensures { pieces_of self.new ≡ pieces_of self.old }
@@ -108,8 +99,7 @@ impl<'a> Beginnings<'a> {
         Ok(())
     }
 
-    /// Returns whether the beginning of `count` pieces finds something in the line. This step of a search
-    /// needs it.
+    /// `step` is the step of the search for the longest beginning that needs this one.
     fn finds(&mut self, step: usize, count: usize, line: &str) -> Result<bool, AllocError>
         ensures answer { IfOk result (IsAnswer (beginning_text (pieces_of self.old) count) line.now) }
         ensures same { pieces_of self.new ≡ pieces_of self.old }
@@ -128,10 +118,6 @@ impl<'a> Beginnings<'a> {
 
     /// Returns the first match of the beginning of `count` pieces in the line, or `None` if it finds
     /// nothing.
-    ///
-    /// # Errors
-    ///
-    /// If an allocation fails.
     pub fn find(&self, count: usize, line: &str) -> Result<Option<Found>, AllocError>
         ensures { IfOk result (IsFirstMatchIn (beginning_text (pieces_of self.now) count) line.now) }
     {
@@ -145,12 +131,8 @@ impl<'a> Beginnings<'a> {
         }
     }
 
-    /// Returns how many pieces the longest beginning has that finds something in the line: the
-    /// beginning of so many pieces finds something, and the one with the next piece finds nothing.
-    ///
-    /// # Errors
-    ///
-    /// If an allocation fails.
+    /// Returns how many pieces the longest beginning has that finds something in the line. The beginning
+    /// with one more piece finds nothing.
     pub fn longest(&mut self, line: &str) -> Result<usize, AllocError>
         ensures longest { IfOk result (IsLongestIn line.now (pieces_of self.old)) }
         ensures same { pieces_of self.new ≡ pieces_of self.old }

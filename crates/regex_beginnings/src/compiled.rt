@@ -25,7 +25,6 @@ pub(crate) struct Compiled {
 impl Compiled {
     ghost use Rattle.regex_beginnings.specs.Finds.{IsDecided, IsMatchOf};
 
-    /// Returns whether the regex finds something in a line.
     pub(crate) fn is_found(&self, alloc: Global, line: &str) -> Result<bool, AllocError>
         ensures { IfOk result (IsDecided (regex_source self.now.regex) line.now) }
     {
@@ -33,7 +32,6 @@ impl Compiled {
         Ok(matcher.is_match(line))
     }
 
-    /// Returns the first match of the regex in a line.
     pub(crate) fn find(&self, alloc: Global, line: &str) -> Result<Option<Found>, AllocError>
         ensures { IfOk result (IsMatchOf self.now.regex line.now) }
     {
@@ -49,11 +47,6 @@ impl Compiled {
     }
 }
 
-/// Compiles a text. Returns `None` if `regex` refuses it.
-///
-/// # Errors
-///
-/// If an allocation fails.
 pub(crate) fn compile(alloc: Global, text: &str) -> Result<Option<Compiled>, AllocError>
     ensures { IfOk result (λ compiled. MatchOption compiled (IsRefused text.now)
         (λ compiled. regex_source compiled.regex ≡ text.now)) }

@@ -10,6 +10,8 @@
 //! let count = beginnings.longest("xaac")?; // 1: of (?:a+), (?:a+b) and (?:a+b)c only the first
 //! let found = beginnings.find(count, "xaac")?; // the first match ends at 3, before the c
 //! ```
+//!
+//! Where a call has no section `# Errors`, its error is a failed allocation.
 #![tactic(auto)]
 
 mod beginnings;

@@ -16,7 +16,7 @@ pub struct Group {
     pub end: usize,
     /// The index of the group around it, if there is one.
     pub around: Option<usize>,
-    /// Its number, if it captures. Groups that capture are counted from 1.
+    /// The number of the group, if it captures. Groups that capture are counted from 1.
     pub number: Option<usize>,
 }
 
@@ -46,7 +46,6 @@ pub(crate) struct Pieces<'a> {
 /// A group that isn't closed yet.
 #[derive(Clone, Copy)]
 struct Open {
-    /// Its index.
     group: usize,
     /// How many pieces come before it.
     pieces_before: usize,
@@ -72,7 +71,6 @@ struct Cutter<'a> {
     ghost cut: { All (λ piece. end_of piece ≤ at) pieces.items },
 }
 
-/// Returns what a text has before this byte position, or the whole text if no character ends there.
 fn before(text: &str, end: usize) -> &str
     ensures beginning { take (length result.now) text.now ≡ result.now }
     ensures long { (end ≤ length result.now) ⊎ (result.now ≡ text.now) }
@@ -219,7 +217,6 @@ impl<'a> Cutter<'a> {
         }
     }
 
-    /// Cuts what comes next.
     fn cut_next(&mut self) -> Result<(), AllocError>
         ensures { self.new.text.now ≡ self.old.text.now }
     {

@@ -1,23 +1,21 @@
 //! Finds where the parts of a regular expression end, as the syntax of `regex` has them. The texts
 //! are parts of a regular expression that `regex` takes, without the flag `x`.
 
-/// How a `(` begins.
+/// The form in which a `(` begins.
 #[derive(Clone, Copy)]
 pub(crate) enum Opening {
-    /// A setting of flags such as `(?i)`, with so many bytes.
+    /// A setting of flags such as `(?i)`, with its length in bytes.
     Setting(usize),
-    /// The start of a group, such as `(?:` or `(?<name>`, with so many bytes.
+    /// The start of a group, such as `(?:` or `(?<name>`. `len` is its length in bytes.
     Group { len: usize, is_capturing: bool },
     /// A setting or a group with the flag `x`, after which blanks and comments mean nothing.
     Verbose,
 }
 
-/// Returns the part of a text from this byte position on.
 pub(crate) fn after(text: &str, at: usize) -> &str {
     text.get(at..).unwrap_or("")
 }
 
-/// Returns the length in bytes of the character that a text begins with, or 0 if the text is empty.
 fn char_len(text: &str) -> usize {
     match text.chars().next() {
         Some(c) => c.len_utf8(),
@@ -25,7 +23,6 @@ fn char_len(text: &str) -> usize {
     }
 }
 
-/// Returns the length in bytes of the braces that a text begins with.
 fn braces_len(text: &str) -> usize {
     match text.find('}') {
         Some(end) => end.saturating_add(1),
@@ -110,7 +107,6 @@ fn item_len(text: &str) -> usize {
     }
 }
 
-/// Returns the length in bytes of the class that a text begins with, such as `[^a-z]`.
 fn class_len(text: &str) -> usize {
     let mut at = class_start_len(text);
     let mut depth = 1usize;
@@ -149,7 +145,6 @@ pub(crate) fn is_literal(text: &str) -> bool {
     !text.starts_with(|c: char| matches!(c, '\\' | '[' | '.' | '^' | '$'))
 }
 
-/// Returns the length in bytes of the quantifier that a text begins with, or 0 if there is none.
 fn quantifier_len(text: &str) -> usize {
     let len = match text.chars().next() {
         Some('?' | '*' | '+') => 1,
@@ -160,7 +155,6 @@ fn quantifier_len(text: &str) -> usize {
     len.saturating_add(usize::from(lazy))
 }
 
-/// Returns the length in bytes of all quantifiers that a text begins with.
 pub(crate) fn quantifiers_len(text: &str) -> usize {
     let mut at = 0usize;
     for _ in 0..text.len() {
@@ -178,7 +172,6 @@ fn are_verbose(flags: &str) -> bool {
     flags.split('-').next().unwrap_or("").contains('x')
 }
 
-/// Returns how the `(` begins with which a text begins.
 pub(crate) fn read_opening(text: &str) -> Opening {
     let Some(special) = text.strip_prefix("(?") else {
         return Opening::Group {

@@ -10,12 +10,11 @@ use regex_meta::Program;
 use regex_vm::Declined;
 use std::alloc::Global;
 
-/// The literals that are rarest in a match, and those that are rarest elsewhere in it. Each match
-/// contains one of both, where they are there.
+/// Two sets of literals: the one that is rarest in a match, and the one that is rarest elsewhere in the
+/// match. If there is a set, each match contains one of its literals.
 pub(crate) type Literals = (Option<Prefilter>, Option<Prefilter>);
 
-/// Builds the search for literals of which each match of the program contains one. Returns `None` if
-/// there is no fast one.
+/// Returns `None` if there is no fast search for the literals.
 fn search_for(
     alloc: Global,
     program: &Program,
@@ -30,8 +29,7 @@ fn search_for(
     }
 }
 
-/// Finds literals of which each match of the program contains one, at two places of it. There are
-/// none if each match starts where the line starts: then one automaton decides as fast.
+/// Returns no literals if each match starts where the line starts: then one automaton decides as fast.
 pub(crate) fn required_literals(alloc: Global, program: &Program) -> Result<Literals, Declined>
     ensures rarest { IfOk result (λ found. ∥ IfSome found.0 (ContainsNeedle (pattern_of program.now)) ∥₁) }
     ensures others { IfOk result (λ found. ∥ IfSome found.1 (ContainsNeedle (pattern_of program.now)) ∥₁) }
@@ -49,7 +47,6 @@ pub(crate) fn required_literals(alloc: Global, program: &Program) -> Result<Lite
     Ok((rarest, others))
 }
 
-/// Returns whether the line has none of these literals, of which each match contains one.
 pub(crate) fn lacks(literals: &Option<Prefilter>, program: &Program, hay: &[u8]) -> bool
     requires { ∥ IfSome literals.now (ContainsNeedle (pattern_of program.now)) ∥₁ }
     ensures { IsTrue result → leftmost program.now hay.now 0 ≡ None }

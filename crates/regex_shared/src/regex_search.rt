@@ -31,11 +31,7 @@ pub(crate) struct RegexSearch {
 }
 
 impl RegexSearch {
-    /// Builds the search for the regex with this text.
-    ///
-    /// # Errors
-    ///
-    /// `Declined` if the text is no regular expression, if the program would be too big, or if an
+    /// Returns `Declined` if the text is no regular expression, if the program would be too big, or if an
     /// allocation fails.
     pub(crate) fn build(alloc: Global, text: &str) -> Result<RegexSearch, Declined>
         ensures { IfOk result (λ search. string_bytes search.source ≡ text.now) }
@@ -52,12 +48,7 @@ impl RegexSearch {
         })
     }
 
-    /// Searches for the first match of the regex in the line, and returns whether there is one. If
-    /// so, `texts` has the text of each group. Its old contents are lost.
-    ///
-    /// # Errors
-    ///
-    /// `Declined` if this is the search for another regex, if it gives up, or if an allocation
+    /// Returns `Declined` if this is the search for another regex, if it gives up, or if an allocation
     /// fails.
     pub(crate) fn write_captures<'t>(
         &mut self,
@@ -81,7 +72,6 @@ impl RegexSearch {
         }
     }
 
-    /// Returns whether this is the search for the regex: it has the same text and as many groups.
     fn is_of(&self, regex: &Regex) -> bool
         ensures source { IsTrue result → string_bytes self.now.source ≡ regex_source regex.now }
         ensures groups { IsTrue result → vec_len self.now.cells / 2 + 1
@@ -90,7 +80,6 @@ impl RegexSearch {
         self.cells.len() / 2 + 1 == regex.captures_len() && self.source.as_str() == regex.as_str()
     }
 
-    /// Finds the span of the first match in the line, and writes the cells of its groups.
     fn find(&mut self, line: &str) -> Result<Option<(usize, usize)>, Declined>
         ensures span { IfOk result (λ found. found
             ≡ option_map span (find_str (pattern_of self.old.searcher.program) line.now 0)) }
@@ -106,7 +95,7 @@ impl RegexSearch {
         Ok(found)
     }
 
-    /// Finds the first match in the bytes, which can start inside a character.
+    /// The match can start inside a character.
     fn find_in_bytes(&mut self, hay: &[u8]) -> Result<Option<(usize, usize)>, Declined>
         ensures span { IfOk result (λ found. found
             ≡ option_map span (leftmost self.old.searcher.program hay.now 0)) }
@@ -119,7 +108,6 @@ impl RegexSearch {
     }
 }
 
-/// Compiles the text of a regex.
 fn program_of(alloc: Global, text: &str) -> Result<Program, Declined>
     ensures { IfOk result (λ program. ∥ IsTreeOf text.now program.hir ∥₁) }
 {
@@ -135,7 +123,6 @@ fn program_of(alloc: Global, text: &str) -> Result<Program, Declined>
     Ok(program)
 }
 
-/// Returns whether the match starts inside a character.
 fn starts_inside(line: &str, found: Option<(usize, usize)>) -> bool
     ensures { IsFalse result → IfSome found (λ s. IsCharBoundary line.now s.0) }
 {

@@ -28,7 +28,7 @@ pub(crate) struct Searcher {
     at_start: bool,
     /// The literals that are rarest in a match. Each match contains one of them.
     rarest: Option<Prefilter>,
-    /// Those that are rarest elsewhere in a match. Each match contains one of them too.
+    /// The literals that are rarest elsewhere in a match. Each match contains one of them too.
     others: Option<Prefilter>,
     /// Finds the groups of a match.
     tagged: Tagged,
@@ -47,7 +47,6 @@ pub(crate) struct Searcher {
 }
 
 impl Searcher {
-    /// Makes the search for a program.
     pub(crate) fn new(alloc: Global, program: Program) -> Result<Searcher, Declined>
         ensures { IfOk result (λ s. s.program ≡ program) }
     {
@@ -66,11 +65,7 @@ impl Searcher {
         })
     }
 
-    /// Finds the span of the first match, and writes the cells of its groups.
-    ///
-    /// # Errors
-    ///
-    /// `Declined` if an automaton gives up and the line is too long for backtracking, or if an
+    /// Returns `Declined` if an automaton gives up and the line is too long for backtracking, or if an
     /// allocation fails.
     pub(crate) fn find(
         &mut self,
@@ -90,13 +85,9 @@ impl Searcher {
         Ok(found)
     }
 
-    /// Finds the first match by the lazy automata. The tagged automaton is the slowest of them, and
-    /// so it reads only the span of the match. If each match starts where the line starts, it reads
-    /// the line instead of the other two.
-    ///
-    /// # Errors
-    ///
-    /// `Declined` if an automaton gives up.
+    /// The tagged automaton is the slowest one, and so it reads only the span of the match. If each match
+    /// starts where the line starts, it reads the line instead of the other two. Returns `Declined` if an
+    /// automaton gives up.
     fn by_automata(
         &mut self,
         hay: &[u8],
@@ -117,7 +108,6 @@ impl Searcher {
         }
     }
 
-    /// Finds the first match of a pattern whose matches start where the line starts.
     fn match_at_start(
         &mut self,
         hay: &[u8],
@@ -136,7 +126,6 @@ impl Searcher {
         Ok(found)
     }
 
-    /// Finds the span of the first match.
     fn span(&mut self, hay: &[u8]) -> Result<Option<(usize, usize)>, Declined>
         ensures span { IfOk result (λ found. found
             ≡ option_map span (leftmost self.old.program hay.now 0)) }
@@ -154,15 +143,13 @@ impl Searcher {
         }
     }
 
-    /// Returns whether the line lacks the literals of which each match contains one.
     fn lacks_literal(&self, hay: &[u8]) -> bool
         ensures { IsTrue result → leftmost self.now.program hay.now 0 ≡ None }
     {
         lacks(&self.rarest, &self.program, hay) || lacks(&self.others, &self.program, hay)
     }
 
-    /// Writes the cells of the groups of the first match, whose span is `whole`, and returns that
-    /// span. If the pattern has no groups, it searches no further.
+    /// If the pattern has no groups, it searches no further.
     fn groups_within(
         &mut self,
         hay: &[u8],
@@ -185,7 +172,6 @@ impl Searcher {
         Ok(found)
     }
 
-    /// Finds the end of the first match.
     fn first_end(&mut self, hay: &[u8]) -> Result<Option<usize>, Declined>
         ensures end { IfOk result (λ found. IsFirstEnd self.old.program hay.now found) }
         ensures same { IsSameSearch self.new.program self.old.program }
@@ -200,7 +186,6 @@ impl Searcher {
         }
     }
 
-    /// Finds the span of the first match of a pattern whose matches end where the line ends.
     fn span_at_end(&mut self, hay: &[u8]) -> Result<Option<(usize, usize)>, Declined>
         requires ends { self.old.program.at_end ≡ true }
         ensures span { IfOk result (λ found. found
@@ -217,7 +202,6 @@ impl Searcher {
         }
     }
 
-    /// Finds the span of the first match, which ends at `end`.
     fn span_to(&mut self, hay: &[u8], end: usize) -> Result<(usize, usize), Declined>
         requires ends { EndsAt (pattern_of self.old.program) hay.now 0 0 end }
         ensures span { IfOk result (λ whole. Some whole
@@ -231,7 +215,6 @@ impl Searcher {
     }
 }
 
-/// Makes the automata of a program. Their caches are empty.
 fn automata_of(alloc: Global, program: &Program) -> Result<(Tagged, Forward, Reverse), Declined>
     ensures own { IfOk result (λ automata. IsFor automata.0 program.now.dfa) }
     ensures ahead { IfOk result (λ automata. IsForwardFor automata.1 program.now.dfa) }
@@ -243,18 +226,14 @@ fn automata_of(alloc: Global, program: &Program) -> Result<(Tagged, Forward, Rev
     Ok((tagged, forward, reverse))
 }
 
-/// Returns whether each match starts where the line starts.
 fn starts_lines(program: &Program) -> bool
     ensures { ∥ (result ≡ true → IsAnchored true (pattern_of program.now)) ∥₁ }
 {
     regex_extract::is_anchored_start(&program.hir)
 }
 
-/// Finds the first match by backtracking, which needs no caches.
-///
-/// # Errors
-///
-/// `Declined` if the line is too long for that, or if an allocation fails.
+/// Needs no caches. Returns `Declined` if the line is too long for backtracking, or if an allocation
+/// fails.
 fn by_backtracking(
     backtracker: &mut Backtracker,
     program: &Program,

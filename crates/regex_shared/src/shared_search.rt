@@ -85,7 +85,6 @@ impl Stage {
     }
 }
 
-/// Builds the search for the regex with this text, on the heap.
 #[cold]
 #[inline(never)]
 fn boxed(alloc: Global, text: &str) -> Result<Box<RegexSearch>, Declined> {

@@ -5,8 +5,6 @@ ghost use Rattle.regex_shared.specs.steps.Searches.{span_of_cells};
 
 use regex_vm::Declined;
 
-/// Writes the text of each group of a match with this span and these cells to `texts`, from group 0
-/// on. Its old contents are lost.
 pub(crate) fn write_texts<'t>(
     line: &'t str,
     whole: (usize, usize),
@@ -30,7 +28,6 @@ pub(crate) fn write_texts<'t>(
     Ok(())
 }
 
-/// Returns the text of one group, or `None` if it took no part in the match.
 fn group_text<'t>(
     line: &'t str,
     whole: (usize, usize),
@@ -48,7 +45,6 @@ fn group_text<'t>(
     }
 }
 
-/// Returns the byte range of one group, or `None` if it took no part in the match.
 fn group_span(whole: (usize, usize), cells: &[usize], number: usize) -> Option<(usize, usize)>
     requires { number ≤ length cells.now / 2 }
     ensures { result ≡ span_of_cells whole cells.now number }
@@ -65,7 +61,6 @@ fn group_span(whole: (usize, usize), cells: &[usize], number: usize) -> Option<(
     }
 }
 
-/// Returns the part of the line between two positions, unless one of them is inside a character.
 fn part(line: &str, start: usize, end: usize) -> Result<&str, Declined>
     ensures text { IfOk result (λ text. text.now ≡ slice_range line.now start end) }
     ensures slice { IfOk result (λ text. IsSliceOf line.now text.now) }

@@ -9,7 +9,7 @@ use log_samples::{
 use std::alloc::{AllocError, Global};
 use std::cmp::Reverse;
 
-/// If a pattern leaves out at most one line in this many, it is for all of them.
+/// A pattern counts as one for all lines if it leaves out at most one line in this many.
 const LINES_FOR_ONE_LEFT: usize = 10;
 
 /// Of the lines that a definition fits, one in this many may lack what it needs.
@@ -36,15 +36,15 @@ pub struct Share {
     pub lines: usize,
 }
 
-/// What is advised for lines.
+/// The advice for lines: which patterns to use.
 #[derive(Drop)]
 pub struct Advice {
     /// The pattern for the first lines of events, if the lines are parts of events.
     pub start: Option<String>,
     /// How many lines or events there are.
     pub lines: usize,
-    /// The patterns that fit some of the lines, each for itself. Those that fit most lines come first, and of these those with
-    /// most fields.
+    /// The patterns that fit some of the lines, each by itself. The patterns that fit most lines come first, and
+    /// among equal ones those with most fields.
     pub alone: Vec<Suggestion>,
     /// Patterns to be used together, in this order, if no pattern alone is for all lines.
     pub together: Vec<Share>,
@@ -62,12 +62,12 @@ pub struct Format<'a> {
 /// The definitions that may be suggested.
 #[derive(Clone, Copy)]
 pub struct Formats<'a> {
-    /// Those for whole lines.
+    /// The definitions for whole lines.
     pub lines: &'a [Format<'a>],
-    /// Those for the beginnings of lines.
+    /// The definitions for the beginnings of lines.
     pub beginnings: &'a [&'a str],
-    /// Of these, the ones after which a definition for whole lines has any message. They are tried even if such a definition
-    /// fits.
+    /// Those of `beginnings` that a definition for whole lines continues with any message. They are tried
+    /// even if such a definition fits.
     pub open: &'a [&'a str],
 }
 
@@ -76,7 +76,6 @@ fn sort(candidates: &mut Vec<Candidate>) -> Result<(), AllocError> {
     candidates.sort_by_key(|found| (Reverse(found.fit.lines), Reverse(found.fit.fields)))
 }
 
-/// Returns those of the lines that are marked.
 fn marked_of<'l>(
     alloc: Global,
     lines: &[&'l str],
@@ -133,7 +132,7 @@ fn fitting(
     Ok(found)
 }
 
-/// Returns whether so few lines are left of `all` that no further pattern is needed: one of several, or one of ten.
+/// Returns whether no further pattern is needed: at most one line in ten is left, or one of several.
 fn are_few(left: usize, all: usize) -> bool {
     left <= all / LINES_FOR_ONE_LEFT || (left == 1 && all > 1)
 }
@@ -145,7 +144,6 @@ struct Choice<'l> {
     left: Vec<&'l str>,
 }
 
-/// Returns how many of the lines that are left a candidate fits.
 fn count_left(candidate: &Candidate, is_left: &[bool]) -> usize {
     let mut count = 0usize;
     for (is_fit, is_left) in candidate.each.iter().zip(is_left) {
@@ -170,7 +168,7 @@ fn best_of<'c>(candidates: &'c [Candidate], is_left: &[bool]) -> Option<(&'c Can
     best
 }
 
-/// Returns for each line that it is left.
+/// Marks all lines as left.
 fn all_of(alloc: Global, lines: &[&str]) -> Result<Vec<bool>, AllocError> {
     let mut is_left = Vec::new(alloc);
     for _ in lines {
@@ -179,7 +177,7 @@ fn all_of(alloc: Global, lines: &[&str]) -> Result<Vec<bool>, AllocError> {
     Ok(is_left)
 }
 
-/// Takes the lines that a candidate fits from those that are left.
+/// Unmarks the lines that a candidate fits, which are no longer left.
 fn take_fit(is_left: &mut [bool], candidate: &Candidate) {
     for (is_left, is_fit) in is_left.iter_mut().zip(&candidate.each) {
         if *is_fit {
@@ -217,7 +215,7 @@ fn cover<'l>(
     Ok(Choice { patterns, left })
 }
 
-/// Appends the pattern for lines that begin with a definition and then have more of one form.
+/// Appends the pattern for lines that begin with a definition and continue in one form.
 fn add_continued(
     alloc: Global,
     recognizer: &Recognizer<'_>,
@@ -342,7 +340,6 @@ fn advise_on_events(
     }))
 }
 
-/// Returns how many lines at the front begin with `#`.
 fn header_len(lines: &[&str]) -> usize {
     let mut len = 0usize;
     for line in lines {
@@ -354,8 +351,8 @@ fn header_len(lines: &[&str]) -> usize {
     len
 }
 
-/// Returns the lines without their header: the lines at the front that begin with `#`, if there are others, and none of these
-/// does.
+/// Removes the header: the lines at the front that begin with `#`. Keeps all lines if each of them begins with
+/// `#`, or if one after the header does.
 fn without_header<'s, 'l>(lines: &'s [&'l str]) -> &'s [&'l str] {
     let header = header_len(lines);
     let others = lines.get(header..).unwrap_or(&[]);
@@ -366,10 +363,6 @@ fn without_header<'s, 'l>(lines: &'s [&'l str]) -> &'s [&'l str] {
 
 /// Returns the advice for lines. If known definitions leave out more than one line of ten, and the lines are parts of events, it
 /// is the advice for the events.
-///
-/// # Errors
-///
-/// If an allocation fails.
 pub fn advise(
     alloc: Global,
     definitions: Definitions<'_>,

@@ -41,7 +41,7 @@ enum Next {
     Rest,
 }
 
-/// How many lines have a token of the same kind at some place, or no token.
+/// A kind of token, or `None` for the end of a line, and how many lines have it next.
 #[derive(Clone, Copy)]
 pub(crate) struct Count {
     pub kind: Option<Kind>,
@@ -49,7 +49,6 @@ pub(crate) struct Count {
 }
 
 impl<'l> Row<'l> {
-    /// Takes the tokens of a line.
     pub(crate) fn new(tokens: Vec<Token<'l>>) -> Row<'l> {
         Row {
             tokens,
@@ -58,7 +57,6 @@ impl<'l> Row<'l> {
         }
     }
 
-    /// Returns the next token.
     fn next(&self) -> Option<Token<'l>> {
         self.tokens.as_slice().get(self.at).copied()
     }
@@ -73,17 +71,12 @@ impl<'l> Row<'l> {
         Some(after.kind)
     }
 
-    /// Returns the kind of the first token of the line.
     pub(crate) fn head(&self) -> Option<Kind> {
         let first = self.tokens.as_slice().first()?;
         Some(first.kind)
     }
 
-    /// Returns a text that lines have in common whose tokens have the same kinds, one after another.
-    ///
-    /// # Errors
-    ///
-    /// If an allocation fails.
+    /// Returns a text that is the same for lines whose tokens have the same kinds in the same order.
     pub(crate) fn shape(&self, alloc: Global) -> Result<String, AllocError> {
         let mut shape = String::new(alloc);
         for token in &self.tokens {
@@ -101,7 +94,6 @@ impl<'l> Row<'l> {
         Ok(shape)
     }
 
-    /// Returns the index of the next blank.
     fn next_blank(&self) -> Option<usize> {
         for index in self.at..self.tokens.len() {
             if self.tokens[index].kind == Kind::Blank {
@@ -156,11 +148,7 @@ impl<'l> Row<'l> {
     }
 }
 
-/// Counts a line with such a token.
-///
-/// # Errors
-///
-/// If an allocation fails.
+/// Counts one more line with a token of this kind.
 pub(crate) fn count_kind(counts: &mut Vec<Count>, kind: Option<Kind>) -> Result<(), AllocError> {
     for count in counts.iter_mut() {
         if count.kind == kind {
@@ -192,7 +180,7 @@ impl<'l> Aligner<'l> {
             .count()
     }
 
-    /// Returns how many of these lines have an end of a gap here.
+    /// Returns how many lines that have all columns so far have an end of a gap here.
     fn with_gap_end(&self, closing: Option<char>) -> usize {
         self.rows
             .iter()
@@ -216,7 +204,6 @@ impl<'l> Aligner<'l> {
         )
     }
 
-    /// Returns what comes next.
     fn next(&self) -> Result<Next, AllocError> {
         let mut counts = Vec::new(self.alloc);
         for row in &self.rows {
@@ -319,7 +306,6 @@ impl<'l> Aligner<'l> {
         time.is_time() && blanks.is_blank()
     }
 
-    /// Makes a column of a gap.
     fn take_gap(&mut self) -> Result<(), AllocError> {
         let closing = self.open.as_slice().last().copied();
         let mut column = Column::new(Content::Gap);
@@ -369,7 +355,6 @@ fn firm_len(columns: &[Column<'_>]) -> usize {
     len
 }
 
-/// Returns whether a column from this index on is a gap.
 fn has_gap_after(columns: &[Column<'_>], index: usize) -> bool {
     let after = columns.get(index..).unwrap_or(&[]);
     after.iter().any(|column| column.content == Content::Gap)
@@ -377,10 +362,6 @@ fn has_gap_after(columns: &[Column<'_>], index: usize) -> bool {
 
 /// Aligns lines, of which `spare` may be left out. Columns of free text at the end, where lines agree
 /// only by chance, belong to the rest.
-///
-/// # Errors
-///
-/// If an allocation fails.
 pub(crate) fn align<'l>(
     alloc: Global,
     rows: Vec<Row<'l>>,

@@ -35,15 +35,14 @@ pub(crate) struct Column<'l> {
     pub are_decimals: bool,
     /// Whether `=` comes after it, so that it is the name of a value.
     pub is_name: bool,
-    /// Whether it may be another one in other lines even if all of these have it: the word after a time, where many logs
-    /// have the name of a host, and a value between separators.
+    /// Whether other lines may have another text here, even if all of these lines have the same: the word after a
+    /// time, where many logs have the name of a host, or a value between separators.
     pub may_change: bool,
 }
 
 /// How many digits an integer has at most, so that it is one of 64 bits.
 const MOST_DIGITS: usize = 18;
 
-/// Returns whether a text has letters, digits and `_` alone, and at least one of them.
 fn is_word(text: &str) -> bool {
     !text.is_empty() && text.chars().all(|c| c.is_alphanumeric() || c == '_')
 }
@@ -55,7 +54,6 @@ fn is_lasting(word: &str) -> bool {
     !inside.chars().any(|c| c.is_ascii_digit() || c == '.')
 }
 
-/// Returns whether a text is an integer that keeps its digits if it is read as a number.
 fn is_integer(text: &str) -> bool {
     let digits = text.strip_prefix('-').unwrap_or(text);
     let has_zeros = digits.len() > 1 && digits.starts_with('0');
@@ -65,7 +63,6 @@ fn is_integer(text: &str) -> bool {
         && digits.chars().all(|c| c.is_ascii_digit())
 }
 
-/// Returns whether a text is a decimal number that keeps its digits before the point.
 fn is_decimal(text: &str) -> bool {
     match text.split_once('.') {
         Some((before, after)) => {
@@ -76,7 +73,6 @@ fn is_decimal(text: &str) -> bool {
 }
 
 impl<'l> Column<'l> {
-    /// Makes a column that no line was added to.
     pub(crate) fn new(content: Content) -> Column<'l> {
         Column {
             content,
@@ -93,8 +89,8 @@ impl<'l> Column<'l> {
         }
     }
 
-    /// Adds the text of a line. If the column is a gap, it may be added token by token, and what is
-    /// known of equal texts is then no longer true.
+    /// Adds the text of a line. The text of a gap may be added token by token. What the column states about equal
+    /// texts isn't true any more then.
     pub(crate) fn add(&mut self, text: &'l str) {
         let first = self.first.unwrap_or(text);
         self.first = Some(first);
@@ -128,20 +124,18 @@ impl<'l> Column<'l> {
         self.content == Content::Token(Kind::Word) && self.literal().is_none()
     }
 
-    /// Joins the column before this one to it, which is a gap.
+    /// Joins the column before this one to this one, which is a gap.
     pub(crate) fn join(&mut self, before: Column<'l>) {
         self.first = before.first;
         self.has_empty = self.has_empty && before.has_empty;
         self.has_blanks = self.has_blanks || before.has_blanks;
     }
 
-    /// Returns whether lines hardly have such a column at this place by chance, so that it tells where
-    /// in the line it is.
+    /// Returns whether lines hardly have such a column at the same position by chance.
     pub(crate) fn is_firm(&self) -> bool {
         matches!(self.content, Content::Token(Kind::Known(_))) || self.literal().is_some()
     }
 
-    /// Returns whether the column has times.
     pub(crate) fn is_time(&self) -> bool {
         match self.content {
             Content::Token(Kind::Known(known)) => known_definition(known).meaning == Meaning::Time,
@@ -165,7 +159,6 @@ impl<'l> Column<'l> {
         matches!(self.content, Content::Token(Kind::Known(_)))
     }
 
-    /// Returns whether the column has blanks in each line.
     pub(crate) fn is_blank(&self) -> bool {
         self.content == Content::Token(Kind::Blank)
     }

@@ -22,12 +22,12 @@ pub(crate) struct Head<'a> {
     left: usize,
 }
 
-/// What is aligned of each line.
+/// The part of each line that is aligned: the part after a definition, or the whole line.
 #[derive(Drop)]
 pub(crate) struct LineView<'a> {
     pub alloc: Global,
     pub frame: Frame<'a>,
-    /// Finds the definition with which the lines begin.
+    /// Finds the definition with which the lines begin. `None` if whole lines are aligned.
     head: Option<Pattern>,
 }
 
@@ -48,8 +48,8 @@ fn tail_in<'l>(matches: MatchesRef<'_>, line: &'l str) -> Option<&'l str> {
     None
 }
 
-/// Returns of each line, or of the first line of each event, what comes after what the pattern of a head finds, or `None` if it
-/// finds nothing, or ends in the middle of a word.
+/// Returns for each line, or for the first line of each event, the part after what the pattern of a head
+/// finds. It is `None` if the pattern finds nothing, or if its match ends in the middle of a word.
 fn tails_after<'l>(
     alloc: Global,
     pattern: &Pattern,
@@ -68,7 +68,7 @@ fn tails_after<'l>(
     Ok(tails)
 }
 
-/// Returns of each line, or of the first line of each event, all of it.
+/// Returns each line, or the first line of each event, as a whole.
 fn whole_lines<'l>(alloc: Global, lines: &[&'l str]) -> Result<Vec<Option<&'l str>>, AllocError> {
     let mut tails = Vec::new(alloc);
     for line in lines {
@@ -113,7 +113,8 @@ impl<'a> LineView<'a> {
         })
     }
 
-    /// Returns of each line what comes after the definition that begins it, or `None` if it doesn't begin with that.
+    /// Returns for each line the part after the definition that begins it, or `None` if the line doesn't
+    /// begin with the definition.
     fn tails<'l>(&self, lines: &[&'l str]) -> Result<Vec<Option<&'l str>>, AllocError> {
         match &self.head {
             Some(pattern) => tails_after(self.alloc, pattern, lines),
@@ -121,7 +122,7 @@ impl<'a> LineView<'a> {
         }
     }
 
-    /// Returns what is aligned of each line: what comes after the definition that begins it, or all of it.
+    /// Returns the part of each line that is aligned.
     pub(crate) fn aligned<'l>(&self, lines: &[&'l str]) -> Result<Vec<&'l str>, AllocError> {
         let mut aligned = Vec::new(self.alloc);
         for (line, tail) in lines.iter().zip(&self.tails(lines)?) {
@@ -142,7 +143,7 @@ impl<'a> LineView<'a> {
     }
 }
 
-/// Returns how many lines have more after a definition, and how many bytes these have there, in all.
+/// Returns how many lines have a part after the definition, and how many bytes these parts have in all.
 fn count_tails(tails: &[Option<&str>]) -> (usize, usize) {
     let (mut count, mut left) = (0usize, 0usize);
     for tail in tails {
@@ -174,12 +175,8 @@ fn head_of<'a>(
     }))
 }
 
-/// Returns the definition with which nine lines of ten begin, and that takes most of them; the first one of these, if there
-/// are several.
-///
-/// # Errors
-///
-/// If an allocation fails.
+/// Returns the definition with which nine lines of ten begin. If several do, it is the one that takes most of
+/// the lines, and among equal ones the first.
 pub(crate) fn longest_head<'a>(
     alloc: Global,
     definitions: Definitions<'_>,

@@ -10,6 +10,8 @@
 //! let advice = advise(alloc, definitions, formats, &lines)?;
 //! // advice.together[0].text is ^%{INT:number:int} user %{WORD:word}$, for 2 lines
 //! ```
+//!
+//! Where a call has no section `# Errors`, its error is a failed allocation.
 #![tactic(auto)]
 
 mod advice;

@@ -12,7 +12,8 @@ use std::collections::BTreeMap;
 /// How many patterns are proposed at most.
 const MOST_PATTERNS: usize = 3;
 
-/// How many lines are aligned at most: the first ones. What comes of them is tried on all lines.
+/// How many lines are aligned at most, the first ones. The patterns that are made from them are tried on
+/// all lines.
 const MOST_ALIGNED: usize = 1000;
 
 /// One line in this many may be left out, because it differs from the others.
@@ -81,7 +82,7 @@ fn best_candidate(
     Ok(best)
 }
 
-/// Cuts what is aligned of lines into tokens.
+/// Cuts the aligned part of each line into tokens.
 fn rows_of<'l>(
     view: &LineView<'_>,
     cutter: &mut Cutter<'_>,
@@ -183,13 +184,12 @@ fn lines_of_one_shape<'l>(
     Ok(chosen)
 }
 
-/// Returns the lines that are aligned.
 pub(crate) fn aligned_of<'s, 'l>(lines: &'s [&'l str]) -> &'s [&'l str] {
     lines.get(..MOST_ALIGNED).unwrap_or(lines)
 }
 
-/// Returns the best candidate for these lines: of all of them, of those that begin alike, or of those
-/// that are of one shape.
+/// Returns the best candidate for all of these lines, for the lines that begin alike, or for the lines of one
+/// shape.
 fn next_candidate(
     definitions: Definitions<'_>,
     view: &LineView<'_>,
@@ -213,7 +213,6 @@ fn next_candidate(
     best_candidate(definitions, view, &template, lines)
 }
 
-/// Appends a proposal that fits some lines to others.
 fn push_fitting(proposals: &mut Vec<Proposal>, proposal: Proposal) -> Result<(), AllocError>
     requires { 0 < proposal.fit.lines }
     ensures len { OnOk result (vec_len proposals.new ≡ vec_len proposals.old + 1) }
@@ -223,12 +222,8 @@ fn push_fitting(proposals: &mut Vec<Proposal>, proposal: Proposal) -> Result<(),
     Ok(proposals.push(proposal)?)
 }
 
-/// Proposes patterns for lines, or for events of several lines, each of which is for those that the ones before it don't
-/// fit. There are three of them at most, and none if the lines have nothing in common.
-///
-/// # Errors
-///
-/// If an allocation fails.
+/// Proposes patterns for lines, or for events of several lines. Each is for those that the patterns before
+/// it don't fit. There are none if the lines have nothing in common.
 pub(crate) fn propose(
     alloc: Global,
     recognizer: &Recognizer<'_>,
@@ -277,13 +272,9 @@ fn propose_in(
     }))
 }
 
-/// Proposes a pattern for lines that begin with one of these definitions and then have more: the definition that takes
-/// most of the lines, and then what they have in common. Returns `None` if nine lines of ten don't begin with one of them.
-/// Both are found in the first lines, and the pattern is tried on all.
-///
-/// # Errors
-///
-/// If an allocation fails.
+/// Proposes a pattern for lines that begin with one of these definitions and continue in one form. It uses
+/// the definition that takes most of the lines. Returns `None` if nine lines of ten don't begin with one of
+/// them. The definition and the form are found in the first lines, and the pattern is tried on all.
 pub(crate) fn propose_after(
     alloc: Global,
     recognizer: &Recognizer<'_>,

@@ -22,14 +22,14 @@ struct Beginning<'l> {
     known: usize,
 }
 
-/// How many lines begin so.
+/// A beginning, and how many lines have it.
 #[derive(Clone, Copy)]
 struct Count<'l> {
     beginning: Beginning<'l>,
     lines: usize,
 }
 
-/// Returns how a line begins that has these tokens, or `None` if it has no time.
+/// Returns the beginning of a line that has these tokens, or `None` if the line has no time.
 fn beginning_of<'l>(line: &'l str, tokens: &[Token<'l>]) -> Option<Beginning<'l>> {
     let mut len = 0usize;
     for token in tokens {
@@ -44,7 +44,8 @@ fn beginning_of<'l>(line: &'l str, tokens: &[Token<'l>]) -> Option<Beginning<'l>
     None
 }
 
-/// Returns whether events may begin so: hardly anything comes before the time, and that has no digits.
+/// Returns whether events may have this beginning: hardly anything comes before the time, and that has no
+/// digits.
 fn may_start(beginning: Beginning<'_>) -> bool {
     beginning.before.len() <= MOST_BEFORE
         && !beginning
@@ -53,7 +54,7 @@ fn may_start(beginning: Beginning<'_>) -> bool {
             .any(|c| c.is_ascii_digit() || c == '%')
 }
 
-/// Counts a line that begins so.
+/// Counts one more line with this beginning.
 fn count_beginning<'l>(
     counts: &mut Vec<Count<'l>>,
     beginning: Beginning<'l>,
@@ -88,7 +89,8 @@ fn commonest<'l>(counts: &[Count<'l>]) -> Option<Count<'l>> {
     best
 }
 
-/// Counts how the lines begin, and those that have no time and don't begin with a digit, as a time in another form does.
+/// Counts the lines with each beginning, and the lines that have no time and don't begin with a digit, as a
+/// time in another form does.
 fn count_beginnings<'l>(
     alloc: Global,
     recognizer: &Recognizer<'_>,
@@ -109,10 +111,6 @@ fn count_beginnings<'l>(
 
 /// Returns a pattern for the first lines of events: a time at their beginning, that other lines don't have. Returns `None` if
 /// almost all lines have it, or if other lines have times, too, or begin with a digit, as a time in another form does.
-///
-/// # Errors
-///
-/// If an allocation fails.
 pub(crate) fn start_of(
     alloc: Global,
     recognizer: &Recognizer<'_>,
@@ -137,10 +135,6 @@ pub(crate) fn start_of(
 }
 
 /// Joins the lines of each event by line feeds. An event begins at each line in which the pattern is found.
-///
-/// # Errors
-///
-/// If an allocation fails.
 pub(crate) fn events_of(
     alloc: Global,
     start: &Pattern,

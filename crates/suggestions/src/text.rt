@@ -35,11 +35,7 @@ pub(crate) struct Frame<'a> {
     pub are_events: bool,
 }
 
-/// Returns the pattern for lines that are wholly what this definition means, or events whose first lines are.
-///
-/// # Errors
-///
-/// If an allocation fails.
+/// Returns the pattern for lines, or for the first lines of events, that this definition matches whole.
 pub(crate) fn whole_pattern(
     alloc: Global,
     name: &str,
@@ -49,7 +45,6 @@ pub(crate) fn whole_pattern(
     format!(in alloc; "^%{{{name}}}{more}$")
 }
 
-/// Returns whether a word can be a key.
 fn is_key(word: &str) -> bool {
     word.len() <= MOST_KEY_CHARS
         && word.starts_with(|c: char| c.is_ascii_alphabetic())
@@ -105,12 +100,11 @@ fn is_process(columns: &[Column<'_>], index: usize) -> bool {
     is_word && is_closed && is_mark(open, '[')
 }
 
-/// Returns whether a column has this mark.
 fn is_mark(column: &Column<'_>, mark: char) -> bool {
     column.content == Content::Token(Kind::Mark(mark))
 }
 
-/// A definition, and its text for a library that hasn't it.
+/// A definition, and its text for a library that doesn't have it.
 #[derive(Clone, Copy)]
 struct Value {
     name: &'static str,
@@ -158,12 +152,12 @@ struct TextWriter<'g> {
     alloc: Global,
     grok: &'g Grok,
     text: String,
-    /// The keys so far, each with the last number of a key that was made of it, or 1.
+    /// The keys so far. Each has the last number that was appended to it for another key, or 1.
     keys: BTreeMap<String, usize>,
 }
 
 impl TextWriter<'_> {
-    /// Returns the first of the keys with a number after this one that no placeholder has yet, and its number.
+    /// Returns the first key, `base` with a number after `last`, that no placeholder has yet, and that number.
     fn numbered_key(&self, base: &str, last: usize) -> Result<(String, usize), AllocError> {
         let mut number = last.saturating_add(1);
         let mut key = format!(in self.alloc; "{base}{number}")?;
@@ -242,7 +236,6 @@ impl TextWriter<'_> {
         self.text.push_str("[%]")
     }
 
-    /// Writes blanks.
     fn push_blanks(&mut self, column: &Column<'_>) -> Result<(), AllocError> {
         let is_one = column.are_same && column.first == Some(" ");
         self.text
@@ -255,7 +248,6 @@ impl TextWriter<'_> {
             })
     }
 
-    /// Writes the column at this index.
     fn push_column(&mut self, columns: &[Column<'_>], index: usize) -> Result<(), AllocError> {
         let Some(column) = columns.get(index) else {
             return Ok(());
@@ -321,7 +313,6 @@ impl TextWriter<'_> {
     }
 }
 
-/// Returns whether a mark comes after the column at this index.
 fn is_before_mark(columns: &[Column<'_>], index: usize) -> bool {
     match columns.get(index.saturating_add(1)) {
         Some(next) => matches!(next.content, Content::Token(Kind::Mark(_))),
@@ -329,11 +320,6 @@ fn is_before_mark(columns: &[Column<'_>], index: usize) -> bool {
     }
 }
 
-/// Returns the pattern of a template.
-///
-/// # Errors
-///
-/// If an allocation fails.
 pub(crate) fn pattern_text(
     alloc: Global,
     grok: &Grok,

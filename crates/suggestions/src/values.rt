@@ -5,7 +5,6 @@ use crate::columns::{Column, Content};
 use log_samples::{Cutter, Kind, first_line, value_at, value_count};
 use std::alloc::{AllocError, Global};
 
-/// Returns the column of the values with this index.
 fn column_of<'l>(
     cutter: &mut Cutter<'_>,
     lines: &[&'l str],
@@ -43,10 +42,6 @@ fn column_of<'l>(
 }
 
 /// Returns the template of lines that are values between separators. Each value is a column, and none of them is literal.
-///
-/// # Errors
-///
-/// If an allocation fails.
 pub(crate) fn template_of_values<'l>(
     alloc: Global,
     cutter: &mut Cutter<'_>,
@@ -71,7 +66,6 @@ pub(crate) fn template_of_values<'l>(
     })
 }
 
-/// Returns the column of a separator.
 fn mark_column<'l>(separator: char) -> Column<'l> {
     let mut column = Column::new(Content::Token(Kind::Mark(separator)));
     for (mark, text) in [('\t', "\t"), (',', ","), (';', ";"), ('|', "|")] {

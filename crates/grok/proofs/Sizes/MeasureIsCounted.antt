@@ -1,5 +1,5 @@
--- When measuring stops, it has counted at most the pieces and ends that the pattern reaches, and exactly these if
--- there is no structural fault, and it knows whether a reached alias ends in a number in brackets.
+-- When measuring stops, it has counted at most the pieces and ends that the pattern reaches, at least the pieces of the pattern
+-- itself up to the first fault, and exactly those that it reaches if there is no structural fault, and it knows whether a reached alias ends in a number in brackets.
 use Rattle.std.proofs.Common.{◌≡◌, ℕ, ◌≤◌, Bool, false, List, [], length, Result, None, Bor, refl, ◌∙◌, ap, arith}
 use Rattle.std.specs.Ordering.{nat_cmp}
 use Rattle.std.specs.Cmp.Lexicographic.{slice_cmp}
@@ -15,11 +15,12 @@ use Rattle.grok.specs.Maps.{Texts}
 use Rattle.grok.specs.Tree.{Item, items_of, Event, deepest, tree, first_structural, reached}
 use Rattle.grok.specs.Keys.{has_numbered_alias}
 use Rattle.grok.specs.steps.MeasuredOnce.{Reading, items_within, nothing_measured, measure_within}
-use Rattle.grok.specs.Measured.{reached_pieces, reached_texts, saturated}
+use Rattle.grok.specs.Measured.{reached_pieces, reached_texts, pieces_to_fault, saturated}
 use Rattle.grok.specs.steps.MeasureCache.{progress_view, ShowsState, AnswersReading}
 use Rattle.grok.proofs.Sizes.ItemsAreSound.{length-items_of, sound_texts}
 use Rattle.grok.proofs.Texts.EntriesAreTable.{table_of}
 use Rattle.grok.proofs.Sizes.ReadIsReached.{ReadsTree, reads_tree, table_weight}
+use Rattle.grok.proofs.Sizes.PiecesToFault.{reads_to_fault}
 
 pub shows_nothing : (by_name : BTreeMap (Bor (List ℕ)) Progress) → by_name.entries ≡ []
     → ShowsState (record { by_name = by_name; looks = record { pieces = 0; ends = 0 }; has_numbered = false }) nothing_measured
@@ -57,6 +58,9 @@ module _ (texts : Texts) (alias_only : Bool) (pattern : List ℕ) where
 
     pub ends_most : cache.looks.ends ≤ saturated (reached_texts texts pattern)
     ends_most = omega (arith, given.leaves.ends, theorem.ends)
+
+    pub pieces_least : saturated (pieces_to_fault texts pattern) ≤ cache.looks.pieces
+    pieces_least = omega (arith, given.leaves.pieces, reads_to_fault alias_only resolve (finite.get texts) (sound_texts (finite.get texts)) deepest pattern)
 
     pub pieces_all : first_structural whole ≡ None → cache.looks.pieces ≡ saturated (reached_pieces texts pattern)
     pieces_all clean = given.leaves.pieces ∙ ap saturated (theorem.looks_exact clean ∙ weight_same)

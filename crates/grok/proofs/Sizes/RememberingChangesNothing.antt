@@ -41,7 +41,7 @@ module _ (alias_only : Bool) (resolve : List ℕ → List Item) (definitions : D
   IsHonest st = (name : List ℕ) (progress : Progress Size) (text : List ℕ) → st.by_name name ≡ Some progress → definitions name ≡ Some text → (progress ≡ InProgress) ⊎ HoldsOfText alias_only resolve progress text
 
   -- if what is read here is nested too deeply, then so is each definition that is in progress around it
-  abbrev OpenLead : State → (ℕ → Result Size Fault) → Type 0
+  abbrev pub OpenLead : State → (ℕ → Result Size Fault) → Type 0
   OpenLead st here = (name text : List ℕ) → st.by_name name ≡ Some InProgress → definitions name ≡ Some text
       → (down : ℕ) × ((levels : ℕ) → here levels ≡ Err TooDeep → of_text alias_only resolve text (levels + suc down) ≡ Err TooDeep)
 
@@ -53,7 +53,7 @@ module _ (alias_only : Bool) (resolve : List ℕ → List Item) (definitions : D
     pub opens : (name : List ℕ) → answer.1.by_name name ≡ Some InProgress → st.by_name name ≡ Some InProgress
 
   -- the same for a part of what is read, if the whole is nested too deeply whenever the part is
-  lead_through : (st : State) (outer inner : ℕ → Result Size Fault) → ((levels : ℕ) → inner levels ≡ Err TooDeep → outer levels ≡ Err TooDeep) → OpenLead st outer → OpenLead st inner
+  pub lead_through : (st : State) (outer inner : ℕ → Result Size Fault) → ((levels : ℕ) → inner levels ≡ Err TooDeep → outer levels ≡ Err TooDeep) → OpenLead st outer → OpenLead st inner
   lead_through st outer inner h lead name text cache stored = let (down, far) = lead name text cache stored in (down, λ levels deep. far levels (h levels deep))
 
   -- a name's definition is entered
@@ -104,16 +104,16 @@ module _ (alias_only : Bool) (resolve : List ℕ → List Item) (definitions : D
 
   -- THE STEPS. Before each, what is remembered is right, and the definitions in progress are those around what
   -- is read.
-  abbrev RightItem : ℕ → Item → State → Reading → Type 0
+  abbrev pub RightItem : ℕ → Item → State → Reading → Type 0
   RightItem levels item st answer = (items : List Item) → IsHonest st → OpenLead st (of_items alias_only resolve (item ∷ items)) → Outcome levels st answer (of_item alias_only resolve item) (high answer.0 answer.1.reach)
 
-  abbrev RightItems : ℕ → List Item → State → Reading → Type 0
+  abbrev pub RightItems : ℕ → List Item → State → Reading → Type 0
   RightItems levels items st answer = IsHonest st → OpenLead st (of_items alias_only resolve items) → Outcome levels st answer (of_items alias_only resolve items) (high answer.0 answer.1.reach)
 
-  abbrev RightText : ℕ → Label → List ℕ → State → Reading → Type 0
+  abbrev pub RightText : ℕ → Label → List ℕ → State → Reading → Type 0
   RightText levels label text st answer = IsHonest st → OpenLead st (of_text alias_only resolve text) → Outcome levels st answer (of_text alias_only resolve text) (suc (high answer.0 answer.1.reach))
 
-  right : InductionSteps alias_only resolve definitions RightItem RightItems RightText
+  pub right : InductionSteps alias_only resolve definitions RightItem RightItems RightText
   right = record {
     text = λ levels text st items honest lead. record { same = refl; settles = λ real. settles_always (of_item alias_only resolve (TextItem text)) (Ok (size_of_bytes text)) (λ n. refl); honest = honest; opens = λ name cache. cache };
     fault = λ levels fault st items honest lead. record { same = refl; settles = λ real. settles_always (of_item alias_only resolve (FaultItem fault)) (Err fault) (λ n. refl); honest = honest; opens = λ name cache. cache };

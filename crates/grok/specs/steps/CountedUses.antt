@@ -22,8 +22,8 @@ no_uses = record { times = 0; least = None }
 abbrev pub HasNoNumber : List ℕ → List (List ℕ) → Type 0
 HasNoNumber base keys = (count : ℕ) → uses_in keys (numbered base (suc count)) ≡ 0
 
--- `least` is the least number n from 1 up for which one of these base keys is `base[n]`, or the greatest `usize` if that is
--- less. So `base` may be used `least` times without a clash.
+-- `least` is the least number n from 1 up for which one of these base keys is `base[n]`, but at most the greatest `usize`.
+-- So `base` may be used `least` times without a clash.
 pub record IsLeastNumber (base : List ℕ) (keys : List (List ℕ)) (least : ℕ) : Type 0 where
   pub some : HasNoNumber base keys → ⊥
   pub fits : least < 2 ^ 64
@@ -33,8 +33,8 @@ pub record IsLeastNumber (base : List ℕ) (keys : List (List ℕ)) (least : ℕ
 abbrev pub HasLeast : List ℕ → List (List ℕ) → Option ℕ → Type 0
 HasLeast base keys least = MatchOption least (HasNoNumber base keys) (λ number. IsLeastNumber base keys number)
 
--- `uses` counts these base keys: how many of them are `base`, or the greatest `u128` if that is less, and the least
--- number n for which one of them is `base[n]`
+-- `uses` counts these base keys: how many of them are `base`, but at most the greatest `u128`, and the least number n for
+-- which one of them is `base[n]`
 pub record AreUsesOf (base : List ℕ) (keys : List (List ℕ)) (uses : Uses) : Type 0 where
   pub times : uses.times ≡ min (uses_in keys base) (2 ^ 128 - 1)
   pub least : HasLeast base keys uses.least
@@ -45,8 +45,8 @@ lesser None other = other
 lesser (Some number) None = Some number
 lesser (Some number) (Some other) = Some (min number other)
 
--- A base key that is used so often gets no key that is used. It isn't known whether one that is used more often does, if
--- `least` is the greatest `usize`.
+-- If a base key is used `times` times, none of the keys that it gets is a base key that is used. If `least` is the greatest
+-- `usize`, it isn't known whether that is also true of a base key that is used more often.
 abbrev pub IsFreeAt : ℕ → Option ℕ → Type 0
 IsFreeAt times least = MatchOption least (Unit {0}) (λ number. times ≤ number)
 

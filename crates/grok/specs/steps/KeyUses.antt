@@ -8,6 +8,6 @@ use Rattle.grok.specs.Keys.{numbered}
 abbrev pub MayBeUsed : (List ℕ → ℕ) → List ℕ → ℕ → Type 0
 MayBeUsed uses key times = (count : ℕ) → 0 < uses (numbered key (suc count)) → times ≤ suc count
 
--- each base key may be used as often as it is used, so no two keys clash
+-- no base key is used more often than it may be used, so no two keys clash
 abbrev pub IsFree : (List ℕ → ℕ) → Type 0
 IsFree uses = (key : List ℕ) → MayBeUsed uses key (uses key)

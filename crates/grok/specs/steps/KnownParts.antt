@@ -72,7 +72,7 @@ abbrev pub with_item : Bool → List Item → Item → List Item
 with_item true items item = items ++ item ∷ []
 with_item false items item = items
 
--- what `known` says of these items is so
+-- what `known` states about these items is true
 pub record IsKnownOf (settings : Settings) (done : List (List (List ℕ))) (items : List Item) (known : KnownItems) : Type 0 where
   pub below : AreBelow (length done) known.rows.items
   pub are_known : AreKnownItems settings items known.height (flat done known.rows.items)

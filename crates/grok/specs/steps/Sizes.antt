@@ -37,7 +37,7 @@ in_brackets capturing inner = record {
   height = suc inner.height;
 }
 
--- the same, where the definition may have a fault
+-- the size of a placeholder, given the size of its definition, or the fault if the definition has one
 abbrev pub sum_in_brackets : Bool → Result Size Fault → Result Size Fault
 sum_in_brackets capturing (Err fault) = Err fault
 sum_in_brackets capturing (Ok inner) = Ok (in_brackets capturing inner)
@@ -46,7 +46,7 @@ sum_in_brackets capturing (Ok inner) = Ok (in_brackets capturing inner)
 abbrev pub bracketed : Bool → Label → Size → Size
 bracketed alias_only label = in_brackets (is_capturing alias_only label)
 
--- the same, where the definition may have a fault
+-- the size of the placeholder with this label, given the size of its definition, or the fault if the definition has one
 abbrev pub wrapped : Bool → Label → Result Size Fault → Result Size Fault
 wrapped alias_only label = sum_in_brackets (is_capturing alias_only label)
 

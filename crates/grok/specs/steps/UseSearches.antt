@@ -29,8 +29,8 @@ IsSoughtUse start es (Open label meaning) = (is_capturing start.settings.with_al
 IsSoughtUse start es Close = ⊥
 IsSoughtUse start es (FaultEvent fault) = ⊥
 
--- A capturing placeholder of the pattern with this base key, before which the key is used this often, stands at this
--- location.
+-- At this location is a capturing placeholder of the pattern that has this base key. Before it, capturing placeholders use
+-- the base key `number` times.
 pub record IsUseAt (stored : Definitions) (alias_only : Bool) (pattern base : List ℕ) (number : ℕ) (location : Location) : Type 0 where
   pub label : Label
   pub meaning : Meaning
@@ -41,8 +41,8 @@ pub record IsUseAt (stored : Definitions) (alias_only : Bool) (pattern base : Li
   pub asks : base_key label ≡ base
   pub often : how_often (capturing alias_only before) base ≡ number
 
--- What the search of a pattern for a use of a base key returns: where the placeholder with that use is, or `None` if the
--- key isn't used so often.
+-- What the search of a pattern for use `number` of a base key, counted from 0, returns: where the placeholder with that use
+-- is, or `None` if the base key isn't used that often.
 abbrev pub FindsUse : Definitions → Bool → List ℕ → List ℕ → ℕ → Option Location → Type 0
 FindsUse stored alias_only pattern base number found = MatchOption found
     (how_often (capturing alias_only (tree stored pattern)) base ≤ number) (IsUseAt stored alias_only pattern base number)

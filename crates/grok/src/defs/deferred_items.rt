@@ -10,7 +10,6 @@ use std::mem;
 /// The remaining items of a text. The next one may be known before the text is read.
 #[derive(Drop)]
 pub(crate) struct DeferredItems<'a> {
-    /// The next item, if it is known.
     known: Option<Item<'a>>,
     /// How many items of the text are skipped once it is read: those that came before, and the known
     /// one.
@@ -18,7 +17,6 @@ pub(crate) struct DeferredItems<'a> {
     text: Items<'a>,
 }
 
-// Contracts see the remaining items.
 impl<'a> Model for DeferredItems<'a> {
     ghost use Rattle.std.specs.Prelude.{List, drop};
     ghost use Rattle.grok.specs.Tree.{Item};
@@ -30,7 +28,6 @@ impl<'a> Model for DeferredItems<'a> {
 }
 
 impl<'a> DeferredItems<'a> {
-    /// Returns all items of `text`.
     pub fn of_items(text: Items<'a>) -> DeferredItems<'a>
         ensures { result ≡ text.entry }
     {
@@ -41,7 +38,6 @@ impl<'a> DeferredItems<'a> {
         }
     }
 
-    /// Returns the item `known`, and then the items of `text` after its first `skipped` ones.
     pub fn known_first(known: Item<'a>, skipped: usize, text: Items<'a>) -> DeferredItems<'a>
         ensures { result ≡ item_view known.entry ∷ drop skipped text.entry }
     {
@@ -52,11 +48,6 @@ impl<'a> DeferredItems<'a> {
         }
     }
 
-    /// Returns the next item, if there is one.
-    ///
-    /// # Errors
-    ///
-    /// As for [`Items::next`].
     pub fn next(&mut self) -> Result<Option<Item<'a>>, AllocError>
         ensures { IfOk result
             (λ found. MatchOption found ((self.old ≡ []) × (self.new ≡ []))

@@ -7,14 +7,13 @@ use std::alloc::{AllocError, Global};
 use std::fmt;
 use std::marker::Model;
 
-/// A text that was split into its pieces. They are kept as byte ranges of it.
+/// A text with its pieces, which are kept as byte ranges of it, so that it is split only once.
 #[derive(Drop)]
 pub(crate) struct Definition {
     text: String,
     spans: Vec<Span>,
 }
 
-// Contracts see the text.
 impl Model for Definition {
     ghost use Rattle.std.specs.Prelude.{List, ℕ};
     ghost use Rattle.std.specs.String.{string_bytes};
@@ -28,7 +27,6 @@ impl Model for Definition {
 }
 
 impl Definition {
-    /// Splits the text, and keeps it with its pieces.
     pub fn new(alloc: Global, text: &str) -> Result<Definition, AllocError>
         ensures { IfOk result (λ definition. definition ≡ text.now) }
     {
@@ -38,14 +36,12 @@ impl Definition {
         })
     }
 
-    /// Returns the text.
     pub fn text(&self) -> &str
         ensures { result.now ≡ self.now }
     {
         self.text.as_str()
     }
 
-    /// Returns the pieces of the text, as ranges of it.
     pub fn spans(&self) -> &[Span]
         ensures { AreSpansOf self.now result.now }
     {

@@ -29,8 +29,6 @@ pub(crate) struct Label<'a> {
 }
 
 impl Label<'_> {
-    /// Returns whether the placeholder captures. In alias-only mode it captures only if it has an
-    /// alias.
     pub fn is_capturing(self, with_alias_only: bool) -> bool
         ensures { result ≡ is_capturing with_alias_only (label_view self.entry) }
     {
@@ -48,7 +46,6 @@ pub(crate) enum Meaning<'a> {
 }
 
 impl<'a> Meaning<'a> {
-    /// Returns the text of the definition.
     pub fn text(self) -> &'a str
         ensures { result.now ≡ meaning_text (meaning_view self.entry) }
     {
@@ -75,7 +72,6 @@ pub(crate) struct Items<'a> {
     written: BTreeMap<&'a str, &'a str>,
 }
 
-// Contracts see the remaining items.
 impl<'a> Model for Items<'a> {
     ghost use Rattle.std.specs.Prelude.{List};
     ghost use Rattle.std.specs.FinMap as finite;
@@ -87,9 +83,6 @@ impl<'a> Model for Items<'a> {
     ghost view = { λ s. items_after (finite.get s.grok.now) (written_in s.written) s.source };
 }
 
-/// Returns the item of a placeholder. It stands for `written`, the inline definition of its name,
-/// if there is one, and otherwise for the stored definition of its name. If there is neither, the
-/// item is a fault.
 fn open_label<'a>(grok: &'a Grok, label: Label<'a>, written: Option<&'a str>) -> Item<'a>
     ensures { item_view result ≡ resolved (label_view label.entry)
         (option_map (λ (t : Bor (List ℕ)). t.now) written.entry)
@@ -104,7 +97,6 @@ fn open_label<'a>(grok: &'a Grok, label: Label<'a>, written: Option<&'a str>) ->
     }
 }
 
-/// Stores `definition` in `written` as the inline definition of `name`, unless it is empty.
 fn write_definition<'a>(
     written: &mut BTreeMap<&'a str, &'a str>,
     name: &'a str,
@@ -120,8 +112,8 @@ fn write_definition<'a>(
     Ok(())
 }
 
-/// Returns the item of a piece. `written` has the inline definitions of the pieces before it, and
-/// that of the piece is stored there too.
+/// `written` has the inline definitions of the pieces before this one. If this piece has one, it is
+/// stored there too.
 pub(super) fn item_of<'a>(
     grok: &'a Grok,
     written: &mut BTreeMap<&'a str, &'a str>,
@@ -163,25 +155,18 @@ impl<'a> Items<'a> {
         }
     }
 
-    /// Returns the items of a text, which is split as they are taken.
     pub fn of_text(alloc: Global, grok: &'a Grok, text: &'a str) -> Items<'a>
         ensures { result ≡ items_of (finite.get grok.now) text.now }
     {
         Items::new(alloc, grok, pieces_of(text))
     }
 
-    /// Returns the items of a stored definition, which was split before.
     pub fn of_stored(alloc: Global, grok: &'a Grok, stored: &'a Definition) -> Items<'a>
         ensures { result ≡ items_of (finite.get grok.now) stored.now }
     {
         Items::new(alloc, grok, pieces_kept(stored))
     }
 
-    /// Skips `count` items, or all if there are fewer.
-    ///
-    /// # Errors
-    ///
-    /// As for [`Items::next`].
     pub fn pass_over(&mut self, count: usize) -> Result<(), AllocError>
         ensures { OnOk result (self.new ≡ drop count self.old) }
     {
@@ -191,11 +176,6 @@ impl<'a> Items<'a> {
         Ok(())
     }
 
-    /// Returns the next item, if there is one.
-    ///
-    /// # Errors
-    ///
-    /// If an allocation for an inline definition fails.
     pub fn next(&mut self) -> Result<Option<Item<'a>>, AllocError>
         ensures { IfOk result
             (λ found. MatchOption found ((self.old ≡ []) × (self.new ≡ []))
@@ -211,10 +191,6 @@ impl<'a> Items<'a> {
 impl Grok {
     /// Returns what the placeholders of a text stand for: the name of each and its definition, in
     /// reading order. Placeholders without a definition are left out.
-    ///
-    /// # Errors
-    ///
-    /// If an allocation fails.
     pub fn definitions_of<'a>(
         &'a self,
         text: &'a str,

@@ -14,7 +14,6 @@ pub struct Names<'a> {
     pub(crate) keys: Keys<'a, String, Definition>,
 }
 
-// Contracts see the remaining names.
 impl<'a> Model for Names<'a> {
     ghost use Rattle.std.specs.Prelude.{ℕ, List, map, string_bytes};
 

@@ -21,7 +21,6 @@ pub(crate) struct Pieces<'a> {
     source: Source<'a>,
 }
 
-// Contracts see the remaining pieces.
 impl<'a> Model for Pieces<'a> {
     ghost use Rattle.std.specs.Prelude.{List};
     ghost use Rattle.grok_parser.specs.Pieces.{Piece};
@@ -35,7 +34,6 @@ impl<'a> Model for Pieces<'a> {
     ghost invariant = { λ p. IsSource p.source };
 }
 
-/// Returns the pieces of a text, which is split as they are taken.
 pub(crate) fn pieces_of<'a>(text: &'a str) -> Pieces<'a>
     ensures { result ≡ pieces text.now }
 {
@@ -44,7 +42,6 @@ pub(crate) fn pieces_of<'a>(text: &'a str) -> Pieces<'a>
     }
 }
 
-/// Returns the pieces of a text that was split before.
 pub(crate) fn pieces_kept<'a>(stored: &'a Definition) -> Pieces<'a>
     ensures { result ≡ pieces stored.now }
 {

@@ -36,8 +36,6 @@ pub(crate) struct PlacedItems<'a> {
     begin: usize,
 }
 
-/// Returns the byte position where a piece of a text ends. A malformed piece takes the rest of the
-/// text.
 fn end_of(piece: &GrokComponent<'_>, text: &str) -> usize
     ensures { result ≡ end_of text.now (piece_view piece.now) }
 {
@@ -49,7 +47,6 @@ fn end_of(piece: &GrokComponent<'_>, text: &str) -> usize
 }
 
 impl<'a> PlacedItems<'a> {
-    /// Returns the items of a text, which is split as they are taken.
     pub fn of_text(grok: &'a Grok, text: &'a str) -> PlacedItems<'a>
         ensures read { HasRead (finite.get grok.now) [] result }
         ensures text { result.text ≡ text.entry }
@@ -64,7 +61,6 @@ impl<'a> PlacedItems<'a> {
         }
     }
 
-    /// Returns the items of a stored definition, which was split before.
     pub fn of_stored(grok: &'a Grok, stored: &'a Definition) -> PlacedItems<'a>
         ensures read { HasRead (finite.get grok.now) [] result }
         ensures text { result.text.now ≡ stored.now }
@@ -79,8 +75,6 @@ impl<'a> PlacedItems<'a> {
         }
     }
 
-    /// Goes on with the items of what a placeholder stands for. Returns the items that remain of the
-    /// text around it.
     pub fn enter(&mut self, grok: &'a Grok, meaning: Meaning<'a>) -> PlacedItems<'a>
         ensures around { result ≡ self.old }
         ensures read { HasRead (finite.get grok.now) [] self.new }
@@ -94,11 +88,6 @@ impl<'a> PlacedItems<'a> {
         mem::replace(self, inner)
     }
 
-    /// Returns the next item, if there is one.
-    ///
-    /// # Errors
-    ///
-    /// If an allocation for an inline definition fails.
     pub fn next(&mut self) -> Result<Option<PlacedItem<'a>>, AllocError>
         ensures left { IfOk result (λ found. MatchOption found (left_in self.old ≡ [])
             (λ placed. left_in self.old ≡ item_view placed.item ∷ left_in self.new)) }

@@ -47,14 +47,14 @@ impl BuildFromText for Regex {
 
 /// The engine over the crate `regex`, with its defaults: no flag and no limit is set.
 pub struct RegexEngine {
-    /// In a box, since a `Regex` takes over 4 kB wherever it is moved.
+    /// In a box, since a `Regex` takes over 4 kB, which would be copied at each move.
     pub(crate) regex: Box<Regex>,
     search: SharedSearch,
     ghost by_default: { ∥ IsReadByDefault (box_value regex) ∥₁ },
     ghost within_limit: { IsWithinLimit (box_value regex) },
 }
 
-// Not derived: the proof of a crate that drops a pattern then has one call here, and not the drop of
+// Not derived. So in the proof of a crate that drops a pattern, the drop is one call, and not the drop of
 // each automaton.
 impl Drop for RegexEngine {
     fn drop(self) {
@@ -131,8 +131,6 @@ impl Engine for RegexEngine {
     }
 }
 
-/// Searches one line with a new matcher. Writes the text of each group of the first match to
-/// `texts`, and returns whether there is one.
 #[cold]
 #[inline(never)]
 fn write_captures_uncached<'t>(
@@ -154,7 +152,6 @@ fn write_captures_uncached<'t>(
     }
 }
 
-/// Returns the text of each group in a new list, from group 0 on.
 fn group_texts<'t>(
     alloc: Global,
     found: &Captures<'_, 't>,
@@ -173,7 +170,6 @@ fn group_texts<'t>(
     Ok(captures)
 }
 
-/// Returns the text of one group, or `None` if it took no part in the match.
 fn group_text<'t>(found: &Captures<'_, 't>, number: usize) -> Option<&'t str>
     ensures text { option_map text_of result ≡ text_at (captures_haystack found.now)
         (captures_span found.now) number }
@@ -183,8 +179,6 @@ fn group_text<'t>(found: &Captures<'_, 't>, number: usize) -> Option<&'t str>
     Some(group.as_str())
 }
 
-/// Writes the byte range of each group into the list, from group 0 on. The old contents are
-/// dropped.
 pub(crate) fn write_locations(
     locations: &mut Vec<Option<(usize, usize)>>,
     found: &Captures<'_, '_>,
@@ -203,7 +197,6 @@ pub(crate) fn write_locations(
     Ok(())
 }
 
-/// Returns the byte range of one group, or `None` if it took no part in the match.
 fn group_location(found: &Captures<'_, '_>, number: usize) -> Option<(usize, usize)>
     ensures span { result ≡ captures_span found.now number }
     ensures inside { ForSome result (IsLocationIn (captures_haystack found.now)) }

@@ -33,10 +33,6 @@ pub enum Error {
 
 impl Error {
     /// Returns an equal error.
-    ///
-    /// # Errors
-    ///
-    /// If the allocation for the copy of its text fails.
     pub fn clone(&self) -> Result<Error, AllocError>
         ensures { IfOk result (λ copy. error_value copy ≡ error_value self.now) }
     {
@@ -63,7 +59,7 @@ impl fmt::Display for Error {
 
     fn fmt<W: fmt::Write>(&self, f: &mut fmt::Formatter<W>) -> fmt::Result {
         match self {
-            // The crate's words: the 1,024th level is the one that is refused.
+            // These are the words of the original crate. The 1,024th level is the one that is refused.
             Error::RecursionTooDeep => {
                 write!(f, "Recursion while compiling reached the limit of 1024")
             }
@@ -108,7 +104,6 @@ impl<T: Drop> From<AllocFailed<T>> for Error {
     }
 }
 
-/// Returns the text that Debug writes for a fault.
 fn words_of(alloc: Global, fault: &GrokPatternError) -> Result<String, AllocError>
     ensures { IfOk result (λ words. IsFaultText fault.now (string_bytes words)) }
 {
@@ -122,10 +117,6 @@ fn words_of(alloc: Global, fault: &GrokPatternError) -> Result<String, AllocErro
 
 impl Fault<'_> {
     /// Returns the error that compiling a pattern with this fault returns.
-    ///
-    /// # Errors
-    ///
-    /// If the allocation for the text of that error fails.
     pub fn to_error(&self, alloc: Global) -> Result<Error, AllocError>
         ensures { IfOk result (λ error. IsFaultError (fault_view self.now) (error_value error)) }
     {
@@ -137,14 +128,12 @@ impl Fault<'_> {
     }
 }
 
-/// Returns the error that compiling returns if two placeholders would get this key.
 pub(crate) fn clash_error(alloc: Global, key: &str) -> Result<Error, AllocError>
     ensures { IfOk result (λ error. IsErrorOf (Clash key.now) (error_value error)) }
 {
     Ok(Error::GenericCompilationFailure(format!(in alloc; "Alias {key} already exists")?))
 }
 
-/// Returns the error for a text that the engine refused.
 pub(crate) fn refused(alloc: Global, text: &str) -> Result<Error, AllocError>
     ensures { IfOk result (λ error. error_value error
         ≡ error_of_refusal Refusal.Refused text.now) }
@@ -153,7 +142,6 @@ pub(crate) fn refused(alloc: Global, text: &str) -> Result<Error, AllocError>
 }
 
 impl Refusal {
-    /// Returns the error that compiling returns if the engine refuses `text` for this reason.
     pub(crate) fn to_error(self, alloc: Global, text: &str) -> Result<Error, AllocError>
         ensures { IfOk result (λ error. error_value error ≡ error_of_refusal self text.now) }
     {

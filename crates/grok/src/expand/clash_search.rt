@@ -48,16 +48,12 @@ fn pass(rows: &[Row<'_>], counts: &[Uses], base: &str, so_far: &mut Uses) -> Opt
     None
 }
 
-/// Cuts `top` before the placeholder with which `base` is used too often. Returns `None` and changes
-/// nothing if there is none. The rows before the cut name parts for the definitions that come wholly
-/// before that placeholder. Of those that it stands in, they are the rows before it.
+/// Cuts `top` before the placeholder with which `base` is used too often, if there is one. After that
+/// `top` has the parts of the definitions that end before this placeholder, and of the definitions
+/// around it only the rows before it.
 ///
 /// If the number of the clash is `usize::MAX`, it isn't known whether there is one: the number may be
-/// greater, and `base` is used 2^64 times or more.
-///
-/// # Errors
-///
-/// If an allocation fails.
+/// greater, and `base` may be used 2^64 times or more.
 fn cut<'a>(
     alloc: Global,
     parts: &[Vec<Row<'a>>],
@@ -102,11 +98,6 @@ fn cut<'a>(
     }
 }
 
-/// Adds `x` to `bases` if the row uses the base key `x[n]`, with a number n from 1 up.
-///
-/// # Errors
-///
-/// If an allocation fails.
 fn add_base<'a>(bases: &mut BTreeMap<&'a str, ()>, row: Row<'a>) -> Result<(), AllocError>
     ensures kept { OnOk result ((base : List ℕ) → has_base bases.old base ≡ true → has_base bases.new base ≡ true) }
     ensures added { OnOk result (HasBasesOf (flat [] (row.entry ∷ [])) bases.new) }
@@ -123,11 +114,6 @@ fn add_base<'a>(bases: &mut BTreeMap<&'a str, ()>, row: Row<'a>) -> Result<(), A
     }
 }
 
-/// Adds `x` to `bases` for each base key `x[n]` in the rows, with a number n from 1 up.
-///
-/// # Errors
-///
-/// If an allocation fails.
 fn add_bases<'a>(bases: &mut BTreeMap<&'a str, ()>, rows: &[Row<'a>]) -> Result<(), AllocError>
     ensures kept { OnOk result ((base : List ℕ) → has_base bases.old base ≡ true → has_base bases.new base ≡ true) }
     ensures added { OnOk result (HasBasesOf (flat [] rows.now) bases.new) }
@@ -138,11 +124,6 @@ fn add_bases<'a>(bases: &mut BTreeMap<&'a str, ()>, rows: &[Row<'a>]) -> Result<
     Ok(())
 }
 
-/// Returns `x` for each base key `x[n]` in the rows, with a number n from 1 up.
-///
-/// # Errors
-///
-/// If an allocation fails.
 fn bases_of<'a>(
     alloc: Global,
     parts: &[Vec<Row<'a>>],
@@ -160,13 +141,10 @@ fn bases_of<'a>(
     Ok(bases)
 }
 
-/// Returns the first clash of the placeholders that use the base keys of `top`, if there is one. It
-/// cuts `top` before the later one of its two placeholders.
+/// Cuts `top` before the later placeholder of the first clash.
 ///
-/// # Errors
-///
-/// If an allocation fails. The same error comes if a base key `x` is used 2^64 times or more and the
-/// least number n of an alias `x[n]` is `usize::MAX` or more: then it isn't known whether they clash.
+/// Fails as well if a base key `x` is used 2^64 times or more and the least number n of an alias `x[n]`
+/// is `usize::MAX` or more, since then it isn't known whether they clash.
 pub(crate) fn find_clash<'a>(
     alloc: Global,
     parts: &[Vec<Row<'a>>],

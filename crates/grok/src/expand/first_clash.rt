@@ -12,13 +12,6 @@ use crate::expand::read_rows::read_rows;
 use crate::settings::Settings;
 use std::alloc::AllocError;
 
-/// Returns the clash that is the first fault of a pattern in reading order. Returns `None` if the
-/// first fault is a structural one, or if there is none.
-///
-/// # Errors
-///
-/// If an allocation fails, or if before a fault a base key `x` is used 2^64 times or more and the least
-/// number `n` of an alias `x[n]` is `usize::MAX` or more.
 pub(crate) fn find_first_clash<'a>(
     settings: Settings<'a>,
     parts: &KnownParts<'a>,

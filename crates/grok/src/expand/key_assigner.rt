@@ -26,18 +26,12 @@ pub(crate) struct KeyAssigner {
     pub extracts: BTreeMap<String, String>,
 }
 
-/// Returns how often the base key was used.
 fn uses_of(uses: &BTreeMap<String, usize>, base: &str) -> usize
     ensures { result ≡ unwrap_or (get_by_text uses.now base.now) 0 }
 {
     uses.get(base).copied().unwrap_or(0)
 }
 
-/// Counts one more use of a base key, which was used `count` times before.
-///
-/// # Errors
-///
-/// If an allocation fails.
 fn count_once_more(
     alloc: Global,
     uses: &mut BTreeMap<String, usize>,
@@ -54,7 +48,6 @@ fn count_once_more(
     Ok(())
 }
 
-/// Stores `extract` as the extract of `key`, unless it is empty.
 fn keep_extract(
     alloc: Global,
     extracts: &mut BTreeMap<String, String>,
@@ -76,7 +69,6 @@ fn keep_extract(
 }
 
 impl KeyAssigner {
-    /// Makes an assigner that has assigned no key yet.
     pub fn new(alloc: Global) -> KeyAssigner
         ensures { HasAssigned result [] }
     {
@@ -88,12 +80,6 @@ impl KeyAssigner {
         }
     }
 
-    /// Assigns a capturing placeholder its key, and keeps its extract. The caller knows that no
-    /// earlier placeholder has the key.
-    ///
-    /// # Errors
-    ///
-    /// If an allocation fails.
     pub fn assign(&mut self, label: Label<'_>) -> Result<(), AllocError>
         requires { CanAssign self.old }
         ensures { OnOk result ((before : List tree.Label) → HasAssigned self.old before →

@@ -30,7 +30,6 @@ struct KnownItems<'a> {
 /// fault.
 #[derive(Drop)]
 struct ReadText<'a> {
-    /// The keys and the height of these items.
     known: KnownItems<'a>,
     /// The item at which reading stopped, or `None` if all items are known.
     stop: Option<Item<'a>>,
@@ -61,7 +60,6 @@ pub(crate) struct KnownParts<'a> {
     by_name: BTreeMap<&'a str, KnownPart<'a>>,
 }
 
-/// Adds the base key of the placeholder with this label to `rows`, if the placeholder captures.
 pub(crate) fn push_use<'a>(
     settings: Settings<'a>,
     rows: &mut Vec<Row<'a>>,
@@ -77,7 +75,6 @@ pub(crate) fn push_use<'a>(
 }
 
 impl<'a> KnownItems<'a> {
-    /// Returns no keys and the height 0, those of no items.
     fn new(alloc: Global) -> KnownItems<'a>
         ensures rows { result.rows.items ≡ [] }
         ensures height { result.height ≡ 0 }
@@ -88,8 +85,6 @@ impl<'a> KnownItems<'a> {
         }
     }
 
-    /// Adds the placeholder with this label, but not yet the placeholders in its definition. That
-    /// definition has no structural fault if more than `height` levels are left.
     fn add_open(
         &mut self,
         settings: Settings<'a>,
@@ -108,7 +103,6 @@ impl<'a> KnownItems<'a> {
 }
 
 impl<'a> KnownParts<'a> {
-    /// Returns the known part of the definition of a name, if there is one.
     pub fn of_name(&self, name: &'a str) -> Option<&KnownPart<'a>>
         ensures kept { option_copied result ≡ known_part_of self.now.by_name name.now }
         ensures part { IfSome result (λ part. (settings : Settings) (known : AreKnown settings self.now)
@@ -118,8 +112,7 @@ impl<'a> KnownParts<'a> {
         self.by_name.get(&name)
     }
 
-    /// Adds an item, and the definition if it is a placeholder, to what is known. Returns `false`
-    /// and adds nothing if the item may have a fault.
+    /// Returns `false` and adds nothing if the item may have a fault.
     fn read_item(
         &self,
         settings: Settings<'a>,
@@ -151,8 +144,7 @@ impl<'a> KnownParts<'a> {
         }
     }
 
-    /// Reads the items of a definition up to the first one that may have a fault. Returns `None` if
-    /// it reads more than `usize::MAX` items.
+    /// Returns `None` if it reads more than `usize::MAX` items.
     fn read_text(
         &self,
         settings: Settings<'a>,
@@ -181,7 +173,6 @@ impl<'a> KnownParts<'a> {
         Ok(Some(text))
     }
 
-    /// Reads the definition of a name, if it has one, and keeps its known part under that name.
     /// Keeps nothing if more than `usize::MAX` items would be read.
     fn add_name(&mut self, settings: Settings<'a>, name: &'a str) -> Result<(), AllocError>
         requires { AreKnown settings self.old }
@@ -203,9 +194,8 @@ impl<'a> KnownParts<'a> {
         Ok(())
     }
 
-    /// Reads the definitions of `names`. Each name should come after the names that its definition
-    /// uses. Otherwise its definition is known only up to the first placeholder whose name wasn't
-    /// read before.
+    /// Each name should come after the names that its definition uses. Otherwise its definition is known
+    /// only up to the first placeholder whose name wasn't read before.
     pub fn of_names(
         settings: Settings<'a>,
         names: &[(usize, &'a str)],

@@ -9,7 +9,6 @@ use crate::defs::items::Label;
 use crate::numeral::is_numeral_from_one;
 use std::alloc::{AllocError, Global};
 
-/// Returns the base key of a placeholder: its alias, or its name if it has no alias.
 pub(crate) fn base_key<'a>(label: Label<'a>) -> &'a str
     ensures { result.now ≡ base_key_of (label_view label.entry) }
 {
@@ -20,7 +19,6 @@ pub(crate) fn base_key<'a>(label: Label<'a>) -> &'a str
     }
 }
 
-/// Returns the key of a placeholder with this base key, which was used `count` times before.
 pub(crate) fn numbered_key(alloc: Global, base: &str, count: usize) -> Result<String, AllocError>
     ensures { IfOk result (λ key. string_bytes key ≡ numbered base.now count) }
 {
@@ -31,8 +29,6 @@ pub(crate) fn numbered_key(alloc: Global, base: &str, count: usize) -> Result<St
     }
 }
 
-/// Splits a key that ends in a number from 1 up in brackets, such as `x[12]`, into its base key and
-/// the digits of the number.
 pub(crate) fn split_numbered(key: &str) -> Option<(&str, &str)>
     ensures { MatchOption result (ends_in_number key.now ≡ false)
         (λ parts. (count : ℕ) × (parts.1.now ≡ numeral (suc count))
@@ -47,8 +43,7 @@ pub(crate) fn split_numbered(key: &str) -> Option<(&str, &str)>
     }
 }
 
-/// Returns whether the alias ends in a number from 1 up in brackets. Only such an alias can be equal
-/// to the numbered key of another alias.
+/// Only an alias that ends in a number in brackets can be equal to the numbered key of another alias.
 #[tactic(auto, using(crate::proofs::Keys::NumberedKeysEndInNumber::numbered_ends))]
 pub(crate) fn ends_in_number(alias: &str) -> bool
     ensures { result ≡ ends_in_number alias.now }
@@ -56,7 +51,6 @@ pub(crate) fn ends_in_number(alias: &str) -> bool
     split_numbered(alias).is_some()
 }
 
-/// Returns the base of an alias that ends in a number from 1 up in brackets: `x` for `x[1]`.
 pub(crate) fn base_of_numbered(alias: &str) -> Option<&str>
     ensures { MatchOption result (ends_in_number alias.now ≡ false)
         (λ base. (count : ℕ) × (alias.now ≡ numbered base.now (suc count))) }

@@ -30,7 +30,6 @@ enum ReadStep<'a> {
     Stop,
 }
 
-/// Skips the known part of a definition, and enters the rest of it.
 fn open_after_known<'a>(
     rows: &mut Vec<Row<'a>>,
     part: &KnownPart<'a>,
@@ -51,8 +50,6 @@ fn open_after_known<'a>(
     }
 }
 
-/// Reads an item, whose placeholders may be nested up to `levels` levels deep. Returns whether to
-/// skip the item, to enter its definition, or to stop.
 fn read_item<'a>(
     settings: Settings<'a>,
     parts: &KnownParts<'a>,
@@ -84,8 +81,6 @@ fn read_item<'a>(
     }
 }
 
-/// Returns the base keys of a pattern's capturing placeholders before its first structural fault, in
-/// reading order. The rows of `parts` stand for those in known definitions.
 pub(crate) fn read_rows<'a>(
     settings: Settings<'a>,
     parts: &KnownParts<'a>,

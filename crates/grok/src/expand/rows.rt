@@ -1,6 +1,7 @@
-//! What is read of a text before its first structural fault, as rows.
+//! A text up to its first structural fault, as a list of rows.
 
-/// One entry of what is read of a text before its first structural fault.
+/// A part of a text before its first structural fault: one capturing placeholder, or the known part of a
+/// definition.
 #[derive(Clone, Copy)]
 pub(crate) enum Row<'a> {
     /// A capturing placeholder uses this base key: its alias, or its name if it has no alias.

@@ -12,14 +12,13 @@ use std::alloc::{AllocError, Global};
 /// How some base keys use the base key `x`.
 #[derive(Clone, Copy)]
 pub(crate) struct Uses {
-    /// How often `x` is used, or `u128::MAX` if that is less.
+    /// How often `x` is used, but at most `u128::MAX`.
     pub times: u128,
-    /// The least number n from 1 up for which `x[n]` is used, or `usize::MAX` if that is less.
-    /// `None` if no such key is used.
+    /// The least number n from 1 up for which `x[n]` is used, but at most `usize::MAX`. `None` if no such
+    /// key is used.
     pub least: Option<usize>,
 }
 
-/// Returns n if `key` is `base[n]`, with a number n from 1 up, or `usize::MAX` if that is less.
 fn number_of_base(base: &str, key: &str) -> Option<usize>
     ensures { MatchOption result ((count : ℕ) → key.now ≡ numbered base.now (suc count) → ⊥)
         (λ number. (count : ℕ) × (key.now ≡ numbered base.now (suc count)) × (number ≡ min (suc count) (2 ^ 64 - 1))) }
@@ -32,7 +31,6 @@ fn number_of_base(base: &str, key: &str) -> Option<usize>
     Some(number_of_numeral(digits).unwrap_or(usize::MAX))
 }
 
-/// Returns the lesser one of two numbers, or the only one.
 fn lesser(number: Option<usize>, other: Option<usize>) -> Option<usize>
     ensures { result ≡ lesser number other }
 {
@@ -44,7 +42,6 @@ fn lesser(number: Option<usize>, other: Option<usize>) -> Option<usize>
 }
 
 impl Uses {
-    /// What is counted of no base keys.
     pub fn none() -> Uses
         ensures { result ≡ no_uses }
     {
@@ -54,7 +51,6 @@ impl Uses {
         }
     }
 
-    /// Counts how `key` uses `base`.
     pub fn of_key(base: &str, key: &str) -> Uses
         ensures { AreUsesOf base.now (key.now ∷ []) result }
     {
@@ -70,7 +66,6 @@ impl Uses {
         }
     }
 
-    /// Returns the uses that `self` and `more` count together.
     pub fn and(self, more: Uses) -> Uses
         ensures { (base : List ℕ) (keys others : List (List ℕ)) → AreUsesOf base keys self
             → AreUsesOf base others more → AreUsesOf base (keys ++ others) result }
@@ -81,9 +76,6 @@ impl Uses {
         }
     }
 
-    /// Returns whether `x` is used at most as often as the least number allows: then none of the
-    /// keys that it gets is the base key of a placeholder. Also returns `false` if `x` is used 2^64
-    /// times or more and the least number is `usize::MAX` or more.
     pub fn are_free(self) -> bool
         ensures { Decides result (IsFreeAt self.times self.least) }
     {
@@ -93,7 +85,6 @@ impl Uses {
         }
     }
 
-    /// Counts how a row uses `base`, if `counts` has what the parts before it use.
     pub fn of_row(row: Row<'_>, counts: &[Uses], base: &str) -> Uses
         ensures { (done : List (List (List ℕ))) → AreCountsOf base.now done counts.now
             → AreUsesOf base.now (flat done (row.entry ∷ [])) result }
@@ -104,7 +95,6 @@ impl Uses {
         }
     }
 
-    /// Counts how rows use `base`, if `counts` has what the parts before them use.
     fn of_rows(rows: &[Row<'_>], counts: &[Uses], base: &str) -> Uses
         ensures { (done : List (List (List ℕ))) → AreCountsOf base.now done counts.now
             → AreUsesOf base.now (flat done rows.now) result }
@@ -117,11 +107,6 @@ impl Uses {
     }
 }
 
-/// Counts how each part uses `base`, in the order of the parts.
-///
-/// # Errors
-///
-/// If an allocation fails.
 pub(crate) fn count_parts<'a>(
     alloc: Global,
     parts: &[Vec<Row<'a>>],

@@ -1,4 +1,4 @@
-//! What holds of every key table and of every match.
+//! Laws of all key tables and of all matches.
 ghost use Rattle.grok.specs.AnswerLaws.{WalksHaveTheAnsweredKeys, AnswersAreThoseOfTheWalk, GeneratedNamesMeanTheirKeys, OtherNamesMeanThemselves, GroupsAreTheGreatest};
 
 /// `iter` has exactly the keys of `capture_names` for which `get` returns a text, in the same order.

@@ -7,7 +7,7 @@ ghost use Rattle.std.specs.Ordering.{nat_cmp};
 ghost use Rattle.grok.specs.Captures.{text_of};
 ghost use Rattle.grok.specs.Debugs.{debug_pairs};
 ghost use Rattle.grok.specs.Answers.{value_of, walk};
-ghost use Rattle.grok.specs.Locations.{IsLocationIn};
+ghost use Rattle.grok.specs.Locations.{IsLocationIn, location_of};
 
 use crate::key_table::KeyTable;
 use crate::matches::groups::{GroupTexts, Located};
@@ -25,13 +25,13 @@ pub struct MatchesRef<'m> {
 
 impl<'m> MatchesRef<'m> {
     ghost use Rattle.grok.specs.Groups.{texts_in_line};
-    ghost use Rattle.grok.specs.BorrowedMatches.{borrowed_line, borrowed_keys, borrowed_captures};
+    ghost use Rattle.grok.specs.BorrowedMatches.{borrowed_line, borrowed_keys, borrowed_captures, borrowed_locations};
 
-    /// Makes a match from the keys of its pattern and the byte ranges of its groups in the line.
     pub(crate) fn new(keys: &'m KeyTable, located: Located<'m>) -> MatchesRef<'m>
         ensures line { borrowed_line result ≡ located.entry.line.now }
         ensures keys { borrowed_keys result ≡ keys.now }
         ensures captures { borrowed_captures result ≡ texts_in_line located.entry }
+        ensures locations { borrowed_locations result ≡ located.entry.locations.now }
     {
         MatchesRef { keys, located }
     }
@@ -50,6 +50,8 @@ impl<'m> MatchesRef<'m> {
     /// Returns the byte range of the line that the group of a key captured, or `None` if there is no
     /// such key or that group took no part in the match.
     pub fn range(&self, name: &str) -> Option<Range<usize>>
+        ensures at { option_map (λ range. (range.start, range.end)) result
+            ≡ location_of (borrowed_keys self.now) (borrowed_locations self.now) name.now }
         ensures text { option_map (λ range. slice_range (borrowed_line self.now) range.start range.end) result
             ≡ value_of (borrowed_keys self.now) (borrowed_captures self.now) name.now }
         ensures inside { IfSome result (λ range.
@@ -86,7 +88,7 @@ impl<'r, 'm> IntoIterator for &'r MatchesRef<'m> {
     }
 }
 
-/// Shows the pairs, in the order of `iter`.
+/// Writes the pairs, in the order of `iter`.
 impl fmt::Debug for MatchesRef<'_> {
     ghost use Rattle.grok.specs.BorrowedMatches.{borrowed_keys, borrowed_captures};
 

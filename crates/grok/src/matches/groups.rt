@@ -1,7 +1,7 @@
 //! The texts of a match's groups, kept as a list of texts or as byte ranges of the line.
-ghost use Rattle.std.specs.Prelude.{◌≡◌, IfSome, option_map, slice_index_or, slice_range};
+ghost use Rattle.std.specs.Prelude.{◌≡◌, IfSome, option_map, slice_range};
 ghost use Rattle.grok.specs.Captures.{text_of, capture_texts};
-ghost use Rattle.grok.specs.Locations.{IsLocationIn, AreLocationsIn, located_texts};
+ghost use Rattle.grok.specs.Locations.{IsLocationIn, AreLocationsIn, located_texts, location_at};
 ghost use Rattle.grok.specs.Answers.{capture_at};
 
 use std::ops::Range;
@@ -25,8 +25,6 @@ pub(crate) enum GroupTexts<'a> {
     Located(Located<'a>),
 }
 
-/// Returns the text of a group from a list of the groups' texts, or `None` if the group took no
-/// part in the match.
 pub(crate) fn capture_of<'a>(captures: &[Option<&'a str>], group: usize) -> Option<&'a str>
     ensures { option_map text_of result ≡ capture_at (capture_texts captures.now) group }
 {
@@ -34,7 +32,6 @@ pub(crate) fn capture_of<'a>(captures: &[Option<&'a str>], group: usize) -> Opti
 }
 
 impl<'a> Located<'a> {
-    /// Keeps these byte ranges of a match's groups together with the line.
     pub(crate) fn new(line: &'a str, locations: &'a [Option<(usize, usize)>]) -> Located<'a>
         requires { AreLocationsIn line.now locations.now }
         ensures line { result.line.now ≡ line.now }
@@ -43,18 +40,17 @@ impl<'a> Located<'a> {
         Located { line, locations }
     }
 
-    /// Returns the byte range of a group, or `None` if it took no part in the match.
     #[tactic(auto, using(crate::proofs::Captures::GroupsLieInLine::location_in))]
     fn location(&self, group: usize) -> Option<(usize, usize)>
-        ensures at { result ≡ slice_index_or self.now.locations.now group None }
+        ensures at { result ≡ location_at self.now.locations.now group }
         ensures inside { IfSome result (IsLocationIn self.now.line.now) }
     {
         self.locations.get(group).copied()?
     }
 
-    /// Returns the byte range of a group, or `None` if it took no part in the match.
     #[tactic(auto, using(crate::proofs::Captures::GroupsLieInLine::text_located))]
     pub(crate) fn range(&self, group: usize) -> Option<Range<usize>>
+        ensures at { option_map (λ range. (range.start, range.end)) result ≡ location_at self.now.locations.now group }
         ensures text { option_map (λ range. slice_range self.now.line.now range.start range.end) result
             ≡ capture_at (located_texts self.now.line.now self.now.locations.now) group }
         ensures inside { IfSome result (λ range. IsLocationIn self.now.line.now (range.start, range.end)) }
@@ -63,7 +59,6 @@ impl<'a> Located<'a> {
         Some(start..end)
     }
 
-    /// Returns the text of a group, or `None` if it took no part in the match.
     #[tactic(auto, using(crate::proofs::Captures::GroupsLieInLine::text_located))]
     pub(crate) fn get(&self, group: usize) -> Option<&'a str>
         ensures { option_map text_of result
@@ -77,7 +72,6 @@ impl<'a> Located<'a> {
 impl<'a> GroupTexts<'a> {
     ghost use Rattle.grok.specs.Groups.{group_texts};
 
-    /// Returns the text of a group, or `None` if it took no part in the match.
     pub(crate) fn get(&self, group: usize) -> Option<&'a str>
         ensures { option_map text_of result ≡ capture_at (group_texts self.now) group }
     {

@@ -16,19 +16,18 @@ use std::marker::Model;
 /// as the pattern, and keeps the engine's caches from one line to the next.
 /// [`PatternOf::line_search`] makes it.
 ///
-/// It is for callers that search first and look at the match later, such as those that try several
-/// patterns on a line. Else [`MatcherOf`](crate::MatcherOf) does both in one call.
+/// It is for callers that search first and read the match later, such as those that try several
+/// patterns on a line. For others [`MatcherOf`](crate::MatcherOf) does both in one call.
 #[derive(Drop)]
 pub struct LineSearchOf<'p, E: HasMatcher<'p>> {
     pattern: &'p PatternOf<E>,
     matcher: E::Matcher,
-    /// Of each group the byte range that the last search found.
+    /// The byte range of each group, as the last search found it.
     ranges: Vec<Option<(usize, usize)>>,
     ghost answers: { E.Matcher.finds matcher ≡ E.finds pattern.now.engine },
     ghost count: { E.Matcher.group_count matcher ≡ length (E.group_names pattern.now.engine) },
 }
 
-// Contracts see the pattern, and the byte ranges that the last search found.
 impl<'p, E: HasMatcher<'p>> Model for LineSearchOf<'p, E> {
     ghost use Rattle.std.specs.Prelude.{◌≡◌, length};
     ghost use Rattle.grok.specs.LineSearches.{LineSearchValue, line_search_code};
@@ -41,9 +40,8 @@ impl<'p, E: HasMatcher<'p>> Model for LineSearchOf<'p, E> {
 }
 
 impl<'p, E: HasMatcher<'p>> LineSearchOf<'p, E> {
-    ghost use Rattle.grok.specs.BorrowedMatches.{borrowed_line, borrowed_keys, borrowed_captures};
+    ghost use Rattle.grok.specs.BorrowedMatches.{borrowed_line, borrowed_keys, borrowed_captures, borrowed_locations};
 
-    /// Makes the search of a pattern with this engine.
     pub(crate) fn new(
         alloc: Global,
         pattern: &'p PatternOf<E>,
@@ -62,11 +60,8 @@ impl<'p, E: HasMatcher<'p>> LineSearchOf<'p, E> {
     }
 
     /// Searches the line, and returns whether the engine finds a match. The search then has this match,
-    /// and [`last_match`](LineSearchOf::last_match) returns it. Only the engine may allocate.
-    ///
-    /// # Errors
-    ///
-    /// If an allocation of the engine fails.
+    /// and [`last_match`](LineSearchOf::last_match) returns it. Only the engine may allocate. After an error the
+    /// match of an earlier line is lost.
     pub fn search(&mut self, line: &str) -> Result<bool, AllocError>
         ensures is_match { IfOk result (λ is_match. is_match ≡ is_some (E.finds self.old.pattern.engine line.now)) }
         ensures found { IfOk result (λ is_match. IsTrue is_match → HasMatchIn line.now (E.finds self.new.pattern.engine)
@@ -88,6 +83,7 @@ impl<'p, E: HasMatcher<'p>> LineSearchOf<'p, E> {
             (length (E.group_names self.now.pattern.engine)) (Some (borrowed_captures result)) }
         ensures keys { borrowed_keys result ≡ self.now.pattern.keys }
         ensures line { borrowed_line result ≡ line.now }
+        ensures locations { borrowed_locations result ≡ self.now.ranges }
     {
         let pattern = self.pattern;
         MatchesRef::new(&pattern.keys, Located::new(line, &self.ranges))

@@ -19,7 +19,6 @@ pub struct MatcherOf<'p, E: HasMatcher<'p>> {
     search: LineSearchOf<'p, E>,
 }
 
-// Contracts see the pattern.
 impl<'p, E: HasMatcher<'p>> Model for MatcherOf<'p, E> {
     ghost use Rattle.std.specs.Prelude.{◌≡◌, length};
     ghost use Rattle.grok.specs.Answers.{PatternValue, pattern_code};
@@ -35,7 +34,6 @@ impl<'p, E: HasMatcher<'p>> MatcherOf<'p, E> {
     ghost use Rattle.grok.specs.contracts.matches.matcher.MatcherOf.{the_row};
     ghost use Rattle.grok.specs.BorrowedMatches.{borrowed_line, borrowed_keys, borrowed_captures};
 
-    /// Makes the matcher of a pattern with this engine.
     pub(crate) fn new(
         alloc: Global,
         pattern: &'p PatternOf<E>,
@@ -51,10 +49,6 @@ impl<'p, E: HasMatcher<'p>> MatcherOf<'p, E> {
     /// Returns the first match in the line, or `None` if the engine finds none. The match is
     /// borrowed until the next call, and has the same pairs as the one that
     /// [`PatternOf::match_against`] returns. Only the engine may allocate.
-    ///
-    /// # Errors
-    ///
-    /// If an allocation of the engine fails.
     pub fn find<'m>(&'m mut self, text: &'m str) -> Result<Option<MatchesRef<'m>>, AllocError>
     where
         'p: 'm,

@@ -36,7 +36,6 @@ pub(crate) struct MeasureCache<'a> {
 }
 
 impl<'a> MeasureCache<'a> {
-    /// Makes an empty cache.
     #[tactic(auto, using(crate::proofs::Sizes::MeasureIsCounted::shows_nothing))]
     pub fn new(alloc: Global) -> MeasureCache<'a>
         ensures { ShowsState result nothing_measured }
@@ -72,7 +71,6 @@ impl<'a> MeasureCache<'a> {
         }
     }
 
-    /// Sets how far measuring a name's definition has come.
     pub(super) fn set_progress(
         &mut self,
         name: &'a str,
@@ -97,8 +95,6 @@ impl<'a> MeasureCache<'a> {
     }
 }
 
-/// Returns what to remember of a definition that was measured with `levels` levels left and has this
-/// fault.
 pub(super) fn progress_of_failure<'a>(failure: Failure<'a>, levels: usize) -> Progress<'a>
     ensures { progress_view result ≡ failed_progress
         (fault_view failure.entry.fault) levels failure.entry.height }

@@ -15,16 +15,11 @@ use std::alloc::{AllocError, Global};
 #[derive(Drop)]
 pub(crate) struct FullMeasure<'a> {
     pub measure: Measure<'a>,
-    /// What measured it, which remembers the definitions that it read.
+    /// The measurer that measured the pattern. It remembers the definitions that it read.
     pub measurer: Measurer<'a>,
 }
 
 impl<'a> FullMeasure<'a> {
-    /// Measures a pattern.
-    ///
-    /// # Errors
-    ///
-    /// If an allocation fails.
     pub fn of_pattern(
         settings: Settings<'a>,
         pattern: &'a str,
@@ -39,27 +34,20 @@ impl<'a> FullMeasure<'a> {
         })
     }
 
-    /// Returns how much was read.
     pub fn looks(&self) -> Looks
         ensures { result ≡ self.now.measurer.cache.looks }
     {
         self.measurer.cache.looks
     }
 
-    /// Returns whether an alias is reached that ends in a number in brackets, such as `x[1]`.
     pub fn has_numbered(&self) -> bool
         ensures { result ≡ self.now.measurer.cache.has_numbered }
     {
         self.measurer.cache.has_numbered
     }
 
-    /// Returns the names whose definitions were read, each with how many levels its definition
-    /// needs. A name comes after the names that its definition uses. Names whose definitions have a
-    /// fault, or weren't read to the end, come last, with `usize::MAX`.
-    ///
-    /// # Errors
-    ///
-    /// If an allocation fails.
+    /// A name comes after the names that its definition uses, since its definition needs more levels. Names
+    /// whose definitions have a fault, or weren't read to the end, come last, with `usize::MAX`.
     pub fn read_names(&self, alloc: Global) -> Result<Vec<(usize, &'a str)>, AllocError>
         ensures all { IfOk result (λ names. IsPermutation
             (map levels_and_name self.now.measurer.cache.by_name.entries) names.items) }
@@ -74,8 +62,6 @@ impl<'a> FullMeasure<'a> {
     }
 }
 
-/// Returns how many levels a definition needs, or `usize::MAX` if it has a fault or wasn't read to
-/// the end.
 fn levels_of(progress: &Progress<'_>) -> usize
     ensures { result ≡ levels_of progress.now }
 {

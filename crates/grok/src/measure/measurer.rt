@@ -43,8 +43,6 @@ pub(crate) struct Measurer<'a> {
     pub(super) cache: MeasureCache<'a>,
 }
 
-/// Returns the next item of a text. Counts in `looks` one more piece that was read, or, at the end
-/// of the text, one more end.
 fn next_counted<'a>(
     items: &mut Items<'a>,
     looks: &mut Looks,
@@ -68,7 +66,6 @@ fn next_counted<'a>(
 }
 
 impl<'a> Measurer<'a> {
-    /// Makes a measurer that remembers no definition.
     pub fn new(settings: Settings<'a>) -> Measurer<'a>
         ensures settings { result.settings ≡ settings.entry }
         ensures nothing { ShowsState result.cache nothing_measured }
@@ -80,21 +77,15 @@ impl<'a> Measurer<'a> {
         }
     }
 
-    /// Returns whether a placeholder captures.
     pub fn is_capturing(&self, label: Label<'a>) -> bool
         ensures { result ≡ is_capturing self.now.settings.with_alias_only (label_view label.entry) }
     {
         label.is_capturing(self.settings.with_alias_only)
     }
 
-    /// Measures a text with `levels` levels left: returns its size, or its first fault. If it uses
-    /// a definition that isn't measured yet, a frame keeps the rest of the text until it is, the
-    /// innermost last. On a fault the open frames stay, so that the caller can remember the fault for
-    /// their names.
-    ///
-    /// # Errors
-    ///
-    /// If an allocation fails.
+    /// If the text uses a definition that isn't measured yet, a frame keeps the rest of the text until it
+    /// is, the innermost last. On a fault the open frames stay, so that the caller can remember the fault
+    /// for their names.
     fn measure_text(
         &mut self,
         frames: &mut Vec<Frame<'a>>,
@@ -159,7 +150,6 @@ impl<'a> Measurer<'a> {
         }
     }
 
-    /// Removes all frames, and remembers the fault for the name that each of them waits for.
     fn remember_fault(
         &mut self,
         frames: &mut Vec<Frame<'a>>,
@@ -184,7 +174,6 @@ impl<'a> Measurer<'a> {
         Ok(())
     }
 
-    /// Measures a text with `levels` levels left, and uses what is remembered of its definitions.
     pub(super) fn measure_within(
         &mut self,
         text: &'a str,
@@ -204,11 +193,6 @@ impl<'a> Measurer<'a> {
         Ok(answer)
     }
 
-    /// Measures a pattern, and uses what is remembered of its definitions.
-    ///
-    /// # Errors
-    ///
-    /// If an allocation fails.
     pub fn measure_next(&mut self, pattern: &'a str) -> Result<Measure<'a>, AllocError>
         ensures answer { IfOk result
             (λ measure. HasCorrectCache self.old →
@@ -223,8 +207,8 @@ impl<'a> Measurer<'a> {
         Ok(measure_of_result(answer))
     }
 
-    /// Returns the size of a stored definition if `levels` levels are left, its own among them.
-    /// Returns `None` if it has a fault, or if its size isn't remembered.
+    /// Returns `None` if the definition has a fault, or if its size isn't remembered. Its own level is one
+    /// of the `levels` that are left.
     pub fn remembered_size(&self, name: &'a str, levels: usize) -> Option<PartialSize>
         ensures { IfSome result (λ size. (text : List ℕ) →
             HasCorrectCache self.now →
@@ -238,12 +222,8 @@ impl<'a> Measurer<'a> {
         }
     }
 
-    /// Returns the size or the first structural fault of a stored definition, if `levels` levels are
-    /// left, its own among them. It is measured only if its fault or size isn't remembered.
-    ///
-    /// # Errors
-    ///
-    /// If an allocation fails.
+    /// Measures the definition only if its size or fault isn't remembered. Its own level is one of the
+    /// `levels` that are left.
     pub fn size_of_definition(
         &mut self,
         name: &'a str,
@@ -268,12 +248,8 @@ impl<'a> Measurer<'a> {
         self.measure_within(stored.text(), levels - 1)
     }
 
-    /// Returns the first structural fault of a stored definition, if `levels` levels are left, its
-    /// own among them. It is measured only if its fault or size isn't remembered.
-    ///
-    /// # Errors
-    ///
-    /// If an allocation fails.
+    /// Measures the definition only if its size or fault isn't remembered. Its own level is one of the
+    /// `levels` that are left.
     pub fn fault_of_definition(
         &mut self,
         name: &'a str,

@@ -27,7 +27,6 @@ pub(crate) struct Failure<'a> {
     pub height: usize,
 }
 
-/// Adds two numbers. Returns `None` if one of them is `None` or the sum doesn't fit a `usize`.
 pub(super) fn add_fit(a: Option<usize>, b: Option<usize>) -> Option<usize>
     ensures { (x y : ℕ) → a ≡ fit x → b ≡ fit y → result ≡ fit (x + y) }
 {
@@ -37,7 +36,6 @@ pub(super) fn add_fit(a: Option<usize>, b: Option<usize>) -> Option<usize>
     }
 }
 
-/// Returns the size of two texts one after the other.
 pub(crate) fn add(a: PartialSize, b: PartialSize) -> PartialSize
     ensures adds { (x y : Size) → a ≡ shown x → b ≡ shown y → result ≡ shown (plus x y) }
     ensures height { result.height ≡ max a.height b.height }
@@ -49,7 +47,6 @@ pub(crate) fn add(a: PartialSize, b: PartialSize) -> PartialSize
     }
 }
 
-/// Returns the size of regular text.
 pub(crate) fn size_of_text(text: &str) -> PartialSize
     ensures shown { result ≡ shown (size_of_bytes text.now) }
     ensures height { result.height ≡ 0 }
@@ -61,7 +58,6 @@ pub(crate) fn size_of_text(text: &str) -> PartialSize
     }
 }
 
-/// Adds the brackets of a placeholder to the size of what is inside.
 pub(super) fn bracketed(is_capturing: bool, inner: PartialSize) -> PartialSize
     requires { inner.height < 2 ^ 32 }
     ensures height { result.height ≡ inner.height + 1 }
@@ -81,7 +77,6 @@ pub(super) fn bracketed(is_capturing: bool, inner: PartialSize) -> PartialSize
     }
 }
 
-/// Returns the size of what a placeholder writes before its definition.
 pub(crate) fn size_of_head(is_capturing: bool) -> PartialSize
     ensures { result ≡ shown (head_size is_capturing) }
 {
@@ -97,7 +92,6 @@ pub(crate) fn size_of_head(is_capturing: bool) -> PartialSize
     }
 }
 
-/// Returns the number of decimal digits of 0, 1, .., count - 1 together.
 fn digits_of_numbers_below(count: usize) -> Option<usize>
     ensures { result ≡ fit (digits_from 0 count) }
 {
@@ -111,8 +105,6 @@ fn digits_of_numbers_below(count: usize) -> Option<usize>
     digits
 }
 
-/// Returns the length in bytes of a text of this size, with the numbers of its groups. Returns
-/// `None` if it doesn't fit a `usize`.
 #[tactic(auto, using(crate::proofs::Sizes::SumsFit::fits))]
 fn length_of_partial_size(sum: PartialSize) -> Option<usize>
     ensures { (z : Size) → sum ≡ shown z → result ≡ fit (length_of z) }
@@ -123,7 +115,6 @@ fn length_of_partial_size(sum: PartialSize) -> Option<usize>
     }
 }
 
-/// Returns whether a text of the size `sum` has a byte at the position `byte`.
 pub(crate) fn has_byte(sum: PartialSize, byte: usize) -> bool
     ensures { (z : Size) → sum ≡ shown z → result ≡ nat_lt byte (length_of z) }
 {
@@ -133,8 +124,6 @@ pub(crate) fn has_byte(sum: PartialSize, byte: usize) -> bool
     }
 }
 
-/// Returns how many bytes the position `byte` is after the end of a text of the size `sum` that
-/// begins at position 0.
 pub(crate) fn offset_after(sum: PartialSize, byte: usize) -> usize
     ensures { (z : Size) → sum ≡ shown z → length_of z ≤ byte → byte ≡ length_of z + result }
 {
@@ -144,8 +133,6 @@ pub(crate) fn offset_after(sum: PartialSize, byte: usize) -> usize
     }
 }
 
-/// Returns the `Measure` of a pattern of the size `sum`. It is `TooLong` if a number doesn't fit a
-/// `usize`.
 #[tactic(auto, using(crate::proofs::Sizes::SumsFit::fits))]
 fn measure_of_size<'a>(sum: PartialSize) -> Measure<'a>
     ensures { (z : Size) → sum ≡ shown z →
@@ -161,7 +148,6 @@ fn measure_of_size<'a>(sum: PartialSize) -> Measure<'a>
     }
 }
 
-/// Returns the `Measure` of a pattern that has the size or the fault in `answer`.
 pub(super) fn measure_of_result<'a>(answer: Result<PartialSize, Failure<'a>>) -> Measure<'a>
     ensures { (r : Result Size ItemFault) → result_view answer.entry ≡ shown_result r →
         measure_view result ≡ measured_size r }
@@ -172,7 +158,6 @@ pub(super) fn measure_of_result<'a>(answer: Result<PartialSize, Failure<'a>>) ->
     }
 }
 
-/// Returns the fault of a placeholder for which no level is left.
 pub(super) fn too_deep<'a>() -> Failure<'a>
     ensures fault { result.fault ≡ Fault.TooDeep }
     ensures reach { result.height ≡ 0 }
@@ -183,8 +168,6 @@ pub(super) fn too_deep<'a>() -> Failure<'a>
     }
 }
 
-/// Returns the fault of `failure`, as it is after a text of the size `sum`: its height is the
-/// greater of the two heights.
 pub(super) fn fault_after<'a>(sum: PartialSize, failure: Failure<'a>) -> Failure<'a>
     ensures fault { result.fault ≡ failure.entry.fault }
     ensures reach { result.height ≡ max sum.height failure.entry.height }
@@ -195,7 +178,6 @@ pub(super) fn fault_after<'a>(sum: PartialSize, failure: Failure<'a>) -> Failure
     }
 }
 
-/// Returns the fault in `answer`, or `None` if it is a size.
 pub(super) fn fault_of<'a>(answer: Result<PartialSize, Failure<'a>>) -> Option<Fault<'a>>
     ensures { (r : Result Size ItemFault) → result_view answer.entry ≡ shown_result r →
         option_map fault_view result ≡ fault_in r }

@@ -22,8 +22,6 @@ pub(super) enum PlaceholderSize<'a> {
     Unread(&'a Definition),
 }
 
-/// Returns the size of an inline definition, which has no placeholders, or the fault `TooDeep` if
-/// no level is left.
 fn measure_inline<'a>(text: &'a str, levels: usize) -> Result<PartialSize, Failure<'a>>
     ensures reading { result_view result ≡ shown_result (inlined levels text.now) }
     ensures low { IfOk result (λ sum. sum.height < levels) }
@@ -35,7 +33,6 @@ fn measure_inline<'a>(text: &'a str, levels: usize) -> Result<PartialSize, Failu
     Ok(size_of_text(text))
 }
 
-/// Returns the size or fault of a placeholder whose definition has the size or fault `inner`.
 fn size_of_placeholder<'a>(
     settings: Settings<'a>,
     label: Label<'a>,
@@ -60,8 +57,7 @@ fn size_of_placeholder<'a>(
     }
 }
 
-/// Measures a placeholder that stands for a stored definition. `levels` levels are left, its own
-/// among them.
+/// The placeholder's own level is one of the `levels` that are left.
 fn measure_stored<'a>(
     settings: Settings<'a>,
     cache: &mut MeasureCache<'a>,
@@ -92,12 +88,7 @@ fn measure_stored<'a>(
     Ok(PlaceholderSize::Unread(stored))
 }
 
-/// Measures a placeholder: returns its size or fault, or the definition that has to be measured
-/// first. `levels` levels are left, its own among them.
-///
-/// # Errors
-///
-/// If an allocation fails.
+/// The placeholder's own level is one of the `levels` that are left.
 pub(super) fn measure_placeholder<'a>(
     settings: Settings<'a>,
     cache: &mut MeasureCache<'a>,

@@ -18,13 +18,13 @@ abbrev pub opening : List (List ℕ) → List Token
 opening [] = []
 opening (name ∷ names) = Token.key name ∷ (Token.begin_object ∷ opening names)
 
--- With how many names both lists begin.
+-- How many names both lists have in common at their beginnings.
 abbrev pub shared_len : List (List ℕ) → List (List ℕ) → ℕ
 shared_len [] others = 0
 shared_len (name ∷ names) [] = 0
 shared_len (name ∷ names) (other ∷ others) = if bytes_eq name other then suc (shared_len names others) else 0
 
--- The tokens that close and open objects, so that the second ones are open in place of the first ones.
+-- The tokens that close and open objects, so that those of the second list are open in place of those of the first.
 abbrev pub moving : List (List ℕ) → List (List ℕ) → List Token
 moving [] others = opening others
 moving (name ∷ names) [] = closing (name ∷ names)

@@ -20,3 +20,7 @@ returns-clause-memory g c h =
 pub returns-clause-read : goal.returns-clause-read
 returns-clause-read g c h =
     (c.in_ok-pattern.pattern, c.in_ok-pattern.ensures.ok, c.answer_by_pattern.ensures.read h)
+
+pub returns-clause-write : goal.returns-clause-write
+returns-clause-write g c h =
+    (c.in_ok-pattern.pattern, c.in_ok-pattern.ensures.ok, c.answer_by_pattern.ensures.write h)

@@ -5,7 +5,7 @@ use Rattle.grok.specs.steps.MeasureCache.{ShowsState, AnswersReading, ShowsCorre
 use Rattle.grok.specs.steps.MeasuredOnce.{State, items_within, nothing_measured}
 use Rattle.grok.specs.declared.settings.Settings.{Settings}
 use Rattle.grok.proofs.Sizes.MeasuringAgain.{answer_is, nothing_true, stays_true}
-use Rattle.grok.proofs.Sizes.MeasureIsCounted.{pieces_most, ends_most, pieces_all, ends_all, numbered_is}
+use Rattle.grok.proofs.Sizes.MeasureIsCounted.{pieces_most, pieces_least, ends_most, pieces_all, ends_all, numbered_is}
 use Rattle.grok.proofs.measure.full_measure.FullMeasure.of_pattern.Goals as goal
 
 pub returns : goal.returns
@@ -27,6 +27,7 @@ returns c =
       counted = record {
         answer = answer_is texts alias_only pattern r before cache reads nothing_measured c.new-measurer.ensures.nothing (nothing_true texts alias_only) (measure_view c.measure_of_result.result) c.measure_of_result.ensures;
         pieces = pieces_most texts alias_only pattern r cache read;
+        pieces_to_fault = pieces_least texts alias_only pattern r cache read;
         ends = ends_most texts alias_only pattern r cache read;
         all_pieces = pieces_all texts alias_only pattern r cache read;
         all_ends = ends_all texts alias_only pattern r cache read;
