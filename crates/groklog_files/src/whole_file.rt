@@ -13,7 +13,7 @@ use std::rt::Files;
 /// wrote are taken.
 const MOST_TEMPORARIES: u32 = 1000;
 
-/// The advice for a file that has no room.
+/// The advice if the disk has no room for a file.
 const MORE_SPACE: &str = "free some space, or write to another disk";
 
 /// A file that an option asks for.
