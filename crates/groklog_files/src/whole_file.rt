@@ -23,7 +23,7 @@ pub struct WholeFile<'a> {
     pub option: &'static str,
     /// The name of the file, as the user wrote it. `-` means standard output.
     pub name: &'a str,
-    /// The files that the run uses, which it must not be one of.
+    /// The files that the run uses. None of them may be written over.
     pub read: &'a ReadFiles,
 }
 
