@@ -12,11 +12,12 @@ class Case:
     words: list = field(default_factory=lambda: ["log"])
     status: int = 0
     notes: str = ""
+    more_files: dict = field(default_factory=dict)
 
     @property
     def files(self):
         name = self.words[-1]
-        return {name: self.lines}
+        return {name: self.lines, **self.more_files}
 
 
 def rows(*rows, unit="lines"):
@@ -53,6 +54,7 @@ Traceback (most recent call last):
 ValueError: no
 2026-11-28 06:25:03,123 INFO worker stopped
 """
+EVENT = "  more\n2026-11-28 06:25:0{} INFO a\n"
 ERRORS = "11/28/2026 6:25:0{} AM {} {} disk\n"
 OWN = ["2f alice\n", "ab bob\n", "77 eve\n"]
 
@@ -101,6 +103,11 @@ CASES = [
                 r"(?:\n(?<more>(?s:.*)))?$' log", of=3, unit="events"),
          notes="groklog: line 4 of log isn't UTF-8, so it has no fields: use --lossy, or for another encoding "
                "iconv -f LATIN1 -t UTF-8 FILE | groklog ..\n"),
+    Case("events in two files, of which the second begins with a line that begins none", "it belongs to no event of the first file",
+         EVENT.format(3), "the lines are parts of 4 events\n" + proposal(
+             3, r"groklog --start '^%{TIMESTAMP_ISO8601}' '^%{TIMESTAMP_ISO8601:timestamp} %{LOGLEVEL:level} a(?:\n(?<more>(?s:.*)))?$' first log",
+             of=4, unit="events"),
+         words=["first", "log"], more_files={"first": EVENT.format(1)[7:] + EVENT.format(2)}),
     Case("lines of JSON", "jq", '{"level":"info","n":1}\n{"level":"warn","n":2}\n',
          "these lines look like JSON objects, which jq reads:\njq -c . log\n"),
     Case("comma-separated values with names", "mlr", "time,host,status,ms\n06:25:01,a,200,4\n06:25:02,b,404,9\n06:25:03,a,200,1\n",
