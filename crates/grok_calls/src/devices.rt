@@ -10,11 +10,11 @@ use std::io::{ErrorKind, Read, Write};
 #[derive(Clone, Copy)]
 enum Failing {
     Never,
-    /// All calls from this one on.
+    /// All from this one on.
     Since(usize),
-    /// This call alone, because it would block.
+    /// This one alone, because it would block.
     At(usize),
-    /// Every second call, beginning with the first, fails as interrupted.
+    /// Every second one, beginning with the first, is interrupted.
     Interrupted,
     /// Each flush.
     Flush,
