@@ -3,9 +3,9 @@
 use crate::hints::{Hints, Matched};
 use crate::output::{Outlet, show_note};
 use crate::terminal::shows_progress;
-use grok::Pattern;
 use grok_lines::{EventAnswers, EventStarts, LineHandler, SkipLines};
 use groklog_answers::{Flow, LineTask, SearchedLines, StartPattern};
+use groklog_definitions::RunPattern;
 use groklog_files::{STANDARD_INPUT, StandardInput, shown_name};
 use groklog_input::{
     Answered, Failure, Fault, FormedAnswers, Unit, Watched, answer_input, file_fault, visible,
@@ -182,7 +182,7 @@ pub fn answer_inputs<'p, A: LogLines<'p>>(
 pub fn answer_each<'p, A: LogLines<'p> + SkipLines + Drop>(
     outlet: &Outlet<'_>,
     options: &Options<'p>,
-    start: Option<&Pattern>,
+    start: Option<&RunPattern<'_>>,
     lines: A,
 ) -> Result<(A, Outcome), Fault> {
     let alloc = outlet.rt.alloc();
@@ -191,7 +191,7 @@ pub fn answer_each<'p, A: LogLines<'p> + SkipLines + Drop>(
         let outcome = answer_inputs(outlet, options, &mut lines)?;
         return Ok((lines.into_answers(), outcome));
     };
-    let start = StartPattern::new(start)?;
+    let start = StartPattern::new(&start.pattern)?;
     let events = EventAnswers::new(alloc, lines, start, events.most_lines);
     let mut lines = FormedAnswers::new(alloc, events, options.form);
     let outcome = answer_inputs(outlet, options, &mut lines)?;

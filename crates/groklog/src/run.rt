@@ -4,14 +4,15 @@
 use crate::inputs::Outcome;
 use crate::notes::{notes_of_extracts, notes_of_pattern, notes_of_words};
 use crate::output::{Outlet, show_notes, write_output};
-use crate::plans::plan_all;
+use crate::plans::{plan_all, with_tags};
 use crate::tasks::{Run, suggest};
-use grok::Pattern;
-use groklog_definitions::{Library, RunTexts, list_common_definitions, patterns_of, start_pattern};
+use groklog_definitions::{
+    Library, PatternText, RunPattern, list_common_definitions, patterns_of, start_pattern,
+};
 use groklog_files::{ReadFiles, WholeFile, check_logs, is_same_file, read_definition_files};
 use groklog_input::{Fault, Report, TextFile};
-use groklog_options::{Options, Task, check_keys, chosen_fields, with_tags};
-use groklog_patterns::{Adapted, adapt_all, adapt_own, compile, compile_all, definition_lines};
+use groklog_options::{Options, Task, check_keys, chosen_fields};
+use groklog_patterns::{Adapted, adapt_all, adapt_own, compile_all, definition_lines};
 use std::alloc::{AllocError, Global};
 
 /// The options that ask for a file.
@@ -19,25 +20,23 @@ pub const PAGE: &str = "--html";
 
 const DEFINITIONS: &str = "--write-definitions";
 
-/// Returns the patterns of the run as they are compiled. If they were made for Logstash, they are rewritten, with
+/// Returns the patterns of the run as they are compiled, that of `--start` last. If they were made for Logstash, they are rewritten, with
 /// the definitions that they use, and notes say what was changed.
 fn texts_of(
     rt: &HostRuntime,
     library: &mut Library<'_>,
     options: &Options<'_>,
-) -> Result<RunTexts, Fault> {
+) -> Result<Vec<PatternText>, Fault> {
     let alloc = rt.alloc();
     let words: Vec<&str> = options
         .patterns
         .iter()
         .map(|pattern| pattern.text)
         .collect(alloc)?;
-    let patterns = patterns_of(alloc, &words)?;
-    let start = match options.events {
-        Some(events) => Some(start_pattern(alloc, events.start)?),
-        None => None,
-    };
-    let given = RunTexts { patterns, start };
+    let mut given = patterns_of(alloc, &words, !options.is_all)?;
+    if let Some(events) = options.events {
+        given.push(start_pattern(alloc, events.start)?)?;
+    }
     let Some(wish) = options.definitions.wish else {
         return Ok(given);
     };
@@ -71,20 +70,18 @@ fn show_notes_of_patterns(
     rt: &HostRuntime,
     options: &Options<'_>,
     library: &Library<'_>,
-    texts: &RunTexts,
-    patterns: &[Pattern],
+    patterns: &[RunPattern<'_>],
 ) -> Result<(), AllocError> {
     let alloc = rt.alloc();
     if let Task::Answers(answers) = &options.task
         && answers.is_typed
     {
-        for pattern in patterns {
+        for RunPattern { pattern, .. } in patterns {
             show_notes(rt, &notes_of_extracts(alloc, pattern)?)?;
         }
     }
-    for (text, pattern) in texts.patterns.iter().zip(patterns) {
-        let notes = notes_of_pattern(alloc, library, text, pattern)?;
-        show_notes(rt, &notes)?;
+    for pattern in patterns {
+        show_notes(rt, &notes_of_pattern(alloc, library, pattern)?)?;
     }
     Ok(())
 }
@@ -121,7 +118,7 @@ fn run_task(
     rt: &HostRuntime,
     options: &Options<'_>,
     library: &Library<'_>,
-    texts: &RunTexts,
+    texts: &[PatternText],
     read: &ReadFiles,
 ) -> Result<Outcome, Fault> {
     let alloc = rt.alloc();
@@ -129,21 +126,20 @@ fn run_task(
     if let Task::Suggestions(most) = options.task {
         return suggest(&outlet, options, library, most);
     }
-    let patterns = compile_all(alloc, library, &texts.patterns, !options.is_all)?;
-    let start = match &texts.start {
-        Some(start) => Some(compile(alloc, library, start, true)?),
+    let mut patterns = compile_all(alloc, library, texts)?;
+    let start = match options.events {
+        Some(_) => patterns.pop(),
         None => None,
     };
-    let plans = plan_all(alloc, options.task.plan(), &texts.patterns, &patterns)?;
-    check_keys(alloc, &options.task, &patterns, &plans)?;
-    show_notes_of_patterns(rt, options, library, texts, &patterns)?;
-    let fields = chosen_fields(alloc, &options.task, &patterns)?;
+    let plans = plan_all(alloc, options.task.plan(), &patterns)?;
     let named = with_tags(alloc, &options.patterns, &patterns, &plans)?;
+    check_keys(alloc, &options.task, &named)?;
+    show_notes_of_patterns(rt, options, library, &patterns)?;
+    let fields = chosen_fields(alloc, &options.task, &named)?;
     Run {
         outlet: &outlet,
         options,
         library,
-        texts: &texts.patterns,
         patterns: &patterns,
         start: start.as_ref(),
         named: &named,
@@ -165,7 +161,7 @@ fn run_over(
     options: &Options<'_>,
     files: &[TextFile],
     library: &Library<'_>,
-    texts: &RunTexts,
+    texts: &[PatternText],
 ) -> Result<Outcome, Fault> {
     let read = ReadFiles::of(rt, &options.files, files)?;
     check_files(rt, options, &read)?;

@@ -9,12 +9,11 @@ use crate::suggest::{Sample, report_of_sample};
 use crate::summary::{note_of_others, summary_of};
 use crate::terminal::is_coloured;
 use crate::why::Why;
-use grok::Pattern;
 use grok_lines::SkipLines;
 use groklog_answers::{
     KeyCounts, LineTask, LogAnswers, NamedPattern, SearchedLines, Searches, header_of,
 };
-use groklog_definitions::{Library, PatternText};
+use groklog_definitions::{Library, RunPattern};
 use groklog_files::{ReadFiles, WholeFile};
 use groklog_input::{Fault, FormedAnswers};
 use groklog_options::{
@@ -30,11 +29,9 @@ pub struct Run<'r, 'a, 'd> {
     pub outlet: &'r Outlet<'r>,
     pub options: &'a Options<'a>,
     pub library: &'a Library<'d>,
-    /// The texts of the patterns.
-    pub texts: &'a [PatternText],
-    pub patterns: &'a [Pattern],
+    pub patterns: &'a [RunPattern<'a>],
     /// The pattern of `--start`, if events are answered.
-    pub start: Option<&'a Pattern>,
+    pub start: Option<&'a RunPattern<'a>>,
     /// The patterns with their tags and plans.
     pub named: &'a [NamedPattern<'a>],
     /// The keys of patterns that are written, or `None` if all are.
@@ -94,18 +91,12 @@ impl<'r, 'a, 'd> Run<'r, 'a, 'd> {
 
     /// Returns what finds where the values of keys are.
     fn located(self) -> Result<LocatedFields<'a>, AllocError> {
-        LocatedFields::new(self.rt().alloc(), self.patterns, self.fields)
+        LocatedFields::new(self.rt().alloc(), self.named, self.fields)
     }
 
     /// Returns what explains where the patterns stop.
     fn explainer(self) -> Result<Explainer<'a, 'd>, AllocError> {
-        Explainer::new(
-            self.rt().alloc(),
-            self.library,
-            self.texts,
-            self.patterns,
-            !self.options.is_all,
-        )
+        Explainer::new(self.rt().alloc(), self.library, self.patterns)
     }
 
     /// Writes the answers.
@@ -154,13 +145,7 @@ impl<'r, 'a, 'd> Run<'r, 'a, 'd> {
     fn page_content(self, options: &PageOptions<'a>) -> Result<PageContent<'a>, AllocError> {
         let alloc = self.rt().alloc();
         let located = self.located()?;
-        let titles = titles_of(
-            alloc,
-            self.library,
-            (self.texts, self.patterns),
-            &located.keys,
-            !self.options.is_all,
-        )?;
+        let titles = titles_of(alloc, self.library, self.patterns, &located.keys)?;
         let scope = Scope {
             unit: self.options.unit(),
             lines: options.lines,
@@ -217,16 +202,8 @@ impl<'r, 'a, 'd> Run<'r, 'a, 'd> {
 
     /// Writes the explanation of each pattern.
     fn explain_patterns(self) -> Result<Outcome, Fault> {
-        let with_alias_only = !self.options.is_all;
-        for (text, pattern) in self.texts.iter().zip(self.patterns) {
-            let text = text.text.as_str();
-            let lines = explain(
-                self.rt().alloc(),
-                self.library,
-                text,
-                pattern,
-                with_alias_only,
-            )?;
+        for pattern in self.patterns {
+            let lines = explain(self.rt().alloc(), self.library, pattern)?;
             write_output(self.rt(), lines.as_str())?;
         }
         Ok(Outcome::AllRead)

@@ -1,13 +1,20 @@
 //! Compiles the patterns of a run.
 ghost use Rattle.std.specs.Prelude.{◌≡◌, Any, IfOk, IfErr, OnOk};
 ghost use Rattle.std.specs.List.{AllZip};
-ghost use Rattle.groklog_definitions.specs.Compiled.{IsCompiledFrom, IsRefusedText, IsTooLarge, IsTooLargeOrNot, IsRefusal};
+ghost use Rattle.groklog_definitions.specs.Compiled.{IsCompiledFrom, IsRunPattern, IsRefusedText, IsTooLarge, IsTooLargeOrNot, IsRefusal};
 ghost use Rattle.groklog_definitions.specs.declared.compiled.Refusal.TheVariants.{Memory};
 
 use crate::library::Library;
 use crate::pattern_text::PatternText;
 use grok::{Error, Pattern};
 use std::alloc::{AllocError, AllocFailed, Global};
+
+/// A pattern of a run, with the text that it was compiled from.
+#[derive(Drop)]
+pub struct RunPattern<'a> {
+    pub text: &'a PatternText,
+    pub pattern: Pattern,
+}
 
 /// Why a pattern isn't compiled.
 #[derive(Clone, Copy)]
@@ -39,16 +46,11 @@ impl<T: Drop> From<AllocFailed<T>> for Refusal<'_> {
 }
 
 #[tactic(auto, using(crate::proofs::MeasuresDecide::carried))]
-fn is_too_large(
-    library: &Library<'_>,
-    pattern: &PatternText,
-    with_alias_only: bool,
-) -> Result<bool, AllocError>
-    ensures { IfOk result (IsTooLargeOrNot library.now.grok with_alias_only library.now.limit pattern.now) }
+fn is_too_large(library: &Library<'_>, pattern: &PatternText) -> Result<bool, AllocError>
+    ensures { IfOk result (IsTooLargeOrNot library.now.grok library.now.limit pattern.now) }
 {
-    let measure = library
-        .grok
-        .measure(pattern.text.as_str(), with_alias_only)?;
+    let grok = &library.grok;
+    let measure = grok.measure(pattern.text.as_str(), pattern.with_alias_only)?;
     Ok(library.limit.is_past(measure))
 }
 
@@ -58,21 +60,18 @@ fn is_too_large(
 /// # Errors
 ///
 /// Returns a refusal if the pattern can't be compiled or is too large, or if an allocation fails.
-pub fn compile<'a>(
-    library: &Library<'_>,
-    pattern: &'a PatternText,
-    with_alias_only: bool,
-) -> Result<Pattern, Refusal<'a>>
-    ensures pattern { IfOk result (IsCompiledFrom library.now.grok with_alias_only pattern.now) }
-    ensures limit { OnOk result (IsTooLarge library.now.grok with_alias_only library.now.limit pattern.now → ⊥) }
+pub fn compile<'a>(library: &Library<'_>, pattern: &'a PatternText) -> Result<Pattern, Refusal<'a>>
+    ensures pattern { IfOk result (IsCompiledFrom library.now.grok pattern.now) }
+    ensures limit { OnOk result (IsTooLarge library.now.grok library.now.limit pattern.now → ⊥) }
     ensures refusal { IfErr result (IsRefusal
-        (IsTooLarge library.now.grok with_alias_only library.now.limit pattern.now)
-        (IsRefusedText library.now.grok with_alias_only pattern.now)) }
+        (IsTooLarge library.now.grok library.now.limit pattern.now)
+        (IsRefusedText library.now.grok pattern.now)) }
 {
-    if is_too_large(library, pattern, with_alias_only)? {
+    if is_too_large(library, pattern)? {
         return Err(Refusal::TooLarge(pattern));
     }
-    match library.grok.compile(pattern.text.as_str(), with_alias_only) {
+    let grok = &library.grok;
+    match grok.compile(pattern.text.as_str(), pattern.with_alias_only) {
         Ok(compiled) => Ok(compiled),
         // own error: the library reported that an allocation failed.
         Err(Error::Memory) => Err(Refusal::Memory),
@@ -90,17 +89,16 @@ pub fn compile_all<'a>(
     alloc: Global,
     library: &Library<'_>,
     patterns: &'a [PatternText],
-    with_alias_only: bool,
-) -> Result<Vec<Pattern>, Refusal<'a>>
-    ensures patterns { IfOk result (λ all. AllZip (IsCompiledFrom library.now.grok with_alias_only)
-        patterns.now all.items) }
+) -> Result<Vec<RunPattern<'a>>, Refusal<'a>>
+    ensures patterns { IfOk result (λ all. AllZip (IsRunPattern library.now.grok) patterns.now all.items) }
     ensures refusal { IfErr result (IsRefusal
-        (Any (IsTooLarge library.now.grok with_alias_only library.now.limit) patterns.now)
-        (Any (IsRefusedText library.now.grok with_alias_only) patterns.now)) }
+        (Any (IsTooLarge library.now.grok library.now.limit) patterns.now)
+        (Any (IsRefusedText library.now.grok) patterns.now)) }
 {
     let mut all = Vec::new(alloc);
-    'patterns: for pattern in patterns {
-        all.push(compile(library, pattern, with_alias_only)?)?;
+    'patterns: for text in patterns {
+        let pattern = compile(library, text)?;
+        all.push(RunPattern { text, pattern })?;
     }
     Ok(all)
 }

@@ -5,8 +5,8 @@
 //!
 //! ```text
 //! let library = Library::new(alloc, true, &files, &words, most_bytes)?;
-//! let texts = patterns_of(alloc, &["%{IP:client} %{WORD:verb}"])?;
-//! let patterns = compile_all(alloc, &library, &texts, true)?;
+//! let texts = patterns_of(alloc, &["%{IP:client} %{WORD:verb}"], true)?;
+//! let patterns = compile_all(alloc, &library, &texts)?;
 //! ```
 //!
 //! Where a call has no section `# Errors`, its error is a failed allocation.
@@ -20,8 +20,8 @@ mod library;
 mod pattern_text;
 
 pub use common::{common_definition, list_common_definitions};
-pub use compiled::{Refusal, compile, compile_all};
+pub use compiled::{Refusal, RunPattern, compile, compile_all};
 pub use definition::{read_definition, skip_blanks};
 pub use definitions::{Origin, without_mark};
 pub use library::{Library, Limit, Source};
-pub use pattern_text::{PatternText, RunTexts, ordinal, patterns_of, start_pattern};
+pub use pattern_text::{PatternText, ordinal, patterns_of, start_pattern};

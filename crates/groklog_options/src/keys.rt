@@ -4,8 +4,7 @@ ghost use Rattle.groklog_options.specs.OptionFaults.{IsOptionFault};
 
 use crate::additions::option_of;
 use crate::task::{AnswerOptions, Task};
-use grok::Pattern;
-use groklog_answers::{Added, Plan};
+use groklog_answers::{Added, NamedPattern};
 use groklog_input::{Fault, Report};
 use std::alloc::{AllocError, Global};
 use std::collections::BTreeMap;
@@ -58,8 +57,10 @@ fn check_repeated(alloc: Global, answers: &AnswerOptions<'_>) -> Result<(), Faul
     Ok(())
 }
 
-fn has_key(pattern: &Pattern, key: &str) -> bool {
-    pattern.group_of(key).is_some()
+/// Returns whether a key is one of a pattern, or of the object that its plan describes.
+fn has_key(named: &NamedPattern<'_>, key: &str) -> bool {
+    let is_member = named.plan.is_some_and(|plan| plan.has_member(key));
+    is_member || named.pattern.group_of(key).is_some()
 }
 
 /// Returns the fault that reports that a pattern has the key that an option names.
@@ -74,18 +75,11 @@ fn taken_key(alloc: Global, option: &str, key: &str) -> Result<Fault, AllocError
 
 /// Checks that the key of what is added is neither a key of a pattern nor of the object that a plan
 /// describes.
-fn check_free(
-    alloc: Global,
-    patterns: &[Pattern],
-    plans: &[Plan<'_>],
-    added: &Added<'_>,
-) -> Result<(), Fault>
+fn check_free(alloc: Global, patterns: &[NamedPattern<'_>], added: &Added<'_>) -> Result<(), Fault>
     ensures { IfErr result IsOptionFault }
 {
     let key = added.key;
-    if patterns.iter().any(|pattern| has_key(pattern, key))
-        || plans.iter().any(|plan| plan.has_member(key))
-    {
+    if patterns.iter().any(|named| has_key(named, key)) {
         return Err(taken_key(alloc, option_of(added.what), key)?);
     }
     Ok(())
@@ -104,10 +98,10 @@ pub fn unknown_key(alloc: Global, option: &str, key: &str) -> Result<Fault, Allo
 pub type KeySet<'p> = BTreeMap<&'p str, ()>;
 
 /// Returns all keys of the patterns.
-pub fn key_set<'p>(alloc: Global, patterns: &'p [Pattern]) -> Result<KeySet<'p>, AllocError> {
+pub fn key_set<'p>(alloc: Global, patterns: &[NamedPattern<'p>]) -> Result<KeySet<'p>, AllocError> {
     let mut keys = BTreeMap::new(alloc);
-    for pattern in patterns {
-        for key in pattern.capture_names() {
+    for named in patterns {
+        for key in named.pattern.capture_names() {
             keys.insert(key, ())?;
         }
     }
@@ -121,7 +115,7 @@ pub fn key_set<'p>(alloc: Global, patterns: &'p [Pattern]) -> Result<KeySet<'p>,
 /// Returns a fault if no pattern has one of them, or if it is named twice, or an error if an allocation fails.
 pub fn check_list(
     alloc: Global,
-    patterns: &[Pattern],
+    patterns: &[NamedPattern<'_>],
     option: &str,
     keys: &[&str],
 ) -> Result<(), Fault>
@@ -151,8 +145,7 @@ pub fn check_list(
 pub fn check_keys(
     alloc: Global,
     task: &Task<'_>,
-    patterns: &[Pattern],
-    plans: &[Plan<'_>],
+    patterns: &[NamedPattern<'_>],
 ) -> Result<(), Fault>
     ensures { IfErr result IsOptionFault }
 {
@@ -160,7 +153,7 @@ pub fn check_keys(
         Task::Answers(answers) => {
             check_repeated(alloc, answers)?;
             for added in &answers.added {
-                check_free(alloc, patterns, plans, added)?;
+                check_free(alloc, patterns, added)?;
             }
             Ok(())
         }

@@ -14,14 +14,6 @@ one_of P Q (TooLarge pattern) large other = inr large
 one_of P Q (Invalid pattern) refused other = inl refused
 one_of P Q refusals.Memory is other = absurd (other refl)
 
-pub fault_of_refusal : (P Q : Type 0) → (refusal : Refusal) → (fault : Fault) → IsRefusal P Q refusal
-    → IsCompileFault (refusal ≢ refusals.Memory) fault → IsCompileFault (Q ⊎ P) fault
-fault_of_refusal P Q refusal (Pattern report) is other = one_of P Q refusal is other
-fault_of_refusal P Q refusal (Usage report) is other = other
-fault_of_refusal P Q refusal Memory is other = other
-fault_of_refusal P Q refusal (Read report) is other = other
-fault_of_refusal P Q refusal (Write report) is other = other
-
 either : {X : Type 0} → (P Q : X → Type 0) → (xs : List X) → Any Q xs ⊎ Any P xs → Any (λ x. Q x ⊎ P x) xs
 either P Q xs (inl (i, x, lt, is, holds)) = (i, x, lt, is, inl holds)
 either P Q xs (inr (i, x, lt, is, holds)) = (i, x, lt, is, inr holds)
@@ -35,4 +27,4 @@ fault_of_refusals P Q xs refusal Memory is other = other
 fault_of_refusals P Q xs refusal (Read report) is other = other
 fault_of_refusals P Q xs refusal (Write report) is other = other
 
-pub ruleset faults = (fault_of_refusal, fault_of_refusals)
+pub ruleset faults = (fault_of_refusals)

@@ -1,5 +1,5 @@
 -- What is reported of the pattern of a user that isn't compiled.
-use Rattle.std.specs.Prelude.{Bool, ◌⊎◌}
+use Rattle.std.specs.Prelude.{◌⊎◌}
 use Rattle.grok.specs.Maps.{Texts}
 use Rattle.groklog_input.specs.declared.fault.Fault.{Fault}
 use Rattle.groklog_input.specs.declared.fault.Fault.TheVariants.{Pattern, Usage, Memory, Read, Write}
@@ -8,9 +8,8 @@ use Rattle.groklog_definitions.specs.declared.library.Limit.{Limit}
 use Rattle.groklog_definitions.specs.declared.pattern_text.PatternText.{PatternText}
 
 -- The pattern is faulty, or its expanded text is larger than the limit allows.
-abbrev pub IsRefused : Texts → Bool → Limit → PatternText → Type 0
-IsRefused definitions alias_only limit text =
-    IsRefusedText definitions alias_only text ⊎ IsTooLarge definitions alias_only limit text
+abbrev pub IsRefused : Texts → Limit → PatternText → Type 0
+IsRefused definitions limit text = IsRefusedText definitions text ⊎ IsTooLarge definitions limit text
 
 -- The `Fault` is that of a pattern, and `is_refused` holds, or an allocation failed.
 abbrev pub IsCompileFault : Type 0 → Fault → Type 0

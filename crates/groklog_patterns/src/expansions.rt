@@ -352,9 +352,9 @@ pub fn too_large_report(
     alloc: Global,
     library: &Library<'_>,
     pattern: &PatternText,
-    with_alias_only: bool,
 ) -> Result<Report, AllocError> {
     let (grok, text) = (&library.grok, pattern.text.as_str());
+    let with_alias_only = pattern.with_alias_only;
     let measure = grok.measure(text, with_alias_only)?;
     let (what, excess) = excess_of(alloc, library, pattern, measure)?;
     let mut used = UsedDefinitions::of(alloc, grok, text, with_alias_only)?;

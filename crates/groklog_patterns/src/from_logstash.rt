@@ -2,7 +2,7 @@
 
 use grok::Measure;
 use grok::parser::{GrokComponent, grok_split};
-use groklog_definitions::{Library, Origin, PatternText, RunTexts, Source, common_definition};
+use groklog_definitions::{Library, Origin, PatternText, Source, common_definition};
 use groklog_input::{Fault, Report, add_excerpt};
 use oniguruma_syntax::{Outcome, Reason, Refused, Rewritten, Wish, rewrite};
 use std::alloc::{AllocError, Global};
@@ -12,7 +12,7 @@ use std::collections::BTreeMap;
 /// that they use, ready to be shown.
 #[derive(Drop)]
 pub struct Adapted {
-    pub texts: RunTexts,
+    pub texts: Vec<PatternText>,
     pub notes: Vec<String>,
 }
 
@@ -37,13 +37,13 @@ fn push_names<'t>(names: &mut Vec<&'t str>, text: &'t str) -> Result<(), AllocEr
 fn used_sources<'a>(
     alloc: Global,
     library: &Library<'a>,
-    patterns: &[&str],
+    patterns: &[PatternText],
 ) -> Result<Vec<Source<'a>>, AllocError> {
     let mut found = Vec::new(alloc);
     let mut seen = BTreeMap::new(alloc);
     let mut left = Vec::new(alloc);
     for pattern in patterns {
-        push_names(&mut left, pattern)?;
+        push_names(&mut left, pattern.text.as_str())?;
     }
     for _ in 0..u64::MAX {
         let Some(name) = left.pop() else {
@@ -179,7 +179,11 @@ fn adapt_pattern(
     match adapt(alloc, notes, text, words, whole)? {
         Ok(text) => {
             let words = String::from_str(alloc, words)?;
-            Ok(PatternText { text, words })
+            Ok(PatternText {
+                text,
+                words,
+                with_alias_only: pattern.with_alias_only,
+            })
         }
         Err(refused) => {
             let advice = refused.reason.advice();
@@ -196,29 +200,17 @@ fn adapt_pattern(
 pub fn adapt_all(
     alloc: Global,
     library: &mut Library<'_>,
-    given: &RunTexts,
+    given: &[PatternText],
     wish: Wish,
 ) -> Result<Adapted, Fault> {
-    let texts: Vec<&str> = given
-        .patterns
-        .iter()
-        .chain(given.start.iter())
-        .map(|pattern| pattern.text.as_str())
-        .collect(alloc)?;
-    let patterns = texts.as_slice();
     let mut notes = Vec::new(alloc);
-    for source in &used_sources(alloc, library, patterns)? {
+    for source in &used_sources(alloc, library, given)? {
         adapt_definition(alloc, library, &mut notes, *source, wish)?;
     }
-    let mut patterns = Vec::new(alloc);
-    for pattern in &given.patterns {
-        patterns.push(adapt_pattern(alloc, &mut notes, pattern, wish)?)?;
+    let mut texts = Vec::new(alloc);
+    for pattern in given {
+        texts.push(adapt_pattern(alloc, &mut notes, pattern, wish)?)?;
     }
-    let start = match &given.start {
-        Some(start) => Some(adapt_pattern(alloc, &mut notes, start, wish)?),
-        None => None,
-    };
-    let texts = RunTexts { patterns, start };
     Ok(Adapted { texts, notes })
 }
 

@@ -1,7 +1,7 @@
 //! Says by which placeholder the value of a key is found, and what that is defined as.
 
 use grok::{ByteLocation, Location, Pattern, WrittenByte};
-use groklog_definitions::{Library, PatternText};
+use groklog_definitions::{Library, RunPattern};
 use std::alloc::{AllocError, Global};
 use std::collections::BTreeMap;
 
@@ -19,11 +19,10 @@ struct Key<'k> {
     name: &'k str,
 }
 
-/// A pattern with its text, and the byte positions in the expanded text where its groups begin.
+/// A pattern, and the byte positions in the expanded text where its groups begin.
 #[derive(Drop)]
 struct Source<'p> {
-    text: &'p str,
-    pattern: &'p Pattern,
+    of: &'p RunPattern<'p>,
     /// Where the group of each name begins.
     starts: BTreeMap<&'p str, usize>,
 }
@@ -66,21 +65,14 @@ fn placeholder_of(written: ByteLocation<'_>) -> Option<Location<'_>> {
 }
 
 impl<'p> Source<'p> {
-    fn new(
-        alloc: Global,
-        text: &'p PatternText,
-        pattern: &'p Pattern,
-    ) -> Result<Source<'p>, AllocError> {
-        Ok(Source {
-            text: text.text.as_str(),
-            pattern,
-            starts: starts_of_groups(alloc, pattern.text())?,
-        })
+    fn new(alloc: Global, of: &'p RunPattern<'p>) -> Result<Source<'p>, AllocError> {
+        let starts = starts_of_groups(alloc, of.pattern.text())?;
+        Ok(Source { of, starts })
     }
 
     fn start(&self, key: &str) -> Option<usize> {
-        let group = self.pattern.group_of(key)?;
-        let name = self.pattern.group_names().get(group)?;
+        let pattern = &self.of.pattern;
+        let name = pattern.group_names().get(pattern.group_of(key)?)?;
         let name = name.as_ref()?;
         self.starts.get(&name.as_str()).copied()
     }
@@ -92,16 +84,16 @@ impl<'p> Source<'p> {
         alloc: Global,
         library: &'p Library<'_>,
         keys: &[Key<'_>],
-        with_alias_only: bool,
     ) -> Result<Vec<Option<Location<'p>>>, AllocError> {
         let mut starts = Vec::new(alloc);
         for key in keys {
             // No text has a byte at the greatest position.
             starts.push(self.start(key.name).unwrap_or(usize::MAX))?;
         }
+        let text = self.of.text;
         let found = library
             .grok
-            .locate_bytes(self.text, with_alias_only, &starts)?;
+            .locate_bytes(text.text.as_str(), text.with_alias_only, &starts)?;
         let mut locations = Vec::new(alloc);
         for written in found {
             let location = match written {
@@ -174,9 +166,8 @@ fn keys_of<'k>(
 pub fn titles_of(
     alloc: Global,
     library: &Library<'_>,
-    (texts, patterns): (&[PatternText], &[Pattern]),
+    patterns: &[RunPattern<'_>],
     keys: &[&str],
-    with_alias_only: bool,
 ) -> Result<Vec<String>, AllocError> {
     let (mut titles, mut rest) = (Vec::new(alloc), Vec::new(alloc));
     for (index, name) in keys.iter().enumerate() {
@@ -185,10 +176,9 @@ pub fn titles_of(
             rest.push(Key { index, name })?;
         }
     }
-    for (text, pattern) in texts.iter().zip(patterns) {
-        let (own, others) = keys_of(alloc, pattern, &rest)?;
-        let source = Source::new(alloc, text, pattern)?;
-        let locations = source.placeholders(alloc, library, &own, with_alias_only)?;
+    for pattern in patterns {
+        let (own, others) = keys_of(alloc, &pattern.pattern, &rest)?;
+        let locations = Source::new(alloc, pattern)?.placeholders(alloc, library, &own)?;
         add_placeholders(alloc, library, &mut titles, &own, &locations)?;
         rest = others;
     }

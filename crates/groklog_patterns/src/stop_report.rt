@@ -1,8 +1,8 @@
 //! Reports where a pattern stops in a line that doesn't match.
 
 use crate::stops::{Outermost, Searched, Stop, furthest_stop};
-use grok::{Location, Pattern};
-use groklog_definitions::{Library, PatternText};
+use grok::Location;
+use groklog_definitions::{Library, RunPattern};
 use groklog_input::{Excerpt, excerpt_of, visible};
 use regex_beginnings::{Found, Group};
 use std::alloc::{AllocError, Global};
@@ -157,17 +157,15 @@ fn bracket_in_line(
 }
 
 impl<'p, 'd> Explainer<'p, 'd> {
-    /// Takes the patterns of a run, with their texts.
+    /// Takes the patterns of a run.
     pub fn new(
         alloc: Global,
         library: &'p Library<'d>,
-        texts: &'p [PatternText],
-        patterns: &'p [Pattern],
-        with_alias_only: bool,
+        patterns: &'p [RunPattern<'p>],
     ) -> Result<Explainer<'p, 'd>, AllocError> {
         let mut all = Vec::new(alloc);
-        for (text, pattern) in texts.iter().zip(patterns) {
-            all.push(Searched::new(alloc, library, text, pattern, with_alias_only)?)?;
+        for pattern in patterns {
+            all.push(Searched::new(alloc, library, pattern)?)?;
         }
         Ok(Explainer {
             alloc,

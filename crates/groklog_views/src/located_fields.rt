@@ -8,7 +8,7 @@ ghost use Rattle.groklog_answers.specs.PlanViews.{names_of};
 ghost use Rattle.groklog_views.specs.Fields.{field_text, fields_text, numbered_value, numbers_at, values_at};
 
 use grok::{MatchesRef, Pattern};
-use groklog_answers::LineMatch;
+use groklog_answers::{LineMatch, NamedPattern};
 use marked_lines::Field;
 use std::alloc::{AllocError, Global};
 use std::collections::BTreeMap;
@@ -128,13 +128,13 @@ impl<'a> LocatedFields<'a> {
     /// Takes the patterns of a run, in their order. If `fields` is given, only these keys count.
     pub fn new(
         alloc: Global,
-        patterns: &'a [Pattern],
+        patterns: &[NamedPattern<'a>],
         fields: Option<&[&'a str]>,
     ) -> Result<LocatedFields<'a>, AllocError> {
         let mut numbers = KeyNumbers::new(alloc, fields)?;
         let mut numbers_of = Vec::new(alloc);
-        for pattern in patterns {
-            numbers_of.push(numbers.numbers_of(alloc, pattern)?)?;
+        for NamedPattern { pattern, .. } in patterns {
+            numbers_of.push(numbers.numbers_of(alloc, *pattern)?)?;
         }
         let KeyNumbers { keys, .. } = numbers;
         Ok(LocatedFields {

@@ -6,8 +6,8 @@ use Rattle.groklog_definitions.proofs.compiled.compile_all.Goals as goal
 
 pub returns-in_err-compile-clause-refusal : goal.returns-in_err-compile-clause-refusal
 returns-in_err-compile-clause-refusal c =
-    let here = refusal_of_any (IsTooLarge c.args.library.now.grok c.args.with_alias_only c.args.library.now.limit)
-    (IsRefusedText c.args.library.now.grok c.args.with_alias_only) c.args.patterns.now
+    let here = refusal_of_any (IsTooLarge c.args.library.now.grok c.args.library.now.limit)
+    (IsRefusedText c.args.library.now.grok) c.args.patterns.now
     c.patterns.pattern-index c.pattern-item.result c.in_err-compile.field-0.0 c.patterns-test.true c.pattern-item.is
     c.in_err-compile.ensures.refusal in
     grind (arith, here)
