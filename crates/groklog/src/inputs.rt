@@ -5,12 +5,12 @@ use crate::output::{Outlet, show_note};
 use crate::terminal::shows_progress;
 use grok_lines::{EventAnswers, EventStarts, LineHandler, SkipLines};
 use groklog_answers::{Flow, LineTask, SearchedLines, StartPattern};
-use groklog_definitions::RunPattern;
 use groklog_files::{STANDARD_INPUT, StandardInput, shown_name};
 use groklog_input::{
     Answered, Failure, Fault, FormedAnswers, Unit, Watched, answer_input, file_fault, visible,
 };
 use groklog_options::Options;
+use groklog_patterns::RunPattern;
 use std::alloc::{AllocError, Global};
 use std::fs::File;
 

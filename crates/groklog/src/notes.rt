@@ -2,9 +2,9 @@
 
 use grok::{Pattern, PlaceholderKey};
 use groklog_answers::asks_for_numbers;
-use groklog_definitions::{Library, RunPattern};
+use groklog_definitions::Library;
 use groklog_options::Options;
-use groklog_patterns::bare_name;
+use groklog_patterns::{RunPattern, bare_name};
 use std::alloc::{AllocError, Global};
 use std::collections::BTreeMap;
 use std::fs;

@@ -2,9 +2,9 @@
 
 use grok::Pattern;
 use groklog_answers::{Clash, NamedPattern, Plan, PlanError, SharedKey};
-use groklog_definitions::RunPattern;
 use groklog_input::{Fault, Report};
 use groklog_options::{GivenPattern, PlanOptions};
+use groklog_patterns::RunPattern;
 use std::alloc::{AllocError, Global};
 use std::collections::BTreeMap;
 

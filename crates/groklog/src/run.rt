@@ -7,12 +7,12 @@ use crate::output::{Outlet, show_notes, write_output};
 use crate::plans::{plan_all, with_tags};
 use crate::tasks::{Run, suggest};
 use groklog_definitions::{
-    Library, PatternText, RunPattern, list_common_definitions, patterns_of, start_pattern,
+    Library, PatternText, list_common_definitions, patterns_of, start_pattern,
 };
 use groklog_files::{ReadFiles, WholeFile, check_logs, is_same_file, read_definition_files};
 use groklog_input::{Fault, Report, TextFile};
 use groklog_options::{Options, Task, check_keys, chosen_fields};
-use groklog_patterns::{Adapted, adapt_all, adapt_own, compile_all, definition_lines};
+use groklog_patterns::{Adapted, RunPattern, adapt_all, adapt_own, compile_all, definition_lines};
 use std::alloc::{AllocError, Global};
 
 /// The options that ask for a file.

@@ -8,7 +8,7 @@ use groklog_definitions::Library;
 use groklog_input::visible;
 use groklog_options::{EVENT_LINES, EXPANSION, Options};
 use groklog_patterns::own_wholes;
-use log_samples::{Definitions, Fit, LogKind, compile_valid, count, finds_each, kind_of_log};
+use log_samples::{Fit, LogKind, compile_valid, count, finds_each, kind_of_log};
 use std::alloc::{AllocError, Global};
 use std::fmt::Write;
 use suggestions::{Advice, Format, Formats, Share, advise};
@@ -488,7 +488,7 @@ fn joined(event: Option<String>, line: Option<&str>) -> Result<Option<String>, A
 /// Counts again, for these events, what a pattern is suggested for: what its command matches.
 fn recount(
     alloc: Global,
-    definitions: Definitions<'_>,
+    library: &Library<'_>,
     advice: &mut Advice,
     events: &[Option<String>],
 ) -> Result<(), AllocError> {
@@ -502,12 +502,12 @@ fn recount(
     }
     advice.lines = events.len();
     for found in advice.alone.iter_mut() {
-        if let Some(pattern) = compile_valid(definitions, found.text.as_str())? {
+        if let Some(pattern) = compile_valid(library, found.text.as_str())? {
             found.fit.lines = count(&finds_each(alloc, &pattern, &texts)?);
         }
     }
     for share in advice.together.iter_mut() {
-        if let Some(pattern) = compile_valid(definitions, share.text.as_str())? {
+        if let Some(pattern) = compile_valid(library, share.text.as_str())? {
             let each = finds_each(alloc, &pattern, &texts)?;
             share.lines = take_found(&mut is_left, &each);
         }
@@ -606,11 +606,6 @@ pub fn report_of_sample(
     }
     let formats = formats_of(alloc, library)?;
     let beginnings = beginnings_of(alloc, &formats)?;
-    let definitions = Definitions {
-        grok: &library.grok,
-        most_bytes: library.limit.bytes,
-        most_groups: library.limit.groups,
-    };
     let formats = Formats {
         lines: &formats,
         beginnings: &beginnings,
@@ -620,12 +615,12 @@ pub fn report_of_sample(
         push_reader(alloc, &mut report, options, LogKind::Json)?;
         return Ok(Suggestions::without_pattern(report));
     }
-    let mut advice = advise(alloc, definitions, formats, &lines)?;
+    let mut advice = advise(alloc, library, formats, &lines)?;
     if let Some(start) = &advice.start
-        && let Some(start) = compile_valid(definitions, start.as_str())?
+        && let Some(start) = compile_valid(library, start.as_str())?
     {
         let events = events_of(sample, drops_return, &start)?;
-        recount(alloc, definitions, &mut advice, &events)?;
+        recount(alloc, library, &mut advice, &events)?;
     }
     if advice.alone.is_empty() && push_reader(alloc, &mut report, options, kind_of_log(&lines))? {
         return Ok(Suggestions::without_pattern(report));

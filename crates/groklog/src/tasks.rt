@@ -13,13 +13,13 @@ use grok_lines::SkipLines;
 use groklog_answers::{
     KeyCounts, LineTask, LogAnswers, NamedPattern, SearchedLines, Searches, header_of,
 };
-use groklog_definitions::{Library, RunPattern};
+use groklog_definitions::Library;
 use groklog_files::{ReadFiles, WholeFile};
 use groklog_input::{Fault, FormedAnswers};
 use groklog_options::{
     AnswerOptions, CountOptions, Options, PageOptions, ShownOptions, Task, layout_of,
 };
-use groklog_patterns::{Explainer, explain, titles_of};
+use groklog_patterns::{Explainer, RunPattern, explain, titles_of};
 use groklog_views::{LocatedFields, PageContent, Scope, page_html};
 use std::alloc::AllocError;
 

@@ -1,24 +1,51 @@
 //! Compiles the patterns of a run, and reports what is wrong with one.
 ghost use Rattle.std.specs.Prelude.{◌≢◌, Any, IfOk, IfErr};
 ghost use Rattle.std.specs.List.{AllZip};
-ghost use Rattle.groklog_definitions.specs.Compiled.{IsRunPattern};
-ghost use Rattle.groklog_patterns.specs.Compiled.{IsRefused, IsCompileFault};
+ghost use Rattle.groklog_patterns.specs.Compiled.{IsRunPattern, IsRefused, IsCompileFault};
 
 use crate::diagnosis::report_of;
 use crate::expansions::too_large_report;
-use groklog_definitions::{Library, PatternText, Refusal, RunPattern};
+use grok::Pattern;
+use groklog_definitions::{Library, PatternText, Refusal, compile};
 use groklog_input::Fault;
 use std::alloc::{AllocError, Global};
 
-fn fault_of(alloc: Global, library: &Library<'_>, refusal: Refusal<'_>) -> Result<Fault, AllocError>
-    ensures { IfOk result (IsCompileFault (refusal.entry ≢ Refusal.Memory)) }
+/// A pattern of a run, with the text that it was compiled from.
+#[derive(Drop)]
+pub struct RunPattern<'a> {
+    pub text: &'a PatternText,
+    pub pattern: Pattern,
+}
+
+fn fault_of(
+    alloc: Global,
+    library: &Library<'_>,
+    text: &PatternText,
+    refusal: Refusal,
+) -> Result<Fault, AllocError>
+    ensures { IfOk result (IsCompileFault (refusal ≢ Refusal.Memory)) }
 {
     Ok(match refusal {
-        Refusal::TooLarge(pattern) => Fault::Pattern(too_large_report(alloc, library, pattern)?),
-        Refusal::Invalid(pattern) => Fault::Pattern(report_of(alloc, library, pattern)?),
+        Refusal::TooLarge => Fault::Pattern(too_large_report(alloc, library, text)?),
+        Refusal::Invalid => Fault::Pattern(report_of(alloc, library, text)?),
         // own error: compiling reported that an allocation failed.
         Refusal::Memory => Fault::Memory,
     })
+}
+
+#[tactic(auto, using(crate::proofs::FaultsOfPatterns::faults))]
+fn compile_text<'a>(
+    alloc: Global,
+    library: &Library<'_>,
+    text: &'a PatternText,
+) -> Result<RunPattern<'a>, Fault>
+    ensures pattern { IfOk result (IsRunPattern library.now.grok library.now.limit text.now) }
+    ensures fault { IfErr result (IsCompileFault (IsRefused library.now.grok library.now.limit text.now)) }
+{
+    match compile(library, text.text.as_str(), text.with_alias_only) {
+        Ok(pattern) => Ok(RunPattern { text, pattern }),
+        Err(refusal) => Err(fault_of(alloc, library, text, refusal)?),
+    }
 }
 
 /// Compiles the patterns, in their order, unless their expanded texts are larger than the library takes.
@@ -27,18 +54,18 @@ fn fault_of(alloc: Global, library: &Library<'_>, refusal: Refusal<'_>) -> Resul
 ///
 /// Returns the fault of the first pattern that can't be compiled, or an error if an allocation
 /// fails.
-#[tactic(auto, using(crate::proofs::FaultsOfPatterns::faults))]
+#[tactic(auto, using(crate::proofs::PlaceByPlace::all_zip_more))]
 pub fn compile_all<'a>(
     alloc: Global,
     library: &Library<'_>,
-    patterns: &'a [PatternText],
+    texts: &'a [PatternText],
 ) -> Result<Vec<RunPattern<'a>>, Fault>
-    ensures patterns { IfOk result (λ all. AllZip (IsRunPattern library.now.grok) patterns.now all.items) }
-    ensures fault { IfErr result (IsCompileFault
-        (Any (IsRefused library.now.grok library.now.limit) patterns.now)) }
+    ensures patterns { IfOk result (λ all. AllZip (IsRunPattern library.now.grok library.now.limit) texts.now all.items) }
+    ensures fault { IfErr result (IsCompileFault (Any (IsRefused library.now.grok library.now.limit) texts.now)) }
 {
-    match groklog_definitions::compile_all(alloc, library, patterns) {
-        Ok(all) => Ok(all),
-        Err(refusal) => Err(fault_of(alloc, library, refusal)?),
+    let mut all = Vec::new(alloc);
+    'texts: for text in texts {
+        all.push(compile_text(alloc, library, text)?)?;
     }
+    Ok(all)
 }

@@ -1,7 +1,8 @@
 //! Explains patterns for `--explain`, without reading lines.
 
+use crate::compiled::RunPattern;
 use grok::{Measure, Pattern};
-use groklog_definitions::{Library, PatternText, RunPattern};
+use groklog_definitions::{Library, PatternText};
 use groklog_input::visible;
 use std::alloc::{AllocError, Global};
 

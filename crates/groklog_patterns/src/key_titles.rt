@@ -1,7 +1,8 @@
 //! Says by which placeholder the value of a key is found, and what that is defined as.
 
+use crate::compiled::RunPattern;
 use grok::{ByteLocation, Location, Pattern, WrittenByte};
-use groklog_definitions::{Library, RunPattern};
+use groklog_definitions::Library;
 use std::alloc::{AllocError, Global};
 use std::collections::BTreeMap;
 

@@ -23,7 +23,7 @@ mod stop_report;
 mod stops;
 mod written_definitions;
 
-pub use compiled::compile_all;
+pub use compiled::{RunPattern, compile_all};
 pub use diagnosis::bare_name;
 pub use explanation::explain;
 pub use from_logstash::{Adapted, adapt_all, adapt_own, own_wholes};

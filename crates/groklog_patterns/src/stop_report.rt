@@ -1,8 +1,9 @@
 //! Reports where a pattern stops in a line that doesn't match.
 
+use crate::compiled::RunPattern;
 use crate::stops::{Outermost, Searched, Stop, furthest_stop};
 use grok::Location;
-use groklog_definitions::{Library, RunPattern};
+use groklog_definitions::Library;
 use groklog_input::{Excerpt, excerpt_of, visible};
 use regex_beginnings::{Found, Group};
 use std::alloc::{AllocError, Global};

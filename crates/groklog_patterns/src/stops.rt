@@ -1,7 +1,8 @@
 //! Finds where patterns stop in a line that doesn't match.
 
+use crate::compiled::RunPattern;
 use grok::{ByteLocation, Location, WrittenByte};
-use groklog_definitions::{Library, PatternText, RunPattern};
+use groklog_definitions::{Library, PatternText};
 use regex_beginnings::{Beginnings, Found, Group, Piece};
 use std::alloc::{AllocError, Global};
 use std::ops::Range;

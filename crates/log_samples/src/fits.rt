@@ -5,8 +5,8 @@ ghost use Rattle.grok.specs.BorrowedMatches.{borrowed_keys, borrowed_captures};
 ghost use Rattle.log_samples.specs.Fits.{tells, fits};
 
 use crate::compiled::compile_valid;
-use crate::definitions::Definitions;
 use grok::{Matcher, MatchesRef, Pattern};
+use groklog_definitions::Library;
 use std::alloc::{AllocError, Global};
 use std::collections::BTreeMap;
 
@@ -176,13 +176,13 @@ impl Candidate {
     /// compiled, or fits no line.
     pub fn new(
         alloc: Global,
-        definitions: Definitions<'_>,
+        library: &Library<'_>,
         text: String,
         lines: &[&str],
     ) -> Result<Option<Candidate>, AllocError>
         ensures { IfOk result (λ found. IfSome found (λ candidate. 0 < candidate.fit.lines)) }
     {
-        let Some(pattern) = compile_valid(definitions, text.as_str())? else {
+        let Some(pattern) = compile_valid(library, text.as_str())? else {
             return Ok(None);
         };
         let FittedLines { each, fit } = fitted_lines(alloc, &pattern, lines)?;

@@ -93,7 +93,7 @@ fn commonest<'l>(counts: &[Count<'l>]) -> Option<Count<'l>> {
 /// time in another form does.
 fn count_beginnings<'l>(
     alloc: Global,
-    recognizer: &Recognizer<'_>,
+    recognizer: &Recognizer<'_, '_>,
     lines: &[&'l str],
 ) -> Result<(Vec<Count<'l>>, usize), AllocError> {
     let mut cutter = Cutter::new(alloc, recognizer.search(alloc)?);
@@ -113,7 +113,7 @@ fn count_beginnings<'l>(
 /// almost all lines have it, or if other lines have times, too, or begin with a digit, as a time in another form does.
 pub(crate) fn start_of(
     alloc: Global,
-    recognizer: &Recognizer<'_>,
+    recognizer: &Recognizer<'_, '_>,
     lines: &[&str],
 ) -> Result<Option<String>, AllocError> {
     let lines = aligned_of(lines);
