@@ -6,7 +6,7 @@ use groklog_definitions::Library;
 use groklog_options::Options;
 use groklog_patterns::{RunPattern, bare_name};
 use std::alloc::{AllocError, Global};
-use std::collections::BTreeMap;
+use std::collections::BTreeSet;
 use std::fs;
 use std::rt::Files;
 
@@ -38,12 +38,12 @@ fn shared_names(alloc: Global, pattern: &Pattern) -> Result<Vec<&str>, AllocErro
     if named == pattern.capture_names().count() {
         return Ok(shared);
     }
-    let mut of_placeholders = BTreeMap::new(alloc);
+    let mut of_placeholders = BTreeSet::new(alloc);
     for PlaceholderKey { key, .. } in pattern.placeholder_keys() {
-        of_placeholders.insert(key.as_str(), ())?;
+        of_placeholders.insert(key.as_str())?;
     }
     for name in pattern.group_names().iter().flatten() {
-        if of_placeholders.contains_key(&name.as_str()) {
+        if of_placeholders.contains(&name.as_str()) {
             shared.push(name.as_str())?;
         }
     }

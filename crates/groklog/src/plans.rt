@@ -6,7 +6,7 @@ use groklog_input::{Fault, Report};
 use groklog_options::{GivenPattern, PlanOptions};
 use groklog_patterns::RunPattern;
 use std::alloc::{AllocError, Global};
-use std::collections::BTreeMap;
+use std::collections::BTreeSet;
 
 /// Returns each key of a pattern with the key that its values are written under: with `--merge`, its
 /// base key. The keys of placeholders come first, in reading order.
@@ -15,7 +15,7 @@ fn shared_keys<'p>(
     plan: PlanOptions,
     pattern: &'p Pattern,
 ) -> Result<Vec<SharedKey<'p>>, AllocError> {
-    let mut known = BTreeMap::new(alloc);
+    let mut known = BTreeSet::new(alloc);
     let mut keys = Vec::new(alloc);
     for placeholder in pattern.placeholder_keys() {
         let key = placeholder.key.as_str();
@@ -24,11 +24,11 @@ fn shared_keys<'p>(
         } else {
             key
         };
-        known.insert(key, ())?;
+        known.insert(key)?;
         keys.push(SharedKey { key, base })?;
     }
     for key in pattern.capture_names() {
-        if !known.contains_key(&key) {
+        if !known.contains(&key) {
             keys.push(SharedKey { key, base: key })?;
         }
     }

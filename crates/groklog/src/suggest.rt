@@ -267,8 +267,7 @@ fn push_alone(
     for found in alone.iter().take(MOST_SHOWN) {
         let command = command_of(alloc, options, reading, &[found.text.as_str()])?;
         let Fit { lines, fields } = found.fit;
-        let row = format!(in alloc; "{lines:>5}  {fields:>6}  {command}\n")?;
-        report.push_str(row.as_str())?;
+        writeln!(report, "{lines:>5}  {fields:>6}  {command}")?;
     }
     Ok(())
 }
@@ -282,15 +281,14 @@ fn unit_of(reading: Reading<'_>) -> &'static str {
 }
 
 /// Appends how many lines each of several patterns matches: `(60 + 60 + 52)`.
-fn push_shares(alloc: Global, report: &mut String, patterns: &[Share]) -> Result<(), AllocError> {
+fn push_shares(report: &mut String, patterns: &[Share]) -> Result<(), AllocError> {
     if patterns.len() < 2 {
         return Ok(());
     }
     for (index, pattern) in patterns.iter().enumerate() {
         let before = if index == 0 { " (" } else { " + " };
         let lines = pattern.lines;
-        let share = format!(in alloc; "{before}{lines}")?;
-        report.push_str(share.as_str())?;
+        write!(report, "{before}{lines}")?;
     }
     report.push(')')
 }
@@ -317,9 +315,8 @@ fn push_together(
         [_] => "this pattern matches",
         _ => "these patterns match",
     };
-    let row = format!(in alloc; "{words} {matched} of {all} {unit}")?;
-    report.push_str(row.as_str())?;
-    push_shares(alloc, report, patterns)?;
+    write!(report, "{words} {matched} of {all} {unit}")?;
+    push_shares(report, patterns)?;
     report.push_str(":\n")?;
     let command = command_of(alloc, options, reading, &texts)?;
     report.push_str(command.as_str())?;
@@ -354,8 +351,7 @@ fn push_advice(
     let all = advice.lines;
     let unit = unit_of(reading);
     if reading.start.is_some() {
-        let words = format!(in alloc; "the lines are parts of {all} events\n")?;
-        report.push_str(words.as_str())?;
+        writeln!(report, "the lines are parts of {all} events")?;
     }
     push_alone(alloc, report, options, reading, advice)?;
     let (most, is_enough) = best_alone(advice);
@@ -363,10 +359,10 @@ fn push_advice(
         return Ok(());
     }
     if most <= all / 2 {
-        let words = format!(in alloc;
-            "no definition matches more than half of the {all} {unit}\n"
+        writeln!(
+            report,
+            "no definition matches more than half of the {all} {unit}"
         )?;
-        report.push_str(words.as_str())?;
     }
     push_together(alloc, report, options, reading, advice)
 }
@@ -551,8 +547,7 @@ fn push_reader(
             } else {
                 ", which mlr reads, too"
             };
-            let words = format!(in alloc; "each line has {columns} values{more}:\n")?;
-            report.push_str(words.as_str())?;
+            writeln!(report, "each line has {columns} values{more}:")?;
             push_other(alloc, report, options, reader_of(separator, has_header))?;
             Ok(has_header)
         }

@@ -12,7 +12,7 @@ use std::alloc::{AllocError, Global};
 
 fn all_keys<'p>(alloc: Global, patterns: &[NamedPattern<'p>]) -> Result<Vec<&'p str>, AllocError> {
     let mut all = Vec::new(alloc);
-    for key in key_set(alloc, patterns)?.keys() {
+    for key in &key_set(alloc, patterns)? {
         all.push(*key)?;
     }
     Ok(all)

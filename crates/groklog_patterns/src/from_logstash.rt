@@ -1,12 +1,12 @@
 //! Rewrites what was made for Logstash: the patterns, and the definitions that they use.
 
+use crate::expansions::uses_in;
 use grok::Measure;
-use grok::parser::{GrokComponent, grok_split};
 use groklog_definitions::{Library, Origin, PatternText, Source, common_definition};
 use groklog_input::{Fault, Report, add_excerpt};
 use oniguruma_syntax::{Outcome, Reason, Refused, Rewritten, Wish, rewrite};
 use std::alloc::{AllocError, Global};
-use std::collections::BTreeMap;
+use std::collections::BTreeSet;
 
 /// The patterns as they are compiled, and notes on what was changed in them and in the definitions
 /// that they use, ready to be shown.
@@ -17,17 +17,9 @@ pub struct Adapted {
 }
 
 /// Appends the names of the stored definitions that a text uses.
-fn push_names<'t>(names: &mut Vec<&'t str>, text: &'t str) -> Result<(), AllocError> {
-    for piece in grok_split(text) {
-        if let GrokComponent::GrokPattern {
-            name,
-            definition,
-            ..
-        } = piece
-            && definition.is_empty()
-        {
-            names.push(name)?;
-        }
+fn push_uses<'t>(alloc: Global, names: &mut Vec<&'t str>, text: &'t str) -> Result<(), AllocError> {
+    for each in &uses_in(alloc, text, true)? {
+        names.push(each.name)?;
     }
     Ok(())
 }
@@ -40,23 +32,23 @@ fn used_sources<'a>(
     patterns: &[PatternText],
 ) -> Result<Vec<Source<'a>>, AllocError> {
     let mut found = Vec::new(alloc);
-    let mut seen = BTreeMap::new(alloc);
+    let mut seen = BTreeSet::new(alloc);
     let mut left = Vec::new(alloc);
     for pattern in patterns {
-        push_names(&mut left, pattern.text.as_str())?;
+        push_uses(alloc, &mut left, pattern.text.as_str())?;
     }
     for _ in 0..u64::MAX {
         let Some(name) = left.pop() else {
             break;
         };
-        if seen.insert(name, true)?.is_some() {
+        if !seen.insert(name)? {
             continue;
         }
         let (Some(source), Some(text)) = (library.source(name), library.grok.definition(name))
         else {
             continue;
         };
-        push_names(&mut left, text)?;
+        push_uses(alloc, &mut left, text)?;
         if source.origin.is_own() {
             found.push(source)?;
         }
@@ -221,7 +213,7 @@ pub fn own_wholes<'a>(alloc: Global, library: &Library<'a>) -> Result<Vec<&'a st
     let mut used = Vec::new(alloc);
     for source in &own {
         if let Some(text) = library.grok.definition(source.name) {
-            push_names(&mut used, text)?;
+            push_uses(alloc, &mut used, text)?;
         }
     }
     let mut wholes = Vec::new(alloc);

@@ -1,6 +1,7 @@
 //! Says by which placeholder the value of a key is found, and what that is defined as.
 
 use crate::compiled::RunPattern;
+use crate::stop_report::cut_text;
 use grok::{ByteLocation, Location, Pattern, WrittenByte};
 use groklog_definitions::Library;
 use std::alloc::{AllocError, Global};
@@ -30,14 +31,7 @@ struct Source<'p> {
 
 /// Returns the text, which is cut if it is long.
 fn shortened(alloc: Global, text: &str) -> Result<String, AllocError> {
-    let mut part = String::new(alloc);
-    for c in text.chars().take(MOST_SHOWN) {
-        part.push(c)?;
-    }
-    if part.len() < text.len() {
-        part.push_str("...")?;
-    }
-    Ok(part)
+    cut_text(alloc, text, MOST_SHOWN)
 }
 
 /// Returns the byte position where the group of each name begins in an expanded text, which is read once.

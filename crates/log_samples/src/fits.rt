@@ -8,7 +8,7 @@ use crate::compiled::compile_valid;
 use grok::{Matcher, MatchesRef, Pattern};
 use groklog_definitions::Library;
 use std::alloc::{AllocError, Global};
-use std::collections::BTreeMap;
+use std::collections::BTreeSet;
 
 /// How well a pattern fits some lines.
 #[derive(Clone, Copy, PartialEq, Eq)]
@@ -77,14 +77,14 @@ fn tells(matches: MatchesRef<'_>, line: &str) -> bool
 /// The keys of a pattern that have had no value yet.
 #[derive(Drop)]
 struct MissingKeys<'p> {
-    keys: BTreeMap<&'p str, ()>,
+    keys: BTreeSet<&'p str>,
 }
 
 impl<'p> MissingKeys<'p> {
     fn of(alloc: Global, pattern: &'p Pattern) -> Result<MissingKeys<'p>, AllocError> {
-        let mut keys = BTreeMap::new(alloc);
+        let mut keys = BTreeSet::new(alloc);
         for key in pattern.capture_names() {
-            keys.insert(key, ())?;
+            keys.insert(key)?;
         }
         Ok(MissingKeys { keys })
     }
