@@ -1,11 +1,11 @@
 //! Runs the program over files, or over standard input: from the options come the definitions and the patterns,
 //! and then the task of the run is done.
 
-use crate::inputs::Outcome;
+use crate::inputs::RunOutcome;
 use crate::notes::{notes_of_extracts, notes_of_pattern, notes_of_words};
 use crate::output::{Outlet, show_notes, write_output};
 use crate::plans::{plan_all, with_tags};
-use crate::tasks::{Run, suggest};
+use crate::tasks::{CompiledRun, suggest};
 use groklog_definitions::{
     Library, PatternText, list_common_definitions, patterns_of, start_pattern,
 };
@@ -120,7 +120,7 @@ fn run_task(
     library: &Library<'_>,
     texts: &[PatternText],
     read: &ReadFiles,
-) -> Result<Outcome, Fault> {
+) -> Result<RunOutcome, Fault> {
     let alloc = rt.alloc();
     let outlet = Outlet::new(rt);
     if let Task::Suggestions(most) = options.task {
@@ -136,7 +136,7 @@ fn run_task(
     check_keys(alloc, &options.task, &named)?;
     show_notes_of_patterns(rt, options, library, &patterns)?;
     let fields = chosen_fields(alloc, &options.task, &named)?;
-    Run {
+    CompiledRun {
         outlet: &outlet,
         options,
         library,
@@ -162,7 +162,7 @@ fn run_over(
     files: &[TextFile],
     library: &Library<'_>,
     texts: &[PatternText],
-) -> Result<Outcome, Fault> {
+) -> Result<RunOutcome, Fault> {
     let read = ReadFiles::of(rt, &options.files, files)?;
     check_files(rt, options, &read)?;
     let given = &options.definitions;
@@ -179,7 +179,7 @@ fn run_over(
         name,
         read: &read,
     };
-    file.write(rt, outcome != Outcome::SomeUnread, lines.as_str())?;
+    file.write(rt, outcome != RunOutcome::SomeUnread, lines.as_str())?;
     Ok(outcome)
 }
 
@@ -189,12 +189,12 @@ fn run_over(
 ///
 /// Returns the first fault of a definition, a pattern, a key or a file that is written, before any line is
 /// read. After that, returns an error if an allocation, a file or the output fails.
-pub fn run(rt: &HostRuntime, options: &Options<'_>) -> Result<Outcome, Fault> {
+pub fn run(rt: &HostRuntime, options: &Options<'_>) -> Result<RunOutcome, Fault> {
     let alloc = rt.alloc();
     if let Task::List(text) = options.task {
         let lines = list_common_definitions(alloc, text)?;
         write_output(rt, lines.as_str())?;
-        return Ok(Outcome::AllRead);
+        return Ok(RunOutcome::AllRead);
     }
     show_notes(rt, &notes_of_words(rt, options)?)?;
     let given = &options.definitions;

@@ -11,7 +11,7 @@ use groklog_patterns::own_wholes;
 use log_samples::{Fit, LogKind, compile_valid, count, finds_each, kind_of_log};
 use std::alloc::{AllocError, Global};
 use std::fmt::Write;
-use suggestions::{Advice, Format, Formats, Share, advise};
+use suggestions::{Advice, Format, Formats, PatternShare, advise};
 
 /// How many patterns are shown at most.
 const MOST_SHOWN: usize = 5;
@@ -281,7 +281,7 @@ fn unit_of(reading: Reading<'_>) -> &'static str {
 }
 
 /// Appends how many lines each of several patterns matches: `(60 + 60 + 52)`.
-fn push_shares(report: &mut String, patterns: &[Share]) -> Result<(), AllocError> {
+fn push_shares(report: &mut String, patterns: &[PatternShare]) -> Result<(), AllocError> {
     if patterns.len() < 2 {
         return Ok(());
     }

@@ -10,8 +10,8 @@ use Rattle.grok.specs.RegexFinds.{MayRefuse}
 use Rattle.grok.specs.Engines.{engine_regex}
 use Rattle.grok.specs.declared.engine.regex_engine.RegexEngine.{RegexEngine}
 use Rattle.regex.specs.Strings.{regex_source, regex_names}
-use Rattle.groklog_definitions.specs.declared.compiled.Refusal.{Refusal}
-use Rattle.groklog_definitions.specs.declared.compiled.Refusal.TheVariants.{TooLarge, Invalid, Memory}
+use Rattle.groklog_definitions.specs.declared.compiled.CompileRefusal.{CompileRefusal}
+use Rattle.groklog_definitions.specs.declared.compiled.CompileRefusal.TheVariants.{TooLarge, Invalid, Memory}
 use Rattle.groklog_definitions.specs.declared.library.Limit.{Limit}
 
 -- The pattern is what the library compiles from the text, with these definitions and in this mode.
@@ -47,9 +47,9 @@ IsTooLarge definitions alias_only limit text = IsPast limit (measured_tree alias
 abbrev pub IsTooLargeOrNot : Texts → Bool → Limit → List ℕ → Bool → Type 0
 IsTooLargeOrNot definitions alias_only limit text = IsPastOrNot limit (measured_tree alias_only (tree_of definitions text))
 
--- The `Refusal` is the reason why a pattern isn't compiled: `is_too_large` holds, or `is_refused` holds, or an allocation
+-- The `CompileRefusal` is the reason why a pattern isn't compiled: `is_too_large` holds, or `is_refused` holds, or an allocation
 -- failed.
-abbrev pub IsRefusal : (is_too_large is_refused : Type 0) → Refusal → Type 0
+abbrev pub IsRefusal : (is_too_large is_refused : Type 0) → CompileRefusal → Type 0
 IsRefusal is_too_large is_refused TooLarge = is_too_large
 IsRefusal is_too_large is_refused Invalid = is_refused
 IsRefusal is_too_large is_refused Memory = Unit {0}

@@ -1,7 +1,7 @@
 //! Compiles patterns, as far as the limit of a library allows.
 ghost use Rattle.std.specs.Prelude.{◌≡◌, IfOk, IfErr, OnOk};
 ghost use Rattle.groklog_definitions.specs.Compiled.{IsCompiledFrom, IsRefusedText, IsTooLarge, IsTooLargeOrNot, IsRefusal};
-ghost use Rattle.groklog_definitions.specs.declared.compiled.Refusal.TheVariants.{Memory};
+ghost use Rattle.groklog_definitions.specs.declared.compiled.CompileRefusal.TheVariants.{Memory};
 
 use crate::library::Library;
 use grok::{Error, Pattern};
@@ -9,7 +9,7 @@ use std::alloc::AllocError;
 
 /// Why a pattern isn't compiled.
 #[derive(Clone, Copy)]
-pub enum Refusal {
+pub enum CompileRefusal {
     /// Its expanded text is larger than the library takes.
     TooLarge,
     /// It is empty or has a structural fault, or the engine refuses its expanded text.
@@ -18,12 +18,12 @@ pub enum Refusal {
     Memory,
 }
 
-impl From<AllocError> for Refusal {
+impl From<AllocError> for CompileRefusal {
     ghost from_gives = { λ _ refusal. refusal ≡ Memory };
 
     fn from(_error: AllocError) -> Self {
         // own error: an allocation failed.
-        Refusal::Memory
+        CompileRefusal::Memory
     }
 }
 
@@ -45,7 +45,11 @@ fn is_too_large(
 /// # Errors
 ///
 /// Returns a refusal if the pattern can't be compiled or is too large, or if an allocation fails.
-pub fn compile(library: &Library<'_>, text: &str, with_alias_only: bool) -> Result<Pattern, Refusal>
+pub fn compile(
+    library: &Library<'_>,
+    text: &str,
+    with_alias_only: bool,
+) -> Result<Pattern, CompileRefusal>
     ensures pattern { IfOk result (IsCompiledFrom library.now.grok with_alias_only text.now) }
     ensures limit { OnOk result (IsTooLarge library.now.grok with_alias_only library.now.limit text.now → ⊥) }
     ensures refusal { IfErr result (IsRefusal
@@ -53,15 +57,16 @@ pub fn compile(library: &Library<'_>, text: &str, with_alias_only: bool) -> Resu
         (IsRefusedText library.now.grok with_alias_only text.now)) }
 {
     if is_too_large(library, text, with_alias_only)? {
-        return Err(Refusal::TooLarge);
+        return Err(CompileRefusal::TooLarge);
     }
-    match library.grok.compile(text, with_alias_only) {
+    let grok = &library.grok;
+    match grok.compile(text, with_alias_only) {
         Ok(pattern) => Ok(pattern),
         // own error: the library reported that an allocation failed.
-        Err(Error::Memory) => Err(Refusal::Memory),
-        Err(_) if library.grok.diagnose(text, with_alias_only)?.is_some() => Err(Refusal::Invalid),
+        Err(Error::Memory) => Err(CompileRefusal::Memory),
+        Err(_) if grok.diagnose(text, with_alias_only)?.is_some() => Err(CompileRefusal::Invalid),
         // own error: nothing is wrong with this pattern, so compiling it failed because an
         // allocation did.
-        Err(_) => Err(Refusal::Memory),
+        Err(_) => Err(CompileRefusal::Memory),
     }
 }

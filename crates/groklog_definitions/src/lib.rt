@@ -19,8 +19,8 @@ mod library;
 mod pattern_text;
 
 pub use common::{common_definition, list_common_definitions};
-pub use compiled::{Refusal, compile};
+pub use compiled::{CompileRefusal, compile};
 pub use definition::{read_definition, skip_blanks};
 pub use definitions::{Origin, without_mark};
-pub use library::{Library, Limit, Source};
+pub use library::{DefinitionSource, Library, Limit};
 pub use pattern_text::{PatternText, ordinal, patterns_of, start_pattern};

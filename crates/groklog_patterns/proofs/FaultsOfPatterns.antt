@@ -1,20 +1,20 @@
 -- The fault that reports a refusal is that of a pattern that is refused.
 use Rattle.std.proofs.Common.{◌≡◌, ◌≢◌, ◌<◌, ◌⊎◌, ℕ, inl, inr, List, length, get_or, refl, sym}
 use Rattle.std.specs.Prelude.{Any}
-use Rattle.groklog_definitions.specs.declared.compiled.Refusal.{Refusal}
-use Rattle.groklog_definitions.specs.declared.compiled.Refusal.TheVariants as refusals
-use Rattle.groklog_definitions.specs.declared.compiled.Refusal.TheVariants.{TooLarge, Invalid}
+use Rattle.groklog_definitions.specs.declared.compiled.CompileRefusal.{CompileRefusal}
+use Rattle.groklog_definitions.specs.declared.compiled.CompileRefusal.TheVariants as refusals
+use Rattle.groklog_definitions.specs.declared.compiled.CompileRefusal.TheVariants.{TooLarge, Invalid}
 use Rattle.groklog_definitions.specs.Compiled.{IsRefusal}
 use Rattle.groklog_input.specs.declared.fault.Fault.{Fault}
 use Rattle.groklog_input.specs.declared.fault.Fault.TheVariants.{Pattern, Usage, Memory, Read, Write}
 use Rattle.groklog_patterns.specs.Compiled.{IsCompileFault}
 
-one_of : (P Q : Type 0) → (refusal : Refusal) → IsRefusal P Q refusal → refusal ≢ refusals.Memory → Q ⊎ P
+one_of : (P Q : Type 0) → (refusal : CompileRefusal) → IsRefusal P Q refusal → refusal ≢ refusals.Memory → Q ⊎ P
 one_of P Q TooLarge large other = inr large
 one_of P Q Invalid refused other = inl refused
 one_of P Q refusals.Memory is other = absurd (other refl)
 
-pub fault_of_refusal : (P Q : Type 0) → (refusal : Refusal) → (fault : Fault) → IsRefusal P Q refusal
+pub fault_of_refusal : (P Q : Type 0) → (refusal : CompileRefusal) → (fault : Fault) → IsRefusal P Q refusal
     → IsCompileFault (refusal ≢ refusals.Memory) fault → IsCompileFault (Q ⊎ P) fault
 fault_of_refusal P Q refusal (Pattern report) is other = one_of P Q refusal is other
 fault_of_refusal P Q refusal (Usage report) is other = other

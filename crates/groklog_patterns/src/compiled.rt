@@ -6,7 +6,7 @@ ghost use Rattle.groklog_patterns.specs.Compiled.{IsRunPattern, IsRefused, IsCom
 use crate::diagnosis::report_of;
 use crate::expansions::too_large_report;
 use grok::Pattern;
-use groklog_definitions::{Library, PatternText, Refusal, compile};
+use groklog_definitions::{CompileRefusal, Library, PatternText, compile};
 use groklog_input::Fault;
 use std::alloc::{AllocError, Global};
 
@@ -21,15 +21,15 @@ fn fault_of(
     alloc: Global,
     library: &Library<'_>,
     text: &PatternText,
-    refusal: Refusal,
+    refusal: CompileRefusal,
 ) -> Result<Fault, AllocError>
-    ensures { IfOk result (IsCompileFault (refusal ≢ Refusal.Memory)) }
+    ensures { IfOk result (IsCompileFault (refusal ≢ CompileRefusal.Memory)) }
 {
     Ok(match refusal {
-        Refusal::TooLarge => Fault::Pattern(too_large_report(alloc, library, text)?),
-        Refusal::Invalid => Fault::Pattern(report_of(alloc, library, text)?),
+        CompileRefusal::TooLarge => Fault::Pattern(too_large_report(alloc, library, text)?),
+        CompileRefusal::Invalid => Fault::Pattern(report_of(alloc, library, text)?),
         // own error: compiling reported that an allocation failed.
-        Refusal::Memory => Fault::Memory,
+        CompileRefusal::Memory => Fault::Memory,
     })
 }
 

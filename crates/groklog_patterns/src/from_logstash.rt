@@ -2,7 +2,7 @@
 
 use crate::expansions::uses_in;
 use grok::Measure;
-use groklog_definitions::{Library, Origin, PatternText, Source, common_definition};
+use groklog_definitions::{DefinitionSource, Library, Origin, PatternText, common_definition};
 use groklog_input::{Fault, Report, add_excerpt};
 use oniguruma_syntax::{Outcome, Reason, Refused, Rewritten, Wish, rewrite};
 use std::alloc::{AllocError, Global};
@@ -30,7 +30,7 @@ fn used_sources<'a>(
     alloc: Global,
     library: &Library<'a>,
     patterns: &[PatternText],
-) -> Result<Vec<Source<'a>>, AllocError> {
+) -> Result<Vec<DefinitionSource<'a>>, AllocError> {
     let mut found = Vec::new(alloc);
     let mut seen = BTreeSet::new(alloc);
     let mut left = Vec::new(alloc);
@@ -62,7 +62,7 @@ fn used_sources<'a>(
 fn can_leave_out<'a>(
     alloc: Global,
     library: &mut Library<'a>,
-    source: Source<'a>,
+    source: DefinitionSource<'a>,
 ) -> Result<bool, AllocError> {
     let Some(text) = common_definition(source.name) else {
         return Ok(false);
@@ -79,7 +79,7 @@ fn can_leave_out<'a>(
 fn advice_for<'a>(
     alloc: Global,
     library: &mut Library<'a>,
-    source: Source<'a>,
+    source: DefinitionSource<'a>,
     reason: Reason,
 ) -> Result<String, AllocError> {
     let advice = reason.advice();
@@ -128,8 +128,8 @@ fn adapt(
 }
 
 /// Returns words for a stored definition and for where it was given.
-fn location_of(alloc: Global, source: Source<'_>) -> Result<String, AllocError> {
-    let Source { name, origin } = source;
+fn location_of(alloc: Global, source: DefinitionSource<'_>) -> Result<String, AllocError> {
+    let DefinitionSource { name, origin } = source;
     format!(in alloc; "the definition {name} ({origin})")
 }
 
@@ -138,7 +138,7 @@ fn adapt_definition<'a>(
     alloc: Global,
     library: &mut Library<'a>,
     notes: &mut Vec<String>,
-    source: Source<'a>,
+    source: DefinitionSource<'a>,
     wish: Wish,
 ) -> Result<(), Fault> {
     let Some(text) = library.grok.definition(source.name) else {

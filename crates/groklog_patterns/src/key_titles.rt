@@ -23,7 +23,7 @@ struct Key<'k> {
 
 /// A pattern, and the byte positions in the expanded text where its groups begin.
 #[derive(Drop)]
-struct Source<'p> {
+struct GroupStarts<'p> {
     of: &'p RunPattern<'p>,
     /// Where the group of each name begins.
     starts: BTreeMap<&'p str, usize>,
@@ -59,10 +59,10 @@ fn placeholder_of(written: ByteLocation<'_>) -> Option<Location<'_>> {
     }
 }
 
-impl<'p> Source<'p> {
-    fn new(alloc: Global, of: &'p RunPattern<'p>) -> Result<Source<'p>, AllocError> {
+impl<'p> GroupStarts<'p> {
+    fn new(alloc: Global, of: &'p RunPattern<'p>) -> Result<GroupStarts<'p>, AllocError> {
         let starts = starts_of_groups(alloc, of.pattern.text())?;
-        Ok(Source { of, starts })
+        Ok(GroupStarts { of, starts })
     }
 
     fn start(&self, key: &str) -> Option<usize> {
@@ -173,7 +173,7 @@ pub fn titles_of(
     }
     for pattern in patterns {
         let (own, others) = keys_of(alloc, &pattern.pattern, &rest)?;
-        let locations = Source::new(alloc, pattern)?.placeholders(alloc, library, &own)?;
+        let locations = GroupStarts::new(alloc, pattern)?.placeholders(alloc, library, &own)?;
         add_placeholders(alloc, library, &mut titles, &own, &locations)?;
         rest = others;
     }

@@ -4,7 +4,7 @@ ghost use Rattle.groklog_definitions.specs.Compiled.{IsCompiledFrom};
 ghost use Rattle.log_samples.specs.Sizes.{IsWithin};
 
 use grok::Pattern;
-use groklog_definitions::{Library, Refusal, compile};
+use groklog_definitions::{CompileRefusal, Library, compile};
 use std::alloc::AllocError;
 
 /// Compiles a pattern in which placeholders with an alias capture. Returns `None` if the pattern or
@@ -18,8 +18,8 @@ pub fn compile_valid(library: &Library<'_>, text: &str) -> Result<Option<Pattern
 {
     match compile(library, text, true) {
         Ok(pattern) => Ok(Some(pattern)),
-        Err(Refusal::TooLarge | Refusal::Invalid) => Ok(None),
+        Err(CompileRefusal::TooLarge | CompileRefusal::Invalid) => Ok(None),
         // own error: compiling reported that an allocation failed.
-        Err(Refusal::Memory) => Err(AllocError),
+        Err(CompileRefusal::Memory) => Err(AllocError),
     }
 }

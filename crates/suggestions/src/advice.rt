@@ -29,7 +29,7 @@ pub struct Suggestion {
 
 /// One of several patterns that are used together.
 #[derive(Drop)]
-pub struct Share {
+pub struct PatternShare {
     pub text: String,
     /// How many lines it fits that the patterns before it don't fit.
     pub lines: usize,
@@ -46,7 +46,7 @@ pub struct Advice {
     /// among equal ones those with most fields.
     pub alone: Vec<Suggestion>,
     /// Patterns to be used together, in this order, if no pattern alone is for all lines.
-    pub together: Vec<Share>,
+    pub together: Vec<PatternShare>,
 }
 
 /// A definition for whole lines.
@@ -139,7 +139,7 @@ fn are_few(left: usize, all: usize) -> bool {
 /// Patterns that are used together, and the lines that none of them fits.
 #[derive(Drop)]
 struct Choice<'l> {
-    patterns: Vec<Share>,
+    patterns: Vec<PatternShare>,
     left: Vec<&'l str>,
 }
 
@@ -208,7 +208,7 @@ fn cover<'l>(
         take_fit(&mut is_left, candidate);
         count = count.saturating_sub(fit);
         let text = candidate.text.clone()?;
-        patterns.push(Share { text, lines: fit })?;
+        patterns.push(PatternShare { text, lines: fit })?;
     }
     let left = marked_of(alloc, lines, &is_left)?;
     Ok(Choice { patterns, left })
@@ -275,7 +275,7 @@ fn advise_on(
     if !are_few(left.len(), lines.len()) {
         for Proposal { text, fit } in propose(alloc, recognizer, &left)? {
             let lines = fit.lines;
-            together.push(Share { text, lines })?;
+            together.push(PatternShare { text, lines })?;
         }
     }
     let mut alone = Vec::new(alloc);

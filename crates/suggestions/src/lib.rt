@@ -17,10 +17,11 @@
 mod advice;
 mod align;
 mod columns;
+mod counts;
 mod heads;
 mod proposals;
 mod starts;
 mod text;
 mod values;
 
-pub use advice::{Advice, Format, Formats, Share, Suggestion, advise};
+pub use advice::{Advice, Format, Formats, PatternShare, Suggestion, advise};

@@ -1,7 +1,8 @@
 //! Proposes patterns for lines.
 ghost use Rattle.std.specs.Prelude.{◌≡◌, ◌+◌, ◌<◌, ◌≤◌, All, IfOk, IfSome, OnOk, vec_len};
 
-use crate::align::{Row, Template, align, count_kind};
+use crate::align::{Row, Template, align};
+use crate::counts::{commonest, count_line};
 use crate::heads::{LineView, longest_head};
 use crate::text::{RestForm, pattern_text};
 use crate::values::template_of_values;
@@ -115,17 +116,9 @@ fn template_of<'l>(
 fn commonest_head(alloc: Global, rows: &[Row<'_>]) -> Result<Option<Kind>, AllocError> {
     let mut counts = Vec::new(alloc);
     for row in rows {
-        count_kind(&mut counts, row.head())?;
+        count_line(&mut counts, row.head())?;
     }
-    let mut best = None;
-    let mut most = 0usize;
-    for count in &counts {
-        if count.lines > most {
-            most = count.lines;
-            best = count.kind;
-        }
-    }
-    Ok(best)
+    Ok(commonest(&counts).and_then(|count| count.what))
 }
 
 /// Returns the lines that begin with the kind of token with which most lines begin.
