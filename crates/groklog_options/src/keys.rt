@@ -4,11 +4,10 @@ ghost use Rattle.groklog_options.specs.OptionFaults.{IsOptionFault};
 
 use crate::additions::option_of;
 use crate::task::{AnswerOptions, Task};
-use grok::Pattern;
-use groklog_answers::{Added, Plan};
+use groklog_answers::{Added, NamedPattern};
 use groklog_input::{Fault, Report};
 use std::alloc::{AllocError, Global};
-use std::collections::BTreeMap;
+use std::collections::BTreeSet;
 
 /// Returns the option that adds something under this key, or `None` if none of these does.
 fn option_of_key(added: &[Added<'_>], key: &str) -> Option<&'static str> {
@@ -20,23 +19,19 @@ fn option_of_key(added: &[Added<'_>], key: &str) -> Option<&'static str> {
     None
 }
 
-/// Returns the fault that reports that two options name the same key.
-fn repeated_key(alloc: Global, first: &str, second: &str, key: &str) -> Result<Fault, AllocError>
+/// Returns the fault that reports what is wrong with a key of an option.
+fn key_fault(alloc: Global, what: String, advice: &str) -> Result<Fault, AllocError>
     ensures { IfOk result IsOptionFault }
 {
-    let what = format!(in alloc; "--{first} and --{second} have the same key {key}")?;
-    let advice = "name another key after one of them";
     Ok(Fault::Usage(Report::new(alloc, what.as_str(), advice)?))
 }
 
-/// Returns the fault that reports that an option names the key of Logstash's tags.
-fn key_of_tags(alloc: Global, option: &str) -> Result<Fault, AllocError>
+/// Returns the fault that reports that something else has the key that an option names.
+fn taken_key(alloc: Global, what: String, option: &str) -> Result<Fault, AllocError>
     ensures { IfOk result IsOptionFault }
 {
-    let what = format!(in alloc; "--logstash and --{option} have the same key tags")?;
     let advice = format!(in alloc; "name another key after --{option}")?;
-    let report = Report::new(alloc, what.as_str(), advice.as_str())?;
-    Ok(Fault::Usage(report))
+    key_fault(alloc, what, advice.as_str())
 }
 
 /// Checks that no two options name the same key.
@@ -47,68 +42,48 @@ fn check_repeated(alloc: Global, answers: &AnswerOptions<'_>) -> Result<(), Faul
     if answers.tags_failures
         && let Some(option) = option_of_key(added, "tags")
     {
-        return Err(key_of_tags(alloc, option)?);
+        let what = format!(in alloc; "--logstash and --{option} have the same key tags")?;
+        return Err(taken_key(alloc, what, option)?);
     }
     for (i, one) in added.iter().enumerate() {
         let earlier = added.get(..i).unwrap_or(&[]);
         if let Some(first) = option_of_key(earlier, one.key) {
-            return Err(repeated_key(alloc, first, option_of(one.what), one.key)?);
+            let (second, key) = (option_of(one.what), one.key);
+            let what = format!(in alloc; "--{first} and --{second} have the same key {key}")?;
+            return Err(key_fault(alloc, what, "name another key after one of them")?);
         }
     }
     Ok(())
 }
 
-fn has_key(pattern: &Pattern, key: &str) -> bool {
-    pattern.group_of(key).is_some()
-}
-
-/// Returns the fault that reports that a pattern has the key that an option names.
-fn taken_key(alloc: Global, option: &str, key: &str) -> Result<Fault, AllocError>
-    ensures { IfOk result IsOptionFault }
-{
-    let what = format!(in alloc; "--{option} has the key {key}, which a pattern has too")?;
-    let advice = format!(in alloc; "name another key after --{option}")?;
-    let report = Report::new(alloc, what.as_str(), advice.as_str())?;
-    Ok(Fault::Usage(report))
+/// Returns whether a key is one of a pattern, or of the object that its plan describes.
+fn has_key(named: &NamedPattern<'_>, key: &str) -> bool {
+    let is_member = named.plan.is_some_and(|plan| plan.has_member(key));
+    is_member || named.pattern.group_of(key).is_some()
 }
 
 /// Checks that the key of what is added is neither a key of a pattern nor of the object that a plan
 /// describes.
-fn check_free(
-    alloc: Global,
-    patterns: &[Pattern],
-    plans: &[Plan<'_>],
-    added: &Added<'_>,
-) -> Result<(), Fault>
+fn check_free(alloc: Global, patterns: &[NamedPattern<'_>], added: &Added<'_>) -> Result<(), Fault>
     ensures { IfErr result IsOptionFault }
 {
-    let key = added.key;
-    if patterns.iter().any(|pattern| has_key(pattern, key))
-        || plans.iter().any(|plan| plan.has_member(key))
-    {
-        return Err(taken_key(alloc, option_of(added.what), key)?);
+    let (option, key) = (option_of(added.what), added.key);
+    if patterns.iter().any(|named| has_key(named, key)) {
+        let what = format!(in alloc; "--{option} has the key {key}, which a pattern has too")?;
+        return Err(taken_key(alloc, what, option)?);
     }
     Ok(())
 }
 
-/// Returns the fault that reports a key that no pattern has.
-pub fn unknown_key(alloc: Global, option: &str, key: &str) -> Result<Fault, AllocError>
-    ensures { IfOk result IsOptionFault }
-{
-    let what = format!(in alloc; "{option} has the key {key}, which no pattern has")?;
-    let advice = "write a key of a pattern; --explain shows them";
-    Ok(Fault::Usage(Report::new(alloc, what.as_str(), advice)?))
-}
-
-/// Some keys of patterns, each once.
-pub type KeySet<'p> = BTreeMap<&'p str, ()>;
-
 /// Returns all keys of the patterns.
-pub fn key_set<'p>(alloc: Global, patterns: &'p [Pattern]) -> Result<KeySet<'p>, AllocError> {
-    let mut keys = BTreeMap::new(alloc);
-    for pattern in patterns {
-        for key in pattern.capture_names() {
-            keys.insert(key, ())?;
+pub fn key_set<'p>(
+    alloc: Global,
+    patterns: &[NamedPattern<'p>],
+) -> Result<BTreeSet<&'p str>, AllocError> {
+    let mut keys = BTreeSet::new(alloc);
+    for named in patterns {
+        for key in named.pattern.capture_names() {
+            keys.insert(key)?;
         }
     }
     Ok(keys)
@@ -121,22 +96,23 @@ pub fn key_set<'p>(alloc: Global, patterns: &'p [Pattern]) -> Result<KeySet<'p>,
 /// Returns a fault if no pattern has one of them, or if it is named twice, or an error if an allocation fails.
 pub fn check_list(
     alloc: Global,
-    patterns: &[Pattern],
+    patterns: &[NamedPattern<'_>],
     option: &str,
     keys: &[&str],
 ) -> Result<(), Fault>
     ensures { IfErr result IsOptionFault }
 {
     let known = key_set(alloc, patterns)?;
-    let mut named = BTreeMap::new(alloc);
+    let mut named = BTreeSet::new(alloc);
     for key in keys {
-        if !known.contains_key(key) {
-            return Err(unknown_key(alloc, option, key)?);
+        if !known.contains(key) {
+            let what = format!(in alloc; "{option} has the key {key}, which no pattern has")?;
+            let advice = "write a key of a pattern; --explain shows them";
+            return Err(key_fault(alloc, what, advice)?);
         }
-        if named.insert(*key, ())?.is_some() {
+        if !named.insert(*key)? {
             let what = format!(in alloc; "{option} has the key {key} twice")?;
-            let advice = "name each key once";
-            return Err(Fault::Usage(Report::new(alloc, what.as_str(), advice)?));
+            return Err(key_fault(alloc, what, "name each key once")?);
         }
     }
     Ok(())
@@ -151,8 +127,7 @@ pub fn check_list(
 pub fn check_keys(
     alloc: Global,
     task: &Task<'_>,
-    patterns: &[Pattern],
-    plans: &[Plan<'_>],
+    patterns: &[NamedPattern<'_>],
 ) -> Result<(), Fault>
     ensures { IfErr result IsOptionFault }
 {
@@ -160,7 +135,7 @@ pub fn check_keys(
         Task::Answers(answers) => {
             check_repeated(alloc, answers)?;
             for added in &answers.added {
-                check_free(alloc, patterns, plans, added)?;
+                check_free(alloc, patterns, added)?;
             }
             Ok(())
         }

@@ -480,11 +480,10 @@ pub fn report_of(
     alloc: Global,
     library: &Library<'_>,
     pattern: &PatternText,
-    with_alias_only: bool,
 ) -> Result<Report, AllocError> {
     let diagnosis = library
         .grok
-        .diagnose(pattern.text.as_str(), with_alias_only)?;
+        .diagnose(pattern.text.as_str(), pattern.with_alias_only)?;
     let (mut report, location) = match diagnosis {
         // own error: nothing is wrong with this pattern, so compiling it failed because an
         // allocation did.
