@@ -147,6 +147,32 @@ def finish(passed, failed, least=1):
     return 1 if failed else 0
 
 
+def beside(tests):
+    """These tests, of which `main` may run several at a time: none of them measures the time or the memory of the machine."""
+    for test in tests:
+        test.is_beside = True
+    return tests
+
+
+def attempt(test):
+    """Runs a test, and returns it with what it returned, or with why it failed."""
+    try:
+        return test, test(), None
+    except FAILURES as wrong:
+        return test, None, failure(wrong)
+
+
+def attempts(tests):
+    """Runs these tests, and yields in their order what `attempt` returns. Neighbours that are `beside` one another run several at a time."""
+    with concurrent.futures.ThreadPoolExecutor(os.cpu_count()) as pool:
+        for is_beside, group in itertools.groupby(tests, lambda test: getattr(test, "is_beside", False)):
+            yield from (pool.map if is_beside else map)(attempt, group)
+
+
+def name_of(test):
+    return getattr(test, "title", None) or test.__name__.replace("_", " ")
+
+
 def main(tests, least=1):
     """Runs these tests, or those of them that have the script's first word in their names, and returns the script's status. A
     test is a function. Unless it was `named`, its name is that of the function with blanks. What it returns is printed with it.
@@ -154,15 +180,11 @@ def main(tests, least=1):
     failure."""
     word = sys.argv[1] if len(sys.argv) > 1 else ""
     passed = failed = 0
-    for test in tests:
-        name = getattr(test, "title", None) or test.__name__.replace("_", " ")
-        if word not in name:
-            continue
-        try:
-            figures = test()
+    for test, figures, wrong in attempts([test for test in tests if word in name_of(test)]):
+        if wrong is None:
             passed += 1
-            print(f"{name}: as it should be" + (f" ({figures})" if figures else ""), flush=True)
-        except FAILURES as wrong:
+            print(f"{name_of(test)}: as it should be" + (f" ({figures})" if figures else ""), flush=True)
+        else:
             failed += 1
-            print(f"{name}: FAILED: {failure(wrong)}", flush=True)
+            print(f"{name_of(test)}: FAILED: {wrong}", flush=True)
     return finish(passed, failed, 1 if word else least)

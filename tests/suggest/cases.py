@@ -1,5 +1,6 @@
 """Short logs, one of each kind that gets an answer of its own, with the whole report that is right for it. Each report says what somebody
 wants who doesn't know the log: written by hand from the lines, before the program ran on them."""
+import shlex
 from dataclasses import dataclass, field
 
 
@@ -12,11 +13,12 @@ class Case:
     words: list = field(default_factory=lambda: ["log"])
     status: int = 0
     notes: str = ""
+    more_files: dict = field(default_factory=dict)
 
     @property
     def files(self):
         name = self.words[-1]
-        return {name: self.lines}
+        return {name: self.lines, **self.more_files}
 
 
 def rows(*rows, unit="lines"):
@@ -53,7 +55,10 @@ Traceback (most recent call last):
 ValueError: no
 2026-11-28 06:25:03,123 INFO worker stopped
 """
+EVENT = "  more\n2026-11-28 06:25:0{} INFO a\n"
 ERRORS = "11/28/2026 6:25:0{} AM {} {} disk\n"
+USERS = ["bob", "alice", "eve"]
+SIX = [word for name in "ABCDEF" for word in ("-D", f"{name}=(?<{name.lower()}>[0-9]+) x")]
 OWN = ["2f alice\n", "ab bob\n", "77 eve\n"]
 
 CASES = [
@@ -71,7 +76,7 @@ CASES = [
          "".join(COMBINED.format(n, n, n) + f" {'hit' if n % 2 else 'miss'}\n" for n in range(1, 5)),
          rows((4, 12, "groklog '^%{COMBINEDAPACHELOG} %{WORD:word}$' log"))),
     Case("keys and values after the head of syslog", "values take their keys",
-         "".join(LOGIN.format(n, user, n * 7) for n, user in enumerate(["bob", "alice", "eve"])),
+         "".join(LOGIN.format(n, user, n * 7) for n, user in enumerate(USERS)),
          rows((3, 6, "groklog '^%{SYSLOGBASE} user=%{WORD:user} action=login ms=%{INT:ms:int}$' log"),
               (3, 5, "groklog '^%{SYSLOGLINE}$' log"), (3, 5, "groklog '^%{JOURNALLINE}$' log"))),
     Case("a date with the name of a month", "no month and no host is literal",
@@ -101,6 +106,11 @@ CASES = [
                 r"(?:\n(?<more>(?s:.*)))?$' log", of=3, unit="events"),
          notes="groklog: line 4 of log isn't UTF-8, so it has no fields: use --lossy, or for another encoding "
                "iconv -f LATIN1 -t UTF-8 FILE | groklog ..\n"),
+    Case("events in two files, of which the second begins with a line that begins none", "it belongs to no event of the first file",
+         EVENT.format(3), "the lines are parts of 4 events\n" + proposal(
+             3, r"groklog --start '^%{TIMESTAMP_ISO8601}' '^%{TIMESTAMP_ISO8601:timestamp} %{LOGLEVEL:level} a(?:\n(?<more>(?s:.*)))?$' first log",
+             of=4, unit="events"),
+         words=["first", "log"], more_files={"first": EVENT.format(1)[7:] + EVENT.format(2)}),
     Case("lines of JSON", "jq", '{"level":"info","n":1}\n{"level":"warn","n":2}\n',
          "these lines look like JSON objects, which jq reads:\njq -c . log\n"),
     Case("comma-separated values with names", "mlr", "time,host,status,ms\n06:25:01,a,200,4\n06:25:02,b,404,9\n06:25:03,a,200,1\n",
@@ -193,6 +203,26 @@ CASES = [
          proposal(2, "groklog '^door %{INT:number:int} %{GREEDYDATA:message}$' log")),
     Case("a line of 64 KiB and a byte", "it isn't looked at", "door 1 " + "x" * (65537 - 7) + "\ndoor 2 y\ndoor 3 z\n",
          "1 line is longer than 64 KiB, and wasn't looked at\n" + proposal(2, "groklog '^door %{INT:number:int} %{WORD:word}$' log")),
+    Case("nine lines of ten that begin with a definition", "the tenth may begin with something else",
+         "".join(LOGIN.format(n, USERS[n % 3], n * 7) for n in range(9)) + "odd one\n",
+         rows((9, 6, "groklog '^%{SYSLOGBASE} user=%{WORD:user} action=login ms=%{INT:ms:int}$' log"),
+              (9, 5, "groklog '^%{SYSLOGLINE}$' log"), (9, 5, "groklog '^%{JOURNALLINE}$' log"))),
+    Case("eight lines of ten that begin with a definition", "too many begin with something else",
+         "".join(LOGIN.format(n, USERS[n % 3], n * 7) for n in range(8)) + "7 odd one\n8 odd two\n",
+         rows((8, 5, "groklog '^%{SYSLOGLINE}$' log"), (8, 5, "groklog '^%{JOURNALLINE}$' log"))
+         + "these patterns match 10 of 10 lines (8 + 2):\ngroklog -e '^%{SYSLOGLINE}$' -e '^%{INT:number:int} odd %{WORD:word}$' log\n"),
+    Case("one line of twenty that has no values", "the others are values between semicolons",
+         "".join(f"{n};{n + 1};{n + 2};{n + 3}\n" for n in range(1, 20)) + "20\n",
+         "each line has 4 values, which mlr reads, too:\nmlr --icsv --ifs ';' --implicit-csv-header --ojson cat log\n"
+         + proposal(19, "groklog '^%{INT:number:int};%{INT:number2:int};%{INT:number3:int};%{INT:number4:int}$' log", of=20)),
+    Case("one line of nineteen that has no values", "too few are values between semicolons for another program",
+         "".join(f"{n};{n + 1};{n + 2};{n + 3}\n" for n in range(1, 19)) + "total\n",
+         proposal(18, "groklog '^%{INT:number:int};%{INT:number2:int};%{INT:number3:int};%{INT:number4:int}$' log", of=19)),
+    Case("names of values above one line", "one is too few to see that the first has none", "a,b,c,d\n1,2,3,4\n",
+         "each line has 4 values, which mlr reads, too:\nmlr --icsv --implicit-csv-header --ojson cat log\n"
+         + proposal(2, "groklog '^%{WORD:word},%{WORD:word2},%{WORD:word3},%{WORD:word4}$' log")),
+    Case("six definitions that match all lines", "five are shown", "1 x\n2 x\n",
+         rows(*((2, 1, f"groklog --no-common {shlex.join(SIX)} '^%{{{name}}}$' log") for name in "ABCDE")), words=["--no-common", *SIX, "log"]),
     Case("two forms with equally many lines", "the one that comes first is the first", "[a]\n(b)\n[c]\n(d)\n",
          proposal(4, r"groklog -e '^\[%{WORD:word}\]$' -e '^\(%{WORD:word}\)$' log", shares=[2, 2])),
     Case("a missing file", "the others are read", DOOR.format(1, 1) + DOOR.format(2, 2),
