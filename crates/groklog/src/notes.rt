@@ -1,9 +1,9 @@
 //! Notes on what is allowed, but hardly what the user meant. They are shown before any line is read.
 
 use grok::{Pattern, PlaceholderKey};
-use groklog_answers::asks_for_numbers;
+use groklog_answers::{Lines, asks_for_numbers};
 use groklog_definitions::{Library, PatternText};
-use groklog_options::Options;
+use groklog_options::{Options, Task};
 use groklog_patterns::bare_name;
 use std::alloc::{AllocError, Global};
 use std::collections::BTreeMap;
@@ -119,6 +119,30 @@ pub fn notes_of_pattern(
         notes.push(note)?;
     }
     Ok(notes)
+}
+
+/// Returns the note that no pattern has a key, or `None` if that is of no importance: one has a key, or something is
+/// added to the answers, or those that don't match are asked for.
+pub fn note_without_keys(
+    alloc: Global,
+    task: &Task<'_>,
+    patterns: &[Pattern],
+) -> Result<Option<String>, AllocError> {
+    let is_for_fields = match task {
+        Task::Answers(answers) => {
+            !matches!(answers.lines, Lines::Unmatched) && answers.added.is_empty()
+        }
+        Task::Shown(_) | Task::Page(_) => true,
+        Task::Counts(_) | Task::Reasons(_) | Task::Suggestions(_) => false,
+        Task::Explanation | Task::List(_) => false,
+    };
+    let has_keys = patterns.iter().any(|pattern| pattern.capture_names().next().is_some());
+    if !is_for_fields || has_keys {
+        return Ok(None);
+    }
+    Ok(Some(format!(in alloc;
+        "no pattern has a key, so no value is found: add keys, as in '%{{WORD:word}}'"
+    )?))
 }
 
 /// Returns a note for each key of a pattern that has an extract which `--typed` doesn't know.
