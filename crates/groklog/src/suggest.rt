@@ -16,7 +16,7 @@ use suggestions::{Advice, Format, Formats, Share, advise};
 /// How many patterns are shown at most.
 const MOST_SHOWN: usize = 5;
 
-/// How many bytes a line has at most that is looked at.
+/// A line of more bytes than this isn't looked at.
 const MOST_LINE_BYTES: usize = 65536;
 
 /// The definitions for the beginnings of lines after which there may be any message.

@@ -20,8 +20,8 @@ pub struct Source<'a> {
     pub origin: Origin<'a>,
 }
 
-/// How many bytes a limit has for each group that it allows. The engine compares the name of each group with
-/// all others, so 4,000 of them take most of a second.
+/// A limit allows one group for each of this many bytes. The engine compares the name of each group with all
+/// others, so 4,000 of them take most of a second.
 const BYTES_FOR_A_GROUP: usize = 250;
 
 /// From how many bytes on a limit allows 4,000 groups.

@@ -198,7 +198,7 @@ impl<'a> UsedDefinitions<'a> {
 struct Part<'a> {
     /// Its first placeholder in the text.
     first: Use<'a>,
-    /// How many placeholders for it the text has.
+    /// How many placeholders the text has for this definition.
     times: u128,
     /// How many bytes or groups they become together.
     share: u128,
@@ -247,7 +247,7 @@ struct Growth<'a> {
     names: Vec<&'a str>,
     /// The text that uses a definition several times, or else the innermost text.
     text: &'a str,
-    /// The definition that it uses.
+    /// The definition from which most of that text comes, or `None` if it uses no definition.
     part: Option<Part<'a>>,
 }
 

@@ -56,7 +56,7 @@ fn starts_of_groups(alloc: Global, expanded: &str) -> Result<BTreeMap<&str, usiz
     Ok(starts)
 }
 
-/// Returns the location of the placeholder to whose group a byte belongs, or `None` if the byte was copied.
+/// Returns the location of the placeholder whose group has a byte, or `None` if the byte is one of regular text.
 fn placeholder_of(written: ByteLocation<'_>) -> Option<Location<'_>> {
     let ByteLocation { location, part } = written;
     match part {

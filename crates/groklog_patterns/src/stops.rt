@@ -33,7 +33,7 @@ pub struct Stop {
 pub struct Outermost {
     /// The byte range of the placeholder in the pattern.
     pub range: Range<usize>,
-    /// How many pieces come before it.
+    /// How many pieces come before the placeholder.
     pub count: usize,
 }
 

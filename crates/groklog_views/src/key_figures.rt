@@ -55,7 +55,7 @@ fn numbers_of<'c>(
     Ok(Some(numbers))
 }
 
-/// Returns the number that this many percent of `total` numbers don't exceed, and no smaller one does so.
+/// Returns the least number that at least `percent` percent of the `total` numbers don't exceed.
 fn percentile<'c>(numbers: &[CountedNumber<'c>], total: u64, percent: u64) -> &'c str {
     let rank = (total / 100).saturating_mul(percent);
     let rank = rank.saturating_add((total % 100).saturating_mul(percent).div_ceil(100));
@@ -69,8 +69,8 @@ fn percentile<'c>(numbers: &[CountedNumber<'c>], total: u64, percent: u64) -> &'
     ""
 }
 
-/// Returns what these values, `total` together, are like as numbers, or `None` if there are none or one of them isn't
-/// a number.
+/// Returns the least, the median and the other figures of these values, of which there are `total`, as numbers. Returns
+/// `None` if there are none, or if one of them isn't a number.
 pub(crate) fn figures_of<'c>(
     alloc: Global,
     values: &[Counted<'c>],

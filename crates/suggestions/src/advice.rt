@@ -154,7 +154,7 @@ fn count_left(candidate: &Candidate, is_left: &[bool]) -> usize {
     count
 }
 
-/// Returns the candidate that fits most of the lines that are left, and how many these are.
+/// Returns the candidate that fits most of the lines that are left, and how many of them it fits.
 fn best_of<'c>(candidates: &'c [Candidate], is_left: &[bool]) -> Option<(&'c Candidate, usize)> {
     let mut best = None;
     let mut most = 0usize;

@@ -35,7 +35,7 @@ enum Next {
     OptionalBlank,
     /// Tokens of different kinds, after which most lines agree again.
     Gap,
-    /// Nothing.
+    /// The end of the lines.
     End,
     /// Something different in each line.
     Rest,
