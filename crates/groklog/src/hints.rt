@@ -64,6 +64,8 @@ pub struct Hints {
     unit: Unit,
     /// Whether the hint at lines that aren't UTF-8 was given.
     was_broken: bool,
+    /// Whether a hint says that an input isn't a text in UTF-8, so that it is clear why nothing matches.
+    has_no_text: bool,
     /// Whether the first line of an input ended in a carriage return.
     has_return: bool,
 }
@@ -75,6 +77,7 @@ impl Hints {
             form,
             unit,
             was_broken: false,
+            has_no_text: false,
             has_return: false,
         }
     }
@@ -88,6 +91,7 @@ impl Hints {
         signs: Signs,
     ) -> Result<Option<String>, AllocError> {
         self.has_return = self.has_return || signs.has_return;
+        self.has_no_text = self.has_no_text || !matches!(signs.encoding, Encoding::Other);
         if let Some((packer, unpacker)) = packer_of(signs.encoding) {
             return Ok(Some(format!(in alloc;
                 "{name} looks like a file of {packer}: use {unpacker} FILE | groklog .."
@@ -129,7 +133,7 @@ impl Hints {
                 "0 of {counted} matched, and lines end in a carriage return: use --crlf"
             )?));
         }
-        if count == 0 || !is_news(options) {
+        if count == 0 || self.has_no_text || !is_news(options) {
             return Ok(None);
         }
         Ok(Some(format!(in alloc;

@@ -1,7 +1,7 @@
 //! Notes on what is allowed, but hardly what the user meant. They are shown before any line is read.
 
 use grok::{Pattern, PlaceholderKey};
-use groklog_answers::{Lines, asks_for_numbers};
+use groklog_answers::{Lines, OutputFormat, asks_for_numbers};
 use groklog_definitions::{Library, PatternText};
 use groklog_options::{Options, Task};
 use groklog_patterns::bare_name;
@@ -121,23 +121,30 @@ pub fn notes_of_pattern(
     Ok(notes)
 }
 
-/// Returns the note that no pattern has a key, or `None` if that is of no importance: one has a key, or something is
-/// added to the answers, or those that don't match are asked for.
-pub fn note_without_keys(
-    alloc: Global,
-    task: &Task<'_>,
-    patterns: &[Pattern],
-) -> Result<Option<String>, AllocError> {
-    let is_for_fields = match task {
+/// Returns whether the answers of a run are nothing but the values of keys, so that it is of no use without keys.
+/// `--csv` refuses that.
+fn is_for_values(options: &Options<'_>) -> bool {
+    match &options.task {
         Task::Answers(answers) => {
-            !matches!(answers.lines, Lines::Unmatched) && answers.added.is_empty()
+            !matches!(answers.lines, Lines::Unmatched)
+                && !matches!(answers.format, OutputFormat::Csv)
+                && answers.added.is_empty()
+                && !options.has_exit_status
         }
         Task::Shown(_) | Task::Page(_) => true,
         Task::Counts(_) | Task::Reasons(_) | Task::Suggestions(_) => false,
         Task::Explanation | Task::List(_) => false,
-    };
+    }
+}
+
+/// Returns the note that no pattern has a key, or `None` if one has or if the run is of use without.
+pub fn note_without_keys(
+    alloc: Global,
+    options: &Options<'_>,
+    patterns: &[Pattern],
+) -> Result<Option<String>, AllocError> {
     let has_keys = patterns.iter().any(|pattern| pattern.capture_names().next().is_some());
-    if !is_for_fields || has_keys {
+    if has_keys || !is_for_values(options) {
         return Ok(None);
     }
     Ok(Some(format!(in alloc;

@@ -88,7 +88,7 @@ fn show_notes_of_patterns(
         show_notes(rt, &notes)?;
         has_notes = has_notes || !notes.is_empty();
     }
-    if !has_notes && let Some(note) = note_without_keys(alloc, &options.task, patterns)? {
+    if !has_notes && let Some(note) = note_without_keys(alloc, options, patterns)? {
         show_note(rt, note.as_str())?;
     }
     Ok(())
