@@ -171,10 +171,10 @@ pub fn answer_inputs<'p, A: LogLines<'p>>(
         answer_files(outlet, answers, &options.files, &mut hints, shows)?
     };
     let matched = answers.answers.matched(rt.alloc())?;
-    if let Some(hint) = hints.at_end(matched) {
-        show_note(rt, hint)?;
+    if let Some(hint) = hints.at_end(rt.alloc(), matched, options)? {
+        show_note(rt, hint.as_str())?;
     }
-    Ok(outcome.with_found(options, matched != Matched::Nothing))
+    Ok(outcome.with_found(options, !matches!(matched, Matched::NoneOf(_))))
 }
 
 /// Searches each line of the inputs, or each event if `start` is the pattern of `--start`.

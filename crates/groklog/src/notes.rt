@@ -1,9 +1,9 @@
 //! Notes on what is allowed, but hardly what the user meant. They are shown before any line is read.
 
 use grok::{Pattern, PlaceholderKey};
-use groklog_answers::asks_for_numbers;
+use groklog_answers::{Lines, OutputFormat, asks_for_numbers};
 use groklog_definitions::Library;
-use groklog_options::Options;
+use groklog_options::{Options, Task};
 use groklog_patterns::{RunPattern, bare_name};
 use std::alloc::{AllocError, Global};
 use std::collections::BTreeSet;
@@ -117,6 +117,37 @@ pub fn notes_of_pattern(
         notes.push(note)?;
     }
     Ok(notes)
+}
+
+/// Returns whether the answers of a run are nothing but the values of keys, so that it is of no use without keys.
+/// `--csv` refuses that.
+fn is_for_values(options: &Options<'_>) -> bool {
+    match &options.task {
+        Task::Answers(answers) => {
+            !matches!(answers.lines, Lines::Unmatched)
+                && !matches!(answers.format, OutputFormat::Csv)
+                && answers.added.is_empty()
+                && !options.has_exit_status
+        }
+        Task::Shown(_) | Task::Page(_) => true,
+        Task::Counts(_) | Task::Reasons(_) | Task::Suggestions(_) => false,
+        Task::Explanation | Task::List(_) => false,
+    }
+}
+
+/// Returns the note that no pattern has a key, or `None` if one has or if the run is of use without.
+pub fn note_without_keys(
+    alloc: Global,
+    options: &Options<'_>,
+    patterns: &[RunPattern<'_>],
+) -> Result<Option<String>, AllocError> {
+    let has_keys = patterns.iter().any(|it| it.pattern.capture_names().next().is_some());
+    if has_keys || !is_for_values(options) {
+        return Ok(None);
+    }
+    Ok(Some(format!(in alloc;
+        "no pattern has a key, so no value is found: add keys, as in '%{{WORD:word}}'"
+    )?))
 }
 
 /// Returns a note for each key of a pattern that has an extract which `--typed` doesn't know.

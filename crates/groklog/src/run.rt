@@ -2,8 +2,8 @@
 //! and then the task of the run is done.
 
 use crate::inputs::RunOutcome;
-use crate::notes::{notes_of_extracts, notes_of_pattern, notes_of_words};
-use crate::output::{Outlet, show_notes, write_output};
+use crate::notes::{note_without_keys, notes_of_extracts, notes_of_pattern, notes_of_words};
+use crate::output::{Outlet, show_note, show_notes, write_output};
 use crate::plans::{plan_all, with_tags};
 use crate::tasks::{CompiledRun, suggest};
 use groklog_definitions::{
@@ -80,8 +80,14 @@ fn show_notes_of_patterns(
             show_notes(rt, &notes_of_extracts(alloc, pattern)?)?;
         }
     }
+    let mut has_notes = false;
     for pattern in patterns {
-        show_notes(rt, &notes_of_pattern(alloc, library, pattern)?)?;
+        let notes = notes_of_pattern(alloc, library, pattern)?;
+        show_notes(rt, &notes)?;
+        has_notes = has_notes || !notes.is_empty();
+    }
+    if !has_notes && let Some(note) = note_without_keys(alloc, options, patterns)? {
+        show_note(rt, note.as_str())?;
     }
     Ok(())
 }
