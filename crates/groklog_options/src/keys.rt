@@ -1,5 +1,6 @@
 //! Checks the keys that options such as `--tag` and `--count` name.
-ghost use Rattle.std.specs.Prelude.{IfOk, IfErr};
+ghost use Rattle.std.specs.Prelude.{◌≡◌, IfOk, IfErr, OnOk, false};
+ghost use Rattle.groklog_options.specs.Keys.{added_by_task, has_key, has_taken_key, some_has_key};
 ghost use Rattle.groklog_options.specs.OptionFaults.{IsOptionFault};
 
 use crate::additions::option_of;
@@ -56,21 +57,48 @@ fn check_repeated(alloc: Global, answers: &AnswerOptions<'_>) -> Result<(), Faul
     Ok(())
 }
 
-/// Returns whether a key is one of a pattern, or of the object that its plan describes.
-fn has_key(named: &NamedPattern<'_>, key: &str) -> bool {
-    let is_member = named.plan.is_some_and(|plan| plan.has_member(key));
-    is_member || named.pattern.group_of(key).is_some()
+fn has_key(named: &NamedPattern<'_>, key: &str) -> bool
+    ensures { result ≡ has_key named.now key.now }
+{
+    named.pattern.group_of(key).is_some()
+}
+
+fn some_has_key(patterns: &[NamedPattern<'_>], key: &str) -> bool
+    ensures { result ≡ some_has_key patterns.now key.now }
+{
+    patterns.iter().any(|named| has_key(named, key))
+}
+
+/// Returns whether a key is a member of the object that the plan of a pattern describes.
+fn is_member(named: &NamedPattern<'_>, key: &str) -> bool {
+    named.plan.is_some_and(|plan| plan.has_member(key))
 }
 
 /// Checks that the key of what is added is neither a key of a pattern nor of the object that a plan
 /// describes.
 fn check_free(alloc: Global, patterns: &[NamedPattern<'_>], added: &Added<'_>) -> Result<(), Fault>
-    ensures { IfErr result IsOptionFault }
+    ensures fault { IfErr result IsOptionFault }
+    ensures free { OnOk result (some_has_key patterns.now added.now.key.now ≡ false) }
 {
     let (option, key) = (option_of(added.what), added.key);
-    if patterns.iter().any(|named| has_key(named, key)) {
+    if some_has_key(patterns, key) || patterns.iter().any(|named| is_member(named, key)) {
         let what = format!(in alloc; "--{option} has the key {key}, which a pattern has too")?;
         return Err(taken_key(alloc, what, option)?);
+    }
+    Ok(())
+}
+
+/// Checks the same of the keys of all that is added.
+fn check_all_free(
+    alloc: Global,
+    patterns: &[NamedPattern<'_>],
+    added: &[Added<'_>],
+) -> Result<(), Fault>
+    ensures fault { IfErr result IsOptionFault }
+    ensures free { OnOk result (has_taken_key patterns.now added.now ≡ false) }
+{
+    'added: for one in added {
+        check_free(alloc, patterns, one)?;
     }
     Ok(())
 }
@@ -129,15 +157,13 @@ pub fn check_keys(
     task: &Task<'_>,
     patterns: &[NamedPattern<'_>],
 ) -> Result<(), Fault>
-    ensures { IfErr result IsOptionFault }
+    ensures fault { IfErr result IsOptionFault }
+    ensures free { OnOk result (has_taken_key patterns.now (added_by_task task.now) ≡ false) }
 {
     match task {
         Task::Answers(answers) => {
             check_repeated(alloc, answers)?;
-            for added in &answers.added {
-                check_free(alloc, patterns, added)?;
-            }
-            Ok(())
+            check_all_free(alloc, patterns, &answers.added)
         }
         Task::Counts(counts) => check_list(alloc, patterns, "--count", &counts.keys),
         Task::Shown(_) | Task::Page(_) | Task::Reasons(_) => Ok(()),
