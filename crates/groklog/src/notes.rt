@@ -1,7 +1,7 @@
 //! Notes on what is allowed, but hardly what the user meant. They are shown before any line is read.
 
 use grok::{Pattern, PlaceholderKey};
-use groklog_answers::{Lines, OutputFormat, asks_for_numbers};
+use groklog_answers::{Addition, Lines, OutputFormat, asks_for_numbers};
 use groklog_definitions::Library;
 use groklog_options::{Options, Task};
 use groklog_patterns::{RunPattern, bare_name};
@@ -119,23 +119,21 @@ pub fn notes_of_pattern(
     Ok(notes)
 }
 
-/// Returns whether the answers of a run are nothing but the values of keys, so that it is of no use without keys.
-/// `--csv` refuses that.
+/// Returns whether the answer to a line that matches is nothing but values of keys, so that it is of no use without
+/// keys. `--csv` refuses that.
 fn is_for_values(options: &Options<'_>) -> bool {
-    match &options.task {
-        Task::Answers(answers) => {
-            !matches!(answers.lines, Lines::Unmatched)
-                && !matches!(answers.format, OutputFormat::Csv)
-                && answers.added.is_empty()
-                && !options.has_exit_status
-        }
-        Task::Shown(_) | Task::Page(_) => true,
-        Task::Counts(_) | Task::Reasons(_) | Task::Suggestions(_) => false,
-        Task::Explanation | Task::List(_) => false,
-    }
+    let Task::Answers(answers) = &options.task else {
+        return false;
+    };
+    // --failed adds something to other lines only.
+    let is_bare = answers.added.iter().all(|added| added.what == Addition::Failed);
+    is_bare
+        && !matches!(answers.lines, Lines::Unmatched)
+        && !matches!(answers.format, OutputFormat::Csv)
+        && !options.has_exit_status
 }
 
-/// Returns the note that no pattern has a key, or `None` if one has or if the run is of use without.
+/// Returns the note that no pattern has a key, or `None` if one has, or if the answers are of use without.
 pub fn note_without_keys(
     alloc: Global,
     options: &Options<'_>,

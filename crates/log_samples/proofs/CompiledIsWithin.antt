@@ -1,5 +1,5 @@
 -- A pattern that was compiled, and isn't too large, is within the limit.
-use Rattle.std.proofs.Common.{◌≡◌, ℕ, ◌<◌, ◌≤◌, inl, inr, Bool, true, false, cond, List, length, Option, Some, None, arith}
+use Rattle.std.proofs.Common.{◌≡◌, ℕ, ◌^◌, ◌<◌, ◌≤◌, inl, inr, Bool, true, false, cond, List, length, Option, Some, None, arith}
 use Rattle.std.specs.Prelude.{nat_lt}
 use Rattle.grok.specs.Maps.{Texts}
 use Rattle.grok.specs.Tree.{Fault, first_structural}
@@ -16,29 +16,17 @@ not_above : (a b : ℕ) → ¬ (a < b) → b ≤ a
 not_above a b not = grind arith
 
 decided : (limit : Limit) (n g h : ℕ) (b : Bool) → (IsPast limit (cond b (Sized n g h) TooLong) → ⊥) → (n ≤ limit.bytes) × (g ≤ limit.groups)
-decided limit n g h true no = (not_above limit.bytes n (λ lt. no (inl lt)), not_above limit.groups g (λ lt. no (inr lt)))
-decided limit n g h false no = absurd (no tt)
+decided limit n g h true small = (not_above limit.bytes n (λ lt. small (inl lt)), not_above limit.groups g (λ lt. small (inr lt)))
+decided limit n g h false small = absurd (small tt)
 
 clean : (limit : Limit) (o : Option Fault) (n g h : ℕ) → o ≡ None → (IsPast limit (fault_or o (size_within n g h)) → ⊥)
     → (n ≤ limit.bytes) × (g ≤ limit.groups)
-clean limit None n g h e no = decided limit n g h (nat_lt n (2 ^ 64)) no
-clean limit (Some fault) n g h e no = cc
+clean limit None n g h e small = decided limit n g h (nat_lt n (2 ^ 64)) small
+clean limit (Some fault) n g h e small = cc
 
-both : (limit : Limit) (definitions : Texts) (text : List ℕ) (pattern : PatternValue RegexEngine)
+pub within : (limit : Limit) (definitions : Texts) (text : List ℕ) (pattern : PatternValue RegexEngine)
     → IsCompiledFrom definitions true text pattern → (IsTooLarge definitions true limit text → ⊥)
     → IsWithin limit.bytes limit.groups definitions text
-both limit definitions text pattern is no = let tree = tree_of definitions text in
+within limit definitions text pattern is small = let tree = tree_of definitions text in
     clean limit (first_structural tree) (length (expanded true tree)) (groups true tree) (nesting tree)
-    (no_structural true tree is.can.clean) no
-
-pub short : (limit : Limit) (definitions : Texts) (text : List ℕ) (pattern : PatternValue RegexEngine)
-    → IsCompiledFrom definitions true text pattern → (IsTooLarge definitions true limit text → ⊥)
-    → length (expanded true (tree_of definitions text)) ≤ limit.bytes
-short limit definitions text pattern is no = (both limit definitions text pattern is no).0
-
-pub few : (limit : Limit) (definitions : Texts) (text : List ℕ) (pattern : PatternValue RegexEngine)
-    → IsCompiledFrom definitions true text pattern → (IsTooLarge definitions true limit text → ⊥)
-    → groups true (tree_of definitions text) ≤ limit.groups
-few limit definitions text pattern is no = (both limit definitions text pattern is no).1
-
-pub ruleset within = (short, few)
+    (no_structural true tree is.can.clean) small

@@ -10,7 +10,6 @@ use std::alloc::AllocError;
 /// Compiles a pattern in which placeholders with an alias capture. Returns `None` if the pattern or
 /// a definition that it uses has a fault, or if its expanded text would be too large. That is known before any of the text
 /// is written.
-#[tactic(auto, using(crate::proofs::CompiledIsWithin::within))]
 pub fn compile_valid(library: &Library<'_>, text: &str) -> Result<Option<Pattern>, AllocError>
     ensures small { IfOk result (λ found. IfSome found (λ pattern. IsWithin
         library.now.limit.bytes library.now.limit.groups library.now.grok text.now)) }
