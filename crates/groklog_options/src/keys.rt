@@ -130,10 +130,9 @@ pub fn check_list(
 ) -> Result<(), Fault>
     ensures { IfErr result IsOptionFault }
 {
-    let known = key_set(alloc, patterns)?;
     let mut named = BTreeSet::new(alloc);
     for key in keys {
-        if !known.contains(key) {
+        if !some_has_key(patterns, key) {
             let what = format!(in alloc; "{option} has the key {key}, which no pattern has")?;
             let advice = "write a key of a pattern; --explain shows them";
             return Err(key_fault(alloc, what, advice)?);
