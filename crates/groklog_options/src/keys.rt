@@ -122,17 +122,18 @@ pub fn key_set<'p>(
 /// # Errors
 ///
 /// Returns a fault if no pattern has one of them, or if it is named twice, or an error if an allocation fails.
-pub fn check_list(
+pub fn check_list<'p>(
     alloc: Global,
-    patterns: &[NamedPattern<'_>],
+    patterns: &[NamedPattern<'p>],
     option: &str,
-    keys: &[&str],
+    keys: &[&'p str],
 ) -> Result<(), Fault>
     ensures { IfErr result IsOptionFault }
 {
+    let known = key_set(alloc, patterns)?;
     let mut named = BTreeSet::new(alloc);
     for key in keys {
-        if !some_has_key(patterns, key) {
+        if !known.contains(key) {
             let what = format!(in alloc; "{option} has the key {key}, which no pattern has")?;
             let advice = "write a key of a pattern; --explain shows them";
             return Err(key_fault(alloc, what, advice)?);
