@@ -126,7 +126,10 @@ fn is_for_values(options: &Options<'_>) -> bool {
         return false;
     };
     // --failed adds something to other lines only.
-    let is_bare = answers.added.iter().all(|added| added.what == Addition::Failed);
+    let is_bare = answers
+        .added
+        .iter()
+        .all(|added| added.what == Addition::Failed);
     is_bare
         && !matches!(answers.lines, Lines::Unmatched)
         && !matches!(answers.format, OutputFormat::Csv)
@@ -139,7 +142,9 @@ pub fn note_without_keys(
     options: &Options<'_>,
     patterns: &[RunPattern<'_>],
 ) -> Result<Option<String>, AllocError> {
-    let has_keys = patterns.iter().any(|it| it.pattern.capture_names().next().is_some());
+    let has_keys = patterns
+        .iter()
+        .any(|it| it.pattern.capture_names().next().is_some());
     if has_keys || !is_for_values(options) {
         return Ok(None);
     }
