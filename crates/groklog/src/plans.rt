@@ -95,7 +95,7 @@ pub fn plan_all<'p>(
 pub fn with_tags<'p>(
     alloc: Global,
     given: &[GivenPattern<'p>],
-    patterns: &'p [RunPattern<'p>],
+    patterns: &'p [RunPattern<'_>],
     plans: &'p [Plan<'p>],
 ) -> Result<Vec<NamedPattern<'p>>, AllocError> {
     let mut named = Vec::new(alloc);

@@ -124,7 +124,7 @@ fn run_task(
     rt: &HostRuntime,
     options: &Options<'_>,
     library: &Library<'_>,
-    texts: &[PatternText],
+    texts: Vec<PatternText>,
     read: &ReadFiles,
 ) -> Result<RunOutcome, Fault> {
     let alloc = rt.alloc();
@@ -132,7 +132,7 @@ fn run_task(
     if let Task::Suggestions(most) = options.task {
         return suggest(&outlet, options, library, most);
     }
-    let mut patterns = compile_all(alloc, library, texts)?;
+    let mut patterns = compile_all(alloc, library, &texts)?;
     let start = match options.events {
         Some(_) => patterns.pop(),
         None => None,
@@ -167,7 +167,7 @@ fn run_over(
     options: &Options<'_>,
     files: &[TextFile],
     library: &Library<'_>,
-    texts: &[PatternText],
+    texts: Vec<PatternText>,
 ) -> Result<RunOutcome, Fault> {
     let read = ReadFiles::of(rt, &options.files, files)?;
     check_files(rt, options, &read)?;
@@ -214,5 +214,5 @@ pub fn run(rt: &HostRuntime, options: &Options<'_>) -> Result<RunOutcome, Fault>
     )?;
     let texts = texts_of(rt, &mut library, options)?;
     adapt_others(rt, &mut library, options)?;
-    run_over(rt, options, &files, &library, &texts)
+    run_over(rt, options, &files, &library, texts)
 }
