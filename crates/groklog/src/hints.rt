@@ -1,8 +1,9 @@
 //! Hints at what an input is, for a user whose lines have no fields. They are shown after its lines
 //! were answered.
 
-use groklog_answers::Searches;
+use groklog_answers::{Lines, Searches};
 use groklog_input::{Encoding, LineForm, Signs, Unit};
+use groklog_options::{Options, Task};
 use std::alloc::{AllocError, Global};
 
 /// Whether the patterns of a run match any line or event.
@@ -10,8 +11,8 @@ use std::alloc::{AllocError, Global};
 pub enum Matched {
     /// One of them matches one.
     Any,
-    /// None of them matches any.
-    Nothing,
+    /// None of them matches any of this many.
+    NoneOf(u64),
     /// There are no patterns: they are suggested.
     NoPatterns,
 }
@@ -25,9 +26,22 @@ impl Matched {
         } else if counts.iter().any(|count| *count > 0) {
             Matched::Any
         } else {
-            Matched::Nothing
+            Matched::NoneOf(searches.unmatched().saturating_add(searches.broken()))
         })
     }
+}
+
+/// Returns whether a user would otherwise not be told that nothing matched: `--why`, `--summary` and `--exit-status` tell
+/// it, and `--unmatched` asks for such lines.
+fn is_news(options: &Options<'_>) -> bool {
+    let lines = match &options.task {
+        Task::Answers(answers) => answers.lines,
+        Task::Shown(shown) => shown.lines,
+        Task::Page(page) => page.lines,
+        Task::Counts(_) => Lines::All,
+        Task::Reasons(_) | Task::Suggestions(_) | Task::Explanation | Task::List(_) => return false,
+    };
+    !matches!(lines, Lines::Unmatched) && !options.has_summary && !options.has_exit_status
 }
 
 /// Returns the program that compressed an input and the one that unpacks it, or `None` if it isn't compressed.
@@ -50,6 +64,8 @@ pub struct Hints {
     unit: Unit,
     /// Whether the hint at lines that aren't UTF-8 was given.
     was_broken: bool,
+    /// Whether a hint says that an input isn't a text in UTF-8, so that it is clear why nothing matches.
+    has_no_text: bool,
     /// Whether the first line of an input ended in a carriage return.
     has_return: bool,
 }
@@ -61,6 +77,7 @@ impl Hints {
             form,
             unit,
             was_broken: false,
+            has_no_text: false,
             has_return: false,
         }
     }
@@ -74,6 +91,7 @@ impl Hints {
         signs: Signs,
     ) -> Result<Option<String>, AllocError> {
         self.has_return = self.has_return || signs.has_return;
+        self.has_no_text = self.has_no_text || !matches!(signs.encoding, Encoding::Other);
         if let Some((packer, unpacker)) = packer_of(signs.encoding) {
             return Ok(Some(format!(in alloc;
                 "{name} looks like a file of {packer}: use {unpacker} FILE | groklog .."
@@ -97,21 +115,29 @@ impl Hints {
         }
     }
 
-    /// Returns the hint to use `--crlf`, which comes at the end of a run if the first line of an input ended in
-    /// a carriage return and no line or event matched.
-    pub fn at_end(&self, matched: Matched) -> Option<&'static str> {
-        if !self.has_return || self.form.drops_return {
-            return None;
+    /// Returns the hint at the end of a run in which nothing matched: to use `--crlf` if the first line of an input
+    /// ended in a carriage return, or else `--why`.
+    pub fn at_end(
+        &self,
+        alloc: Global,
+        matched: Matched,
+        options: &Options<'_>,
+    ) -> Result<Option<String>, AllocError> {
+        // A command that is suggested has `--crlf` if it needs it.
+        let Matched::NoneOf(count) = matched else {
+            return Ok(None);
+        };
+        let counted = self.unit.counted(alloc, count)?;
+        if self.has_return && !self.form.drops_return {
+            return Ok(Some(format!(in alloc;
+                "0 of {counted} matched, and lines end in a carriage return: use --crlf"
+            )?));
         }
-        match (matched, self.unit) {
-            // A command that is suggested has `--crlf` if it needs it.
-            (Matched::Any | Matched::NoPatterns, _) => None,
-            (Matched::Nothing, Unit::Line) => {
-                Some("no line matches, and lines end in a carriage return: use --crlf")
-            }
-            (Matched::Nothing, Unit::Event) => {
-                Some("no event matches, and lines end in a carriage return: use --crlf")
-            }
+        if count == 0 || self.has_no_text || !is_news(options) {
+            return Ok(None);
         }
+        Ok(Some(format!(in alloc;
+            "0 of {counted} matched: use --why to see where the pattern stops"
+        )?))
     }
 }

@@ -3,7 +3,6 @@
 use crate::hints::{Hints, Matched};
 use crate::output::{Outlet, show_note};
 use crate::terminal::shows_progress;
-use grok::Pattern;
 use grok_lines::{EventAnswers, EventStarts, LineHandler, SkipLines};
 use groklog_answers::{Flow, LineTask, SearchedLines, StartPattern};
 use groklog_files::{STANDARD_INPUT, StandardInput, shown_name};
@@ -11,12 +10,13 @@ use groklog_input::{
     Answered, Failure, Fault, FormedAnswers, Unit, Watched, answer_input, file_fault, visible,
 };
 use groklog_options::Options;
+use groklog_patterns::RunPattern;
 use std::alloc::{AllocError, Global};
 use std::fs::File;
 
 /// How a run ended in which nothing failed but reading.
 #[derive(Clone, Copy, PartialEq, Eq)]
-pub enum Outcome {
+pub enum RunOutcome {
     /// All files were read, or as much of them as was wanted.
     AllRead,
     /// The same, and nothing was found, which `--exit-status` asks about.
@@ -25,12 +25,12 @@ pub enum Outcome {
     SomeUnread,
 }
 
-impl Outcome {
+impl RunOutcome {
     /// Returns how a run ends with these options that ended so far like this. `is_found` is whether it found
     /// something: a line or an event that matches, or a pattern for the lines.
-    pub fn with_found(self, options: &Options<'_>, is_found: bool) -> Outcome {
-        if self == Outcome::AllRead && options.has_exit_status && !is_found {
-            Outcome::NothingFound
+    pub fn with_found(self, options: &Options<'_>, is_found: bool) -> RunOutcome {
+        if self == RunOutcome::AllRead && options.has_exit_status && !is_found {
+            RunOutcome::NothingFound
         } else {
             self
         }
@@ -125,9 +125,9 @@ fn answer_files<'p, A: LogLines<'p>>(
     files: &[&'p str],
     hints: &mut Hints,
     shows: bool,
-) -> Result<Outcome, Fault> {
+) -> Result<RunOutcome, Fault> {
     let rt = outlet.rt;
-    let mut outcome = Outcome::AllRead;
+    let mut outcome = RunOutcome::AllRead;
     for file in files {
         if answers.answers.has_enough() {
             break;
@@ -144,7 +144,7 @@ fn answer_files<'p, A: LogLines<'p>>(
             Err(Fault::Read(report)) => {
                 // The run goes on if the report can't be written.
                 let _ = eprint!(rt; "{report}");
-                outcome = Outcome::SomeUnread;
+                outcome = RunOutcome::SomeUnread;
             }
             Err(fault) => return Err(fault),
         }
@@ -161,7 +161,7 @@ pub fn answer_inputs<'p, A: LogLines<'p>>(
     outlet: &Outlet<'_>,
     options: &Options<'p>,
     answers: &mut FormedAnswers<A>,
-) -> Result<Outcome, Fault> {
+) -> Result<RunOutcome, Fault> {
     let rt = outlet.rt;
     let mut hints = Hints::new(answers.form, options.unit());
     let outcome = if options.files.is_empty() {
@@ -171,10 +171,10 @@ pub fn answer_inputs<'p, A: LogLines<'p>>(
         answer_files(outlet, answers, &options.files, &mut hints, shows)?
     };
     let matched = answers.answers.matched(rt.alloc())?;
-    if let Some(hint) = hints.at_end(matched) {
-        show_note(rt, hint)?;
+    if let Some(hint) = hints.at_end(rt.alloc(), matched, options)? {
+        show_note(rt, hint.as_str())?;
     }
-    Ok(outcome.with_found(options, matched != Matched::Nothing))
+    Ok(outcome.with_found(options, !matches!(matched, Matched::NoneOf(_))))
 }
 
 /// Searches each line of the inputs, or each event if `start` is the pattern of `--start`.
@@ -182,16 +182,16 @@ pub fn answer_inputs<'p, A: LogLines<'p>>(
 pub fn answer_each<'p, A: LogLines<'p> + SkipLines + Drop>(
     outlet: &Outlet<'_>,
     options: &Options<'p>,
-    start: Option<&Pattern>,
+    start: Option<&RunPattern<'_>>,
     lines: A,
-) -> Result<(A, Outcome), Fault> {
+) -> Result<(A, RunOutcome), Fault> {
     let alloc = outlet.rt.alloc();
     let (Some(start), Some(events)) = (start, options.events) else {
         let mut lines = FormedAnswers::new(alloc, lines, options.form);
         let outcome = answer_inputs(outlet, options, &mut lines)?;
         return Ok((lines.into_answers(), outcome));
     };
-    let start = StartPattern::new(start)?;
+    let start = StartPattern::new(&start.pattern)?;
     let events = EventAnswers::new(alloc, lines, start, events.most_lines);
     let mut lines = FormedAnswers::new(alloc, events, options.form);
     let outcome = answer_inputs(outlet, options, &mut lines)?;

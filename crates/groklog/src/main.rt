@@ -17,7 +17,7 @@ mod tasks;
 mod terminal;
 mod why;
 
-use crate::inputs::Outcome;
+use crate::inputs::RunOutcome;
 use groklog_input::{Fault, Report};
 use groklog_options::{is_answer, read_options, usage_fault};
 use std::env;
@@ -45,14 +45,14 @@ fn read_words(rt: &HostRuntime) -> Result<Vec<String>, Fault> {
 }
 
 /// Runs the program with the words of its command line.
-fn work(rt: &HostRuntime) -> Result<Outcome, Fault> {
+fn work(rt: &HostRuntime) -> Result<RunOutcome, Fault> {
     let words = read_words(rt)?;
     match read_options(rt.alloc(), words.as_slice()) {
         Ok(options) => run::run(rt, &options),
         Err(error) if is_answer(&error) => {
             let text = error.to_string(rt.alloc())?;
             output::write_output(rt, text.as_str())?;
-            Ok(Outcome::AllRead)
+            Ok(RunOutcome::AllRead)
         }
         Err(error) => Err(usage_fault(rt.alloc(), &error)?),
     }
@@ -60,9 +60,9 @@ fn work(rt: &HostRuntime) -> Result<Outcome, Fault> {
 
 fn main(rt: HostRuntime) -> ExitCode {
     match work(&rt) {
-        Ok(Outcome::AllRead) => ExitCode::SUCCESS,
-        Ok(Outcome::NothingFound) => ExitCode::from(NOTHING_FOUND),
-        Ok(Outcome::SomeUnread) => ExitCode::from(UNREAD),
+        Ok(RunOutcome::AllRead) => ExitCode::SUCCESS,
+        Ok(RunOutcome::NothingFound) => ExitCode::from(NOTHING_FOUND),
+        Ok(RunOutcome::SomeUnread) => ExitCode::from(UNREAD),
         Err(fault) => {
             // If writing to standard error fails too, there is nothing left to do.
             let _ = eprint!(rt; "{fault}");

@@ -1,17 +1,18 @@
 //! Runs the program over files, or over standard input: from the options come the definitions and the patterns,
 //! and then the task of the run is done.
 
-use crate::inputs::Outcome;
-use crate::notes::{notes_of_extracts, notes_of_pattern, notes_of_words};
-use crate::output::{Outlet, show_notes, write_output};
-use crate::plans::plan_all;
-use crate::tasks::{Run, suggest};
-use grok::Pattern;
-use groklog_definitions::{Library, RunTexts, list_common_definitions, patterns_of, start_pattern};
+use crate::inputs::RunOutcome;
+use crate::notes::{note_without_keys, notes_of_extracts, notes_of_pattern, notes_of_words};
+use crate::output::{Outlet, show_note, show_notes, write_output};
+use crate::plans::{plan_all, with_tags};
+use crate::tasks::{CompiledRun, suggest};
+use groklog_definitions::{
+    Library, PatternText, list_common_definitions, patterns_of, start_pattern,
+};
 use groklog_files::{ReadFiles, WholeFile, check_logs, is_same_file, read_definition_files};
 use groklog_input::{Fault, Report, TextFile};
-use groklog_options::{Options, Task, check_keys, chosen_fields, with_tags};
-use groklog_patterns::{Adapted, adapt_all, adapt_own, compile, compile_all, definition_lines};
+use groklog_options::{Options, Task, check_keys, chosen_fields};
+use groklog_patterns::{Adapted, RunPattern, adapt_all, adapt_own, compile_all, definition_lines};
 use std::alloc::{AllocError, Global};
 
 /// The options that ask for a file.
@@ -19,25 +20,23 @@ pub const PAGE: &str = "--html";
 
 const DEFINITIONS: &str = "--write-definitions";
 
-/// Returns the patterns of the run as they are compiled. If they were made for Logstash, they are rewritten, with
+/// Returns the patterns of the run as they are compiled, that of `--start` last. If they were made for Logstash, they are rewritten, with
 /// the definitions that they use, and notes say what was changed.
 fn texts_of(
     rt: &HostRuntime,
     library: &mut Library<'_>,
     options: &Options<'_>,
-) -> Result<RunTexts, Fault> {
+) -> Result<Vec<PatternText>, Fault> {
     let alloc = rt.alloc();
     let words: Vec<&str> = options
         .patterns
         .iter()
         .map(|pattern| pattern.text)
         .collect(alloc)?;
-    let patterns = patterns_of(alloc, &words)?;
-    let start = match options.events {
-        Some(events) => Some(start_pattern(alloc, events.start)?),
-        None => None,
-    };
-    let given = RunTexts { patterns, start };
+    let mut given = patterns_of(alloc, &words, !options.is_all)?;
+    if let Some(events) = options.events {
+        given.push(start_pattern(alloc, events.start)?)?;
+    }
     let Some(wish) = options.definitions.wish else {
         return Ok(given);
     };
@@ -71,20 +70,24 @@ fn show_notes_of_patterns(
     rt: &HostRuntime,
     options: &Options<'_>,
     library: &Library<'_>,
-    texts: &RunTexts,
-    patterns: &[Pattern],
+    patterns: &[RunPattern<'_>],
 ) -> Result<(), AllocError> {
     let alloc = rt.alloc();
     if let Task::Answers(answers) = &options.task
         && answers.is_typed
     {
-        for pattern in patterns {
+        for RunPattern { pattern, .. } in patterns {
             show_notes(rt, &notes_of_extracts(alloc, pattern)?)?;
         }
     }
-    for (text, pattern) in texts.patterns.iter().zip(patterns) {
-        let notes = notes_of_pattern(alloc, library, text, pattern)?;
+    let mut has_notes = false;
+    for pattern in patterns {
+        let notes = notes_of_pattern(alloc, library, pattern)?;
         show_notes(rt, &notes)?;
+        has_notes = has_notes || !notes.is_empty();
+    }
+    if !has_notes && let Some(note) = note_without_keys(alloc, options, patterns)? {
+        show_note(rt, note.as_str())?;
     }
     Ok(())
 }
@@ -121,29 +124,28 @@ fn run_task(
     rt: &HostRuntime,
     options: &Options<'_>,
     library: &Library<'_>,
-    texts: &RunTexts,
+    texts: Vec<PatternText>,
     read: &ReadFiles,
-) -> Result<Outcome, Fault> {
+) -> Result<RunOutcome, Fault> {
     let alloc = rt.alloc();
     let outlet = Outlet::new(rt);
     if let Task::Suggestions(most) = options.task {
         return suggest(&outlet, options, library, most);
     }
-    let patterns = compile_all(alloc, library, &texts.patterns, !options.is_all)?;
-    let start = match &texts.start {
-        Some(start) => Some(compile(alloc, library, start, true)?),
+    let mut patterns = compile_all(alloc, library, &texts)?;
+    let start = match options.events {
+        Some(_) => patterns.pop(),
         None => None,
     };
-    let plans = plan_all(alloc, options.task.plan(), &texts.patterns, &patterns)?;
-    check_keys(alloc, &options.task, &patterns, &plans)?;
-    show_notes_of_patterns(rt, options, library, texts, &patterns)?;
-    let fields = chosen_fields(alloc, &options.task, &patterns)?;
+    let plans = plan_all(alloc, options.task.plan(), &patterns)?;
     let named = with_tags(alloc, &options.patterns, &patterns, &plans)?;
-    Run {
+    check_keys(alloc, &options.task, &named)?;
+    show_notes_of_patterns(rt, options, library, &patterns)?;
+    let fields = chosen_fields(alloc, &options.task, &named)?;
+    CompiledRun {
         outlet: &outlet,
         options,
         library,
-        texts: &texts.patterns,
         patterns: &patterns,
         start: start.as_ref(),
         named: &named,
@@ -165,8 +167,8 @@ fn run_over(
     options: &Options<'_>,
     files: &[TextFile],
     library: &Library<'_>,
-    texts: &RunTexts,
-) -> Result<Outcome, Fault> {
+    texts: Vec<PatternText>,
+) -> Result<RunOutcome, Fault> {
     let read = ReadFiles::of(rt, &options.files, files)?;
     check_files(rt, options, &read)?;
     let given = &options.definitions;
@@ -183,7 +185,7 @@ fn run_over(
         name,
         read: &read,
     };
-    file.write(rt, outcome != Outcome::SomeUnread, lines.as_str())?;
+    file.write(rt, outcome != RunOutcome::SomeUnread, lines.as_str())?;
     Ok(outcome)
 }
 
@@ -193,12 +195,12 @@ fn run_over(
 ///
 /// Returns the first fault of a definition, a pattern, a key or a file that is written, before any line is
 /// read. After that, returns an error if an allocation, a file or the output fails.
-pub fn run(rt: &HostRuntime, options: &Options<'_>) -> Result<Outcome, Fault> {
+pub fn run(rt: &HostRuntime, options: &Options<'_>) -> Result<RunOutcome, Fault> {
     let alloc = rt.alloc();
     if let Task::List(text) = options.task {
         let lines = list_common_definitions(alloc, text)?;
         write_output(rt, lines.as_str())?;
-        return Ok(Outcome::AllRead);
+        return Ok(RunOutcome::AllRead);
     }
     show_notes(rt, &notes_of_words(rt, options)?)?;
     let given = &options.definitions;
@@ -212,5 +214,5 @@ pub fn run(rt: &HostRuntime, options: &Options<'_>) -> Result<Outcome, Fault> {
     )?;
     let texts = texts_of(rt, &mut library, options)?;
     adapt_others(rt, &mut library, options)?;
-    run_over(rt, options, &files, &library, &texts)
+    run_over(rt, options, &files, &library, texts)
 }

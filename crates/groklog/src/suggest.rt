@@ -8,15 +8,15 @@ use groklog_definitions::Library;
 use groklog_input::visible;
 use groklog_options::{EVENT_LINES, EXPANSION, Options};
 use groklog_patterns::own_wholes;
-use log_samples::{Definitions, Fit, LogKind, compile_valid, count, finds_each, kind_of_log};
+use log_samples::{Fit, LogKind, compile_valid, count, finds_each, kind_of_log};
 use std::alloc::{AllocError, Global};
 use std::fmt::Write;
-use suggestions::{Advice, Format, Formats, Share, advise};
+use suggestions::{Advice, Format, Formats, PatternShare, advise};
 
 /// How many patterns are shown at most.
 const MOST_SHOWN: usize = 5;
 
-/// How many bytes a line has at most that is looked at.
+/// A line of more bytes than this isn't looked at.
 const MOST_LINE_BYTES: usize = 65536;
 
 /// The definitions for the beginnings of lines after which there may be any message.
@@ -267,8 +267,7 @@ fn push_alone(
     for found in alone.iter().take(MOST_SHOWN) {
         let command = command_of(alloc, options, reading, &[found.text.as_str()])?;
         let Fit { lines, fields } = found.fit;
-        let row = format!(in alloc; "{lines:>5}  {fields:>6}  {command}\n")?;
-        report.push_str(row.as_str())?;
+        writeln!(report, "{lines:>5}  {fields:>6}  {command}")?;
     }
     Ok(())
 }
@@ -282,15 +281,14 @@ fn unit_of(reading: Reading<'_>) -> &'static str {
 }
 
 /// Appends how many lines each of several patterns matches: `(60 + 60 + 52)`.
-fn push_shares(alloc: Global, report: &mut String, patterns: &[Share]) -> Result<(), AllocError> {
+fn push_shares(report: &mut String, patterns: &[PatternShare]) -> Result<(), AllocError> {
     if patterns.len() < 2 {
         return Ok(());
     }
     for (index, pattern) in patterns.iter().enumerate() {
         let before = if index == 0 { " (" } else { " + " };
         let lines = pattern.lines;
-        let share = format!(in alloc; "{before}{lines}")?;
-        report.push_str(share.as_str())?;
+        write!(report, "{before}{lines}")?;
     }
     report.push(')')
 }
@@ -317,9 +315,8 @@ fn push_together(
         [_] => "this pattern matches",
         _ => "these patterns match",
     };
-    let row = format!(in alloc; "{words} {matched} of {all} {unit}")?;
-    report.push_str(row.as_str())?;
-    push_shares(alloc, report, patterns)?;
+    write!(report, "{words} {matched} of {all} {unit}")?;
+    push_shares(report, patterns)?;
     report.push_str(":\n")?;
     let command = command_of(alloc, options, reading, &texts)?;
     report.push_str(command.as_str())?;
@@ -354,8 +351,7 @@ fn push_advice(
     let all = advice.lines;
     let unit = unit_of(reading);
     if reading.start.is_some() {
-        let words = format!(in alloc; "the lines are parts of {all} events\n")?;
-        report.push_str(words.as_str())?;
+        writeln!(report, "the lines are parts of {all} events")?;
     }
     push_alone(alloc, report, options, reading, advice)?;
     let (most, is_enough) = best_alone(advice);
@@ -363,10 +359,10 @@ fn push_advice(
         return Ok(());
     }
     if most <= all / 2 {
-        let words = format!(in alloc;
-            "no definition matches more than half of the {all} {unit}\n"
+        writeln!(
+            report,
+            "no definition matches more than half of the {all} {unit}"
         )?;
-        report.push_str(words.as_str())?;
     }
     push_together(alloc, report, options, reading, advice)
 }
@@ -488,7 +484,7 @@ fn joined(event: Option<String>, line: Option<&str>) -> Result<Option<String>, A
 /// Counts again, for these events, what a pattern is suggested for: what its command matches.
 fn recount(
     alloc: Global,
-    definitions: Definitions<'_>,
+    library: &Library<'_>,
     advice: &mut Advice,
     events: &[Option<String>],
 ) -> Result<(), AllocError> {
@@ -502,12 +498,12 @@ fn recount(
     }
     advice.lines = events.len();
     for found in advice.alone.iter_mut() {
-        if let Some(pattern) = compile_valid(definitions, found.text.as_str())? {
+        if let Some(pattern) = compile_valid(library, found.text.as_str())? {
             found.fit.lines = count(&finds_each(alloc, &pattern, &texts)?);
         }
     }
     for share in advice.together.iter_mut() {
-        if let Some(pattern) = compile_valid(definitions, share.text.as_str())? {
+        if let Some(pattern) = compile_valid(library, share.text.as_str())? {
             let each = finds_each(alloc, &pattern, &texts)?;
             share.lines = take_found(&mut is_left, &each);
         }
@@ -551,8 +547,7 @@ fn push_reader(
             } else {
                 ", which mlr reads, too"
             };
-            let words = format!(in alloc; "each line has {columns} values{more}:\n")?;
-            report.push_str(words.as_str())?;
+            writeln!(report, "each line has {columns} values{more}:")?;
             push_other(alloc, report, options, reader_of(separator, has_header))?;
             Ok(has_header)
         }
@@ -606,11 +601,6 @@ pub fn report_of_sample(
     }
     let formats = formats_of(alloc, library)?;
     let beginnings = beginnings_of(alloc, &formats)?;
-    let definitions = Definitions {
-        grok: &library.grok,
-        most_bytes: library.limit.bytes,
-        most_groups: library.limit.groups,
-    };
     let formats = Formats {
         lines: &formats,
         beginnings: &beginnings,
@@ -620,12 +610,12 @@ pub fn report_of_sample(
         push_reader(alloc, &mut report, options, LogKind::Json)?;
         return Ok(Suggestions::without_pattern(report));
     }
-    let mut advice = advise(alloc, definitions, formats, &lines)?;
+    let mut advice = advise(alloc, library, formats, &lines)?;
     if let Some(start) = &advice.start
-        && let Some(start) = compile_valid(definitions, start.as_str())?
+        && let Some(start) = compile_valid(library, start.as_str())?
     {
         let events = events_of(sample, drops_return, &start)?;
-        recount(alloc, definitions, &mut advice, &events)?;
+        recount(alloc, library, &mut advice, &events)?;
     }
     if advice.alone.is_empty() && push_reader(alloc, &mut report, options, kind_of_log(&lines))? {
         return Ok(Suggestions::without_pattern(report));

@@ -3,7 +3,7 @@ ghost use Rattle.std.specs.Prelude.{◌≡◌, ℕ, ◌+◌, ◌++◌, Ok, Err, 
 ghost use Rattle.std.specs.Result.{ForOk};
 ghost use Rattle.std.specs.Str.Lossy.{utf8_lossy};
 ghost use Rattle.grok.specs.{borrowed_line};
-ghost use Rattle.groklog_answers.specs.Searches.{patterns_in, next_number_in};
+ghost use Rattle.groklog_answers.specs.Searches.{patterns_in, next_number_in, matched_in, unmatched_in, broken_in};
 ghost use Rattle.groklog_answers.specs.SearchedLines.{found_in};
 
 use crate::layout::Failure;
@@ -166,6 +166,9 @@ impl<'p, T: LineTask<'p>> SearchedLines<'p, T> {
             (next_number_in self.old.searches) (utf8_lossy line.now)) }
         ensures enough { IfOk result (λ flow. flow ≡ Flow.Enough → out.new.items ≡ out.old.items) }
         ensures memory { OnErr result (out.new.items ≡ out.old.items) }
+        ensures broken { OnOk result (broken_in self.new.searches ≡ broken_in self.old.searches + 1) }
+        ensures matched { OnOk result (matched_in self.new.searches ≡ matched_in self.old.searches) }
+        ensures unmatched { OnOk result (unmatched_in self.new.searches ≡ unmatched_in self.old.searches) }
         ensures number { OnOk result (next_number_in self.new.searches ≡ next_number_in self.old.searches + 1) }
         ensures patterns { patterns_in self.new.searches ≡ patterns_in self.old.searches }
         ensures same { T.answer self.new.task ≡ T.answer self.old.task }

@@ -13,7 +13,7 @@ use std::rt::Files;
 /// wrote are taken.
 const MOST_TEMPORARIES: u32 = 1000;
 
-/// The advice for a file that has no room.
+/// The advice if the disk has no room for a file.
 const MORE_SPACE: &str = "free some space, or write to another disk";
 
 /// A file that an option asks for.
@@ -23,7 +23,7 @@ pub struct WholeFile<'a> {
     pub option: &'static str,
     /// The name of the file, as the user wrote it. `-` means standard output.
     pub name: &'a str,
-    /// The files that the run uses, which it must not be one of.
+    /// The files that the run uses. None of them may be written over.
     pub read: &'a ReadFiles,
 }
 

@@ -6,13 +6,13 @@ ghost use denote.Ref.{Bor};
 
 use crate::keys::{check_list, key_set};
 use crate::task::Task;
-use grok::Pattern;
+use groklog_answers::NamedPattern;
 use groklog_input::{Fault, Report};
 use std::alloc::{AllocError, Global};
 
-fn all_keys<'p>(alloc: Global, patterns: &'p [Pattern]) -> Result<Vec<&'p str>, AllocError> {
+fn all_keys<'p>(alloc: Global, patterns: &[NamedPattern<'p>]) -> Result<Vec<&'p str>, AllocError> {
     let mut all = Vec::new(alloc);
-    for key in key_set(alloc, patterns)?.keys() {
+    for key in &key_set(alloc, patterns)? {
         all.push(*key)?;
     }
     Ok(all)
@@ -27,7 +27,7 @@ fn all_keys<'p>(alloc: Global, patterns: &'p [Pattern]) -> Result<Vec<&'p str>, 
 pub fn chosen_fields<'p>(
     alloc: Global,
     task: &Task<'p>,
-    patterns: &'p [Pattern],
+    patterns: &[NamedPattern<'p>],
 ) -> Result<Option<Vec<&'p str>>, Fault>
     ensures fault { IfErr result IsOptionFault }
     ensures named { IfOk result (λ chosen. (keys : List (Bor (List ℕ))) → fields_of task.now ≡ Some keys

@@ -104,7 +104,7 @@ pub struct PageOptions<'a> {
 }
 
 impl<'a> Task<'a> {
-    /// Returns where values are written, which only answers say.
+    /// Returns whether answers are nested and merged objects. Tasks without answers have neither.
     pub fn plan(&self) -> PlanOptions
         ensures { result ≡ plan_of self.now }
     {

@@ -1,6 +1,7 @@
 //! What the values of a key are like, all together.
-ghost use Rattle.std.specs.Prelude.{Some, OnOk};
+ghost use Rattle.std.specs.Prelude.{◌≡◌, ◌≤◌, Some, OnOk, IfOk, IfSome, length, map};
 ghost use Rattle.groklog_answers.specs.KeyCounts.{CountsValue};
+ghost use Rattle.groklog_views.specs.Figures.{counted_value, value_at};
 
 use groklog_answers::{Counted, ValueCounts};
 use std::alloc::{AllocError, Global};
@@ -55,22 +56,30 @@ fn numbers_of<'c>(
     Ok(Some(numbers))
 }
 
-/// Returns the number that this many percent of `total` numbers don't exceed, and no smaller one does so.
-fn percentile<'c>(numbers: &[CountedNumber<'c>], total: u64, percent: u64) -> &'c str {
-    let rank = (total / 100).saturating_mul(percent);
-    let rank = rank.saturating_add((total % 100).saturating_mul(percent).div_ceil(100));
-    let mut passed = 0u64;
-    for number in numbers {
-        passed = passed.saturating_add(number.counted.count);
-        if passed >= rank {
+/// Returns the number at a rank, where the first one in order has the rank 1, and each has as many ranks as it came
+/// times.
+fn number_at<'c>(numbers: &[CountedNumber<'c>], rank: u64) -> &'c str
+    ensures { result.now ≡ value_at (map counted_value numbers.now) rank }
+{
+    let mut left = rank;
+    'numbers: for number in numbers {
+        if number.counted.count >= left {
             return number.counted.value;
         }
+        left -= number.counted.count;
     }
     ""
 }
 
-/// Returns what these values, `total` together, are like as numbers, or `None` if there are none or one of them isn't
-/// a number.
+/// Returns the least number that at least `percent` percent of the `total` numbers don't exceed.
+fn percentile<'c>(numbers: &[CountedNumber<'c>], total: u64, percent: u64) -> &'c str {
+    let rank = (total / 100).saturating_mul(percent);
+    let rank = rank.saturating_add((total % 100).saturating_mul(percent).div_ceil(100));
+    number_at(numbers, rank)
+}
+
+/// Returns the least, the median and the other figures of these values, of which there are `total`, as numbers. Returns
+/// `None` if there are none, or if one of them isn't a number.
 pub(crate) fn figures_of<'c>(
     alloc: Global,
     values: &[Counted<'c>],
@@ -179,9 +188,11 @@ fn stretches_at<'t>(
     alloc: Global,
     times: &'t [String],
     cut: usize,
-) -> Result<Option<Vec<Stretch<'t>>>, AllocError> {
+) -> Result<Option<Vec<Stretch<'t>>>, AllocError>
+    ensures { IfOk result (λ found. IfSome found (λ stretches. length stretches.items ≤ 24)) }
+{
     let mut stretches: Vec<Stretch<'t>> = Vec::new(alloc);
-    for time in times {
+    'times: for time in times {
         let beginning = time.as_str().get(..cut).unwrap_or(time.as_str());
         if let Some(last) = stretches.last_mut()
             && last.beginning == beginning
@@ -212,11 +223,13 @@ fn is_cut(time: &str, cut: usize) -> bool {
 pub(crate) fn stretches_of<'t>(
     alloc: Global,
     times: &'t [String],
-) -> Result<Vec<Stretch<'t>>, AllocError> {
+) -> Result<Vec<Stretch<'t>>, AllocError>
+    ensures { IfOk result (λ stretches. length stretches.items ≤ 24) }
+{
     let Some(first) = times.first() else {
         return Ok(Vec::new(alloc));
     };
-    for cut in (1..=first.len()).rev() {
+    'cuts: for cut in (1..=first.len()).rev() {
         if is_cut(first.as_str(), cut)
             && let Some(stretches) = stretches_at(alloc, times, cut)?
         {
