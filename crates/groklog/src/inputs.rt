@@ -182,7 +182,7 @@ pub fn answer_inputs<'p, A: LogLines<'p>>(
 pub fn answer_each<'p, A: LogLines<'p> + SkipLines + Drop>(
     outlet: &Outlet<'_>,
     options: &Options<'p>,
-    start: Option<&RunPattern<'_>>,
+    start: Option<&RunPattern>,
     lines: A,
 ) -> Result<(A, RunOutcome), Fault> {
     let alloc = outlet.rt.alloc();

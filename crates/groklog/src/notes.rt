@@ -14,7 +14,7 @@ use std::rt::Files;
 /// character class, where the engine reads the placeholder's group as characters.
 fn note_lost_keys(
     alloc: Global,
-    run_pattern: &RunPattern<'_>,
+    run_pattern: &RunPattern,
     notes: &mut Vec<String>,
 ) -> Result<(), AllocError> {
     let RunPattern { text, pattern } = run_pattern;
@@ -53,7 +53,7 @@ fn shared_names(alloc: Global, pattern: &Pattern) -> Result<Vec<&str>, AllocErro
 /// Adds a note for each key that two groups of the engine have, one of which was written by hand.
 fn note_shared_keys(
     alloc: Global,
-    run_pattern: &RunPattern<'_>,
+    run_pattern: &RunPattern,
     notes: &mut Vec<String>,
 ) -> Result<(), AllocError> {
     let RunPattern { text, pattern } = run_pattern;
@@ -69,7 +69,7 @@ fn note_shared_keys(
 /// Adds a note for each key that is the name of an extract, as that of `%{IP:int}`.
 fn note_extracts_as_keys(
     alloc: Global,
-    run_pattern: &RunPattern<'_>,
+    run_pattern: &RunPattern,
     notes: &mut Vec<String>,
 ) -> Result<(), AllocError> {
     let RunPattern { text, pattern } = run_pattern;
@@ -90,7 +90,7 @@ fn note_extracts_as_keys(
 fn note_on_name(
     alloc: Global,
     library: &Library<'_>,
-    run_pattern: &RunPattern<'_>,
+    run_pattern: &RunPattern,
 ) -> Result<Option<String>, AllocError> {
     let text = run_pattern.text;
     let (pattern, words) = (text.text.as_str(), text.words.as_str());
@@ -107,7 +107,7 @@ fn note_on_name(
 pub fn notes_of_pattern(
     alloc: Global,
     library: &Library<'_>,
-    run_pattern: &RunPattern<'_>,
+    run_pattern: &RunPattern,
 ) -> Result<Vec<String>, AllocError> {
     let mut notes = Vec::new(alloc);
     note_lost_keys(alloc, run_pattern, &mut notes)?;
@@ -140,7 +140,7 @@ fn is_for_values(options: &Options<'_>) -> bool {
 pub fn note_without_keys(
     alloc: Global,
     options: &Options<'_>,
-    patterns: &[RunPattern<'_>],
+    patterns: &[RunPattern],
 ) -> Result<Option<String>, AllocError> {
     let has_keys = patterns
         .iter()

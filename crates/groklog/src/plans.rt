@@ -57,7 +57,7 @@ fn clash_fault(
 fn plan_of<'p>(
     alloc: Global,
     plan: PlanOptions,
-    pattern: &'p RunPattern<'_>,
+    pattern: &'p RunPattern,
 ) -> Result<Plan<'p>, Fault> {
     let words = pattern.text.words.as_str();
     let keys = shared_keys(alloc, plan, &pattern.pattern)?;
@@ -78,7 +78,7 @@ fn plan_of<'p>(
 pub fn plan_all<'p>(
     alloc: Global,
     plan: PlanOptions,
-    patterns: &'p [RunPattern<'_>],
+    patterns: &'p [RunPattern],
 ) -> Result<Vec<Plan<'p>>, Fault> {
     let mut plans = Vec::new(alloc);
     if !plan.is_planned() {
@@ -95,7 +95,7 @@ pub fn plan_all<'p>(
 pub fn with_tags<'p>(
     alloc: Global,
     given: &[GivenPattern<'p>],
-    patterns: &'p [RunPattern<'_>],
+    patterns: &'p [RunPattern],
     plans: &'p [Plan<'p>],
 ) -> Result<Vec<NamedPattern<'p>>, AllocError> {
     let mut named = Vec::new(alloc);

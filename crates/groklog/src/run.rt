@@ -70,7 +70,7 @@ fn show_notes_of_patterns(
     rt: &HostRuntime,
     options: &Options<'_>,
     library: &Library<'_>,
-    patterns: &[RunPattern<'_>],
+    patterns: &[RunPattern],
 ) -> Result<(), AllocError> {
     let alloc = rt.alloc();
     if let Task::Answers(answers) = &options.task
@@ -132,7 +132,7 @@ fn run_task(
     if let Task::Suggestions(most) = options.task {
         return suggest(&outlet, options, library, most);
     }
-    let mut patterns = compile_all(alloc, library, &texts)?;
+    let mut patterns = compile_all(alloc, library, texts)?;
     let start = match options.events {
         Some(_) => patterns.pop(),
         None => None,

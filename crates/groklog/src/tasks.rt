@@ -29,9 +29,9 @@ pub struct CompiledRun<'r, 'a, 'd> {
     pub outlet: &'r Outlet<'r>,
     pub options: &'a Options<'a>,
     pub library: &'a Library<'d>,
-    pub patterns: &'a [RunPattern<'a>],
+    pub patterns: &'a [RunPattern],
     /// The pattern of `--start`, if events are answered.
-    pub start: Option<&'a RunPattern<'a>>,
+    pub start: Option<&'a RunPattern>,
     /// The patterns with their tags and plans.
     pub named: &'a [NamedPattern<'a>],
     /// The keys of patterns that are written, or `None` if all are.

@@ -11,7 +11,7 @@ use Rattle.groklog_patterns.specs.declared.compiled.RunPattern.{RunPattern}
 -- THE PATTERN OF A RUN that this text becomes, with these definitions: it has the text and what the library compiles from
 -- it, which isn't larger than the limit allows.
 pub record IsRunPattern (definitions : Texts) (limit : Limit) (text : PatternText) (pattern : RunPattern) : Type 0 where
-  pub same_text : pattern.text.now ≡ text
+  pub same_text : pattern.text ≡ text
   pub is : IsCompiledFrom definitions text.with_alias_only (string_bytes text.text) pattern.pattern
   pub within : IsTooLarge definitions text.with_alias_only limit (string_bytes text.text) → ⊥
 

@@ -12,8 +12,8 @@ use std::alloc::{AllocError, Global};
 
 /// A pattern of a run, with the text that it was compiled from.
 #[derive(Drop)]
-pub struct RunPattern<'a> {
-    pub text: &'a PatternText,
+pub struct RunPattern {
+    pub text: PatternText,
     pub pattern: Pattern,
 }
 
@@ -34,17 +34,17 @@ fn fault_of(
 }
 
 #[tactic(auto, using(crate::proofs::FaultsOfPatterns::faults))]
-fn compile_text<'a>(
+fn compile_text(
     alloc: Global,
     library: &Library<'_>,
-    text: &'a PatternText,
-) -> Result<RunPattern<'a>, Fault>
-    ensures pattern { IfOk result (IsRunPattern library.now.grok library.now.limit text.now) }
-    ensures fault { IfErr result (IsCompileFault (IsRefused library.now.grok library.now.limit text.now)) }
+    text: PatternText,
+) -> Result<RunPattern, Fault>
+    ensures pattern { IfOk result (IsRunPattern library.now.grok library.now.limit text) }
+    ensures fault { IfErr result (IsCompileFault (IsRefused library.now.grok library.now.limit text)) }
 {
     match compile(library, text.text.as_str(), text.with_alias_only) {
         Ok(pattern) => Ok(RunPattern { text, pattern }),
-        Err(refusal) => Err(fault_of(alloc, library, text, refusal)?),
+        Err(refusal) => Err(fault_of(alloc, library, &text, refusal)?),
     }
 }
 
@@ -55,13 +55,13 @@ fn compile_text<'a>(
 /// Returns the fault of the first pattern that can't be compiled, or an error if an allocation
 /// fails.
 #[tactic(auto, using(crate::proofs::PlaceByPlace::all_zip_more))]
-pub fn compile_all<'a>(
+pub fn compile_all(
     alloc: Global,
     library: &Library<'_>,
-    texts: &'a [PatternText],
-) -> Result<Vec<RunPattern<'a>>, Fault>
-    ensures patterns { IfOk result (λ all. AllZip (IsRunPattern library.now.grok library.now.limit) texts.now all.items) }
-    ensures fault { IfErr result (IsCompileFault (Any (IsRefused library.now.grok library.now.limit) texts.now)) }
+    texts: Vec<PatternText>,
+) -> Result<Vec<RunPattern>, Fault>
+    ensures patterns { IfOk result (λ all. AllZip (IsRunPattern library.now.grok library.now.limit) texts.items all.items) }
+    ensures fault { IfErr result (IsCompileFault (Any (IsRefused library.now.grok library.now.limit) texts.items)) }
 {
     let mut all = Vec::new(alloc);
     'texts: for text in texts {

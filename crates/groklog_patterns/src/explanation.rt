@@ -54,7 +54,7 @@ fn size_line(
 pub fn explain(
     alloc: Global,
     library: &Library<'_>,
-    run_pattern: &RunPattern<'_>,
+    run_pattern: &RunPattern,
 ) -> Result<String, AllocError> {
     let RunPattern { text, pattern } = run_pattern;
     let expanded = pattern.text();

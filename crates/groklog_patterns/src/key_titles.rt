@@ -24,7 +24,7 @@ struct Key<'k> {
 /// A pattern, and the byte positions in the expanded text where its groups begin.
 #[derive(Drop)]
 struct GroupStarts<'p> {
-    of: &'p RunPattern<'p>,
+    of: &'p RunPattern,
     /// Where the group of each name begins.
     starts: BTreeMap<&'p str, usize>,
 }
@@ -60,7 +60,7 @@ fn placeholder_of(written: ByteLocation<'_>) -> Option<Location<'_>> {
 }
 
 impl<'p> GroupStarts<'p> {
-    fn new(alloc: Global, of: &'p RunPattern<'p>) -> Result<GroupStarts<'p>, AllocError> {
+    fn new(alloc: Global, of: &'p RunPattern) -> Result<GroupStarts<'p>, AllocError> {
         let starts = starts_of_groups(alloc, of.pattern.text())?;
         Ok(GroupStarts { of, starts })
     }
@@ -161,7 +161,7 @@ fn keys_of<'k>(
 pub fn titles_of(
     alloc: Global,
     library: &Library<'_>,
-    patterns: &[RunPattern<'_>],
+    patterns: &[RunPattern],
     keys: &[&str],
 ) -> Result<Vec<String>, AllocError> {
     let (mut titles, mut rest) = (Vec::new(alloc), Vec::new(alloc));

@@ -5,7 +5,7 @@
 //!
 //! ```text
 //! let texts = patterns_of(alloc, &["%{IP:client} %{WORD:verb}"], true)?;
-//! let patterns = compile_all(alloc, &library, &texts)?;
+//! let patterns = compile_all(alloc, &library, texts)?;
 //! let mut explainer = Explainer::new(alloc, &library, &patterns)?;
 //! let report = explainer.report("line 1", "10.0.0.7 -")?; // it stops at %{WORD:verb}
 //! ```

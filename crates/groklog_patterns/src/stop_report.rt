@@ -164,7 +164,7 @@ impl<'p, 'd> Explainer<'p, 'd> {
     pub fn new(
         alloc: Global,
         library: &'p Library<'d>,
-        patterns: &'p [RunPattern<'p>],
+        patterns: &'p [RunPattern],
     ) -> Result<Explainer<'p, 'd>, AllocError> {
         let mut all = Vec::new(alloc);
         for pattern in patterns {

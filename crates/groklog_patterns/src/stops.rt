@@ -113,7 +113,7 @@ impl<'p, 'd> Searched<'p, 'd> {
     pub fn new(
         alloc: Global,
         library: &'p Library<'d>,
-        run_pattern: &'p RunPattern<'p>,
+        run_pattern: &'p RunPattern,
     ) -> Result<Searched<'p, 'd>, AllocError> {
         let RunPattern { text, pattern } = run_pattern;
         Ok(Searched {

@@ -1,7 +1,7 @@
 //! Marks the fields of a line: in colours for a terminal, and in HTML for a page.
 //!
 //! [`runs_of`] cuts a line into runs of characters with one key. [`push_coloured`] and
-//! [`Html::push_runs`] write them, and without its marks what they write is the line, as
+//! [`Html::push_runs`] write them. Without the marks, what they write is the line as
 //! [`visible`](groklog_input::visible) shows it:
 //!
 //! ```text
