@@ -92,7 +92,7 @@ fn note_on_name(
     library: &Library<'_>,
     run_pattern: &RunPattern,
 ) -> Result<Option<String>, AllocError> {
-    let text = run_pattern.text;
+    let text = &run_pattern.text;
     let (pattern, words) = (text.text.as_str(), text.words.as_str());
     let Some(name) = bare_name(library, pattern) else {
         return Ok(None);

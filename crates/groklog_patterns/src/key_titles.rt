@@ -85,7 +85,7 @@ impl<'p> GroupStarts<'p> {
             // No text has a byte at the greatest position.
             starts.push(self.start(key.name).unwrap_or(usize::MAX))?;
         }
-        let text = self.of.text;
+        let text = &self.of.text;
         let found = library
             .grok
             .locate_bytes(text.text.as_str(), text.with_alias_only, &starts)?;

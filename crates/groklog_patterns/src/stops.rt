@@ -118,7 +118,7 @@ impl<'p, 'd> Searched<'p, 'd> {
         let RunPattern { text, pattern } = run_pattern;
         Ok(Searched {
             library,
-            text: *text,
+            text,
             beginnings: Beginnings::new(alloc, pattern.text())?,
             keys: pattern.keys_by_group()?,
         })
