@@ -63,13 +63,13 @@ OWN = ["2f alice\n", "ab bob\n", "77 eve\n"]
 
 CASES = [
     Case("a time, a level and no host", "a level after a time isn't a host", FAIL2BAN, proposal(
-        5, r"groklog '^%{TIMESTAMP_ISO8601:timestamp} %{NOTSPACE:field} +\[%{INT:pid:int}\]: %{LOGLEVEL:level} +%{GREEDYDATA:message}$' log")),
+        5, r"groklog '^%{TIMESTAMP_ISO8601:timestamp} %{NOTSPACE:logger} +\[%{INT:pid:int}\]: %{LOGLEVEL:level} +%{GREEDYDATA:message}$' log")),
     Case("several formats in one log", "one command with a pattern for each, also for the lines of no known format",
          "".join(SQUID.format(n) for n in range(6)) + "".join(KLOG.format(n, n) for n in range(6))
          + "".join(REDIS.format(n) for n in range(5)) + "".join(DOOR.format(n, n) for n in range(3)),
          rows((6, 12, "groklog '^%{SQUID3}$' log"), (6, 6, "groklog '^%{KLOG}$' log"), (5, 5, "groklog '^%{REDISLOG}$' log"))
          + proposal(20, "groklog -e '^%{SQUID3}$' -e '^%{KLOG}$' -e '^%{REDISLOG}$' "
-                        "-e '^door %{INT:number:int} opened by card %{INT:number2:int}$' log", shares=[6, 6, 5, 3])),
+                        "-e '^door %{INT:door:int} opened by card %{INT:card:int}$' log", shares=[6, 6, 5, 3])),
     Case("a known format and a number", "the format is kept", "".join(COMBINED.format(n, n, n) + f" 0.0{n}\n" for n in range(1, 5)),
          rows((4, 12, "groklog '^%{COMBINEDAPACHELOG} %{NUMBER:number:float}$' log"))),
     Case("a known format and a word", "the format is kept",
@@ -77,25 +77,25 @@ CASES = [
          rows((4, 12, "groklog '^%{COMBINEDAPACHELOG} %{WORD:word}$' log"))),
     Case("keys and values after the head of syslog", "values take their keys",
          "".join(LOGIN.format(n, user, n * 7) for n, user in enumerate(USERS)),
-         rows((3, 6, "groklog '^%{SYSLOGBASE} user=%{WORD:user} action=login ms=%{INT:ms:int}$' log"),
-              (3, 5, "groklog '^%{SYSLOGLINE}$' log"), (3, 5, "groklog '^%{JOURNALLINE}$' log"))),
+         rows((3, 6, "groklog '^%{SYSLOGBASE} user=%{NOTSPACE:user} action=login ms=%{INT:ms:int}$' log"),
+              (3, 5, "groklog '^%{SYSLOGLINE}$' log"))),
     Case("a date with the name of a month", "no month and no host is literal",
          "".join(f"Nov 28 2026 06:25:0{n} fw1 : built connection {1000 + n}\n" for n in range(4)),
-         proposal(4, "groklog '^%{TIMESTAMP_MONTHNAME:timestamp} %{WORD:word} : built connection %{INT:number:int}$' log")),
+         proposal(4, "groklog '^%{TIMESTAMP_MONTHNAME:timestamp} %{NOTSPACE:field} : built connection %{INT:connection:int}$' log")),
     Case("a date in brackets", "no date is literal",
          "".join(f'[28/Nov/2026 06:25:0{n}] "GET /polls/{n}/ HTTP/1.1" 200 {1200 + n}\n' for n in range(4)),
-         proposal(4, r"groklog '^\[%{TIMESTAMP_MONTHNAME:timestamp}\] %{QS:quoted} %{INT:number:int} %{INT:number2:int}$' log")),
+         proposal(4, r"groklog '^\[%{TIMESTAMP_MONTHNAME:timestamp}\] %{QS:request} %{INT:status:int} %{INT:number:int}$' log")),
     Case("a time of twelve hours", "it is one time with one key",
          "".join(ERRORS.format(n, level, 40 + n) for n, level in enumerate(["Error", "Warning", "Error"])),
          proposal(3, "groklog '^%{DATESTAMP_12H:timestamp} %{LOGLEVEL:level} %{INT:number:int} disk$' log")),
     Case("six words", "they are no fields of another program's log",
          "".join(f"user {user} logged in from 10.0.0.{n}\n" for n, user in enumerate(["alice", "bob", "eve"])),
-         proposal(3, "groklog '^user %{WORD:word} logged in from %{IP:ip}$' log")),
+         proposal(3, "groklog '^user %{NOTSPACE:user} logged in from %{IP:ip}$' log")),
     Case("a % before a quote", "it is no beginning of a placeholder", 'use %"a b" 1 at 12:00:01 z\n' * 3,
          proposal(3, "groklog '^use [%]%{QS:quoted} %{INT:number:int} at %{TIME:timestamp} z$' log")),
     Case("levels of different lengths, and units", "blanks that some lines lack, and a number without its unit",
          "".join(f"[{level}] took {n * 3}ms, {n}.5MB used\n" for n, level in enumerate(["INFO ", "ERROR", "WARN "])),
-         proposal(3, r"groklog '^\[%{LOGLEVEL:level} *\] took %{INT:number:int}ms, %{NUMBER:number2:float}MB used$' log")),
+         proposal(3, r"groklog '^\[%{LOGLEVEL:level} *\] took %{INT:took:int}ms, %{NUMBER:size_mb:float}MB used$' log")),
     Case("events of several lines", "--start, and patterns for events", TRACE, "the lines are parts of 3 events\n" + proposal(
         3, r"groklog --start '^%{TIMESTAMP_ISO8601}' '^%{TIMESTAMP_ISO8601:timestamp} %{LOGLEVEL:level} %{GREEDYDATA:message}"
            r"(?:\n(?<more>(?s:.*)))?$' log", unit="events")),
@@ -122,7 +122,7 @@ CASES = [
          "each line has 4 values, which mlr reads, too:\nmlr --icsv --implicit-csv-header --ojson cat log\n"
          + proposal(3, "groklog '^%{TIME:timestamp},%{QS:quoted},%{INT:number:int},%{CSVVALUE:field}$' log")),
     Case("lines that end in carriage returns", "--crlf", "".join(f"door {n} opened at 06:25:0{n}\r\n" for n in range(3)),
-         proposal(3, "groklog --crlf '^door %{INT:number:int} opened at %{TIME:timestamp}$' log")),
+         proposal(3, "groklog --crlf '^door %{INT:door:int} opened at %{TIME:timestamp}$' log")),
     Case("a definition with keys written by hand", "it is tried, and a part of it isn't", "".join(OWN),
          rows((3, 2, "groklog --no-common -D 'LL=%{HEX} (?<b>[a-z]+)' -D 'HEX=(?<a>[0-9a-f]+)' '^%{LL}$' log")),
          words=["--no-common", "-D", "LL=%{HEX} (?<b>[a-z]+)", "-D", "HEX=(?<a>[0-9a-f]+)", "log"]),
@@ -130,14 +130,14 @@ CASES = [
          rows((3, 2, "groklog --no-common --from-logstash --loose -D 'LL=(?<a>\\h+) (?<b>[a-z]+)(?!x)' '^%{LL}$' log")),
          words=["--no-common", "--from-logstash", "--loose", "-D", r"LL=(?<a>\h+) (?<b>[a-z]+)(?!x)", "log"]),
     Case("a file whose name begins with -", "it is no option", DOOR.format(1, 1) * 2 + DOOR.format(2, 2),
-         proposal(3, "groklog '^door %{INT:number:int} opened by card %{INT:number2:int}$' -- --html=x.log"),
+         proposal(3, "groklog '^door %{INT:door:int} opened by card %{INT:card:int}$' -- --html=x.log"),
          words=["--", "--html=x.log"]),
     Case("definitions that grow", "a definition is measured before it is expanded", DOOR.format(1, 1) * 2 + DOOR.format(2, 2),
          proposal(3, "groklog -D D0=x " + " ".join(f"-D 'D{n + 1}=%{{D{n}:k}}%{{D{n}:k}}'" for n in range(30))
-                  + " '^door %{INT:number:int} opened by card %{INT:number2:int}$' log"),
+                  + " '^door %{INT:door:int} opened by card %{INT:card:int}$' log"),
          words=[word for n in range(31) for word in ("-D", f"D{n}=" + (f"%{{D{n - 1}:k}}%{{D{n - 1}:k}}" if n else "x"))] + ["log"]),
     Case("a limit of the expanded text", "the command has it", DOOR.format(1, 1) * 2 + DOOR.format(2, 2),
-         proposal(3, "groklog --max-expansion 50000 '^door %{INT:number:int} opened by card %{INT:number2:int}$' log"),
+         proposal(3, "groklog --max-expansion 50000 '^door %{INT:door:int} opened by card %{INT:card:int}$' log"),
          words=["--max-expansion", "50000", "log"]),
     Case("a control character", "it is escaped for the shell", "a\x01b 1\na\x01b 2\n",
          proposal(2, r"groklog $'^a\x01b %{INT:number:int}$' log")),
@@ -146,12 +146,12 @@ CASES = [
          "these lines look like JSON objects, which jq reads:\n" + r"jq -c . $'a\x1b[2J\'b\\'" + "\n", words=["a\x1b[2J'b\\"]),
     Case("one line that ends in a carriage return", "neither the command nor a hint has --crlf", DOOR.format(1, 1).replace("\n", "\r\n")
          + DOOR.format(2, 2) + DOOR.format(3, 3), proposal(
-             3, "groklog '^door %{INT:number:int} opened by card %{INT:number2:int}%{GREEDYDATA:message}$' log")),
+             3, "groklog '^door %{INT:door:int} opened by card %{INT:card:int}%{GREEDYDATA:message}$' log")),
     Case("a very long line", "it isn't looked at", "a" * 100_000 + "\n" + DOOR.format(1, 1) + DOOR.format(2, 2),
          "1 line is longer than 64 KiB, and wasn't looked at\n"
-         + proposal(2, "groklog '^door %{INT:number:int} opened by card %{INT:number2:int}$' log")),
+         + proposal(2, "groklog '^door %{INT:door:int} opened by card %{INT:card:int}$' log")),
     Case("a header", "its lines don't count", "#Version: 1.0\n#Fields: time door\n" + "".join(f"06:25:0{n} door {n}\n" for n in range(3)),
-         proposal(3, "groklog '^%{TIME:timestamp} %{WORD:word} %{INT:number:int}$' log")),
+         proposal(3, "groklog '^%{TIME:timestamp} %{NOTSPACE:field} %{INT:number:int}$' log")),
     Case("a file of gzip", "the hint of a run", b"\x1f\x8b\x08\x00\xff\n", "there are no lines to suggest a pattern for\n",
          notes="groklog: log looks like a file of gzip: use zcat FILE | groklog ..\n"),
     Case("a file in UTF-16", "the hint of a run", "door 1 opened\n".encode("utf-16"), "there are no lines to suggest a pattern for\n",
@@ -161,12 +161,12 @@ CASES = [
                "iconv -f LATIN1 -t UTF-8 FILE | groklog ..\n"),
     Case("a word that a definition would cut", "the definition isn't what the lines begin with",
          "".join(f'192.0.2.{n} - - [28/Nov/2026:06:25:0{n} +0000] "GET /{n} HTTP/1.1" 200 51{n}_ms\n' for n in range(4)),
-         proposal(4, r"groklog '^%{IP:ip} \- \- \[%{HTTPDATE:timestamp}\] %{QS:quoted} %{INT:number:int} %{WORD:word}$' log")),
+         proposal(4, r"groklog '^%{IP:ip} \- \- \[%{HTTPDATE:timestamp}\] %{QS:request} %{INT:status:int} %{WORD:word}$' log")),
     Case("values between semicolons without names", "the first line has values, and no names", "1;2;3;4\n5;6;7;8\n9;8;7;6\n",
          "each line has 4 values, which mlr reads, too:\nmlr --icsv --ifs ';' --implicit-csv-header --ojson cat log\n"
          + proposal(3, "groklog '^%{INT:number:int};%{INT:number2:int};%{INT:number3:int};%{INT:number4:int}$' log")),
     Case("lines that end in a blank and a carriage return", "the blank stays", "".join(f"door {n} open \r\n" for n in range(1, 4)),
-         proposal(3, "groklog --crlf '^door %{INT:number:int} open $' log")),
+         proposal(3, "groklog --crlf '^door %{INT:door:int} open $' log")),
     Case("warnings of Nagios alone", "each beginning of a line of the format counts",
          "".join(f"[177285630{n}] Warning: job {n} is late\n" for n in range(1, 5)), rows((4, 2, "groklog '^%{NAGIOSLOGLINE}$' log"))),
     Case("a journal with times in seconds", "each form of the time counts",
@@ -180,17 +180,17 @@ CASES = [
          + "2201:M 28 Nov 2026 06:25:01.123 * Ready\nodd one\nodd two\n",
          rows((5, 6, "groklog '^%{KLOG}$' log"), (1, 5, "groklog '^%{REDISLOG}$' log"))
          + "these patterns match 8 of 8 lines (5 + 2 + 1):\n"
-         r"groklog -e '^%{KLOG}$' -e '^odd %{WORD:word}$' -e '^%{INT:number:int}:M %{TIMESTAMP_MONTHNAME:timestamp} \* Ready$' log" "\n"),
+         r"groklog -e '^%{KLOG}$' -e '^odd %{WORD:odd}$' -e '^%{INT:number:int}:M %{TIMESTAMP_MONTHNAME:timestamp} \* Ready$' log" "\n"),
     Case("comma-separated values that begin with a blank", "blanks after a comma are those of a sentence, and others aren't",
          " a,b,1,2\n c,d,3,4\n e,f,5,6\n",
          "each line has 4 values, which mlr reads, too:\nmlr --icsv --implicit-csv-header --ojson cat log\n"
-         + proposal(3, "groklog '^%{CSVVALUE:field},%{WORD:word},%{INT:number:int},%{INT:number2:int}$' log")),
+         + proposal(3, "groklog '^%{CSVVALUE:field},%{CSVVALUE:field2},%{INT:number:int},%{INT:number2:int}$' log")),
     Case("names of values above two lines", "two are enough to see that the first has none", "a,b,c,d\n1,2,3,4\n5,6,7,8\n",
          "each line has 4 values, after their names in the first line, which mlr reads:\nmlr --icsv --ojson cat log\n"),
     Case("integers of eighteen digits", "they fit into 64 bits", "".join(f"door 12345678901234567{n} x\n" for n in (8, 9)),
-         proposal(2, "groklog '^door %{INT:number:int} x$' log")),
+         proposal(2, "groklog '^door %{INT:door:int} x$' log")),
     Case("integers of nineteen digits", "not all of them fit into 64 bits", "".join(f"door 123456789012345678{n} x\n" for n in (8, 9)),
-         proposal(2, "groklog '^door %{NUMBER:number} x$' log")),
+         proposal(2, "groklog '^door %{NUMBER:door} x$' log")),
     Case("sixteen characters before a time", "they may begin an event",
          "".join(f"application abc 2026-11-28 06:25:0{n} INFO a\n  more\n" for n in range(1, 4)),
          "the lines are parts of 3 events\n" + proposal(
@@ -200,17 +200,19 @@ CASES = [
          "".join(f"application abcd 2026-11-28 06:25:0{n} INFO a\n  more\n" for n in range(1, 4)),
          proposal(6, r"groklog -e '^application abcd %{TIMESTAMP_ISO8601:timestamp} %{LOGLEVEL:level} a$' -e '^ +more$' log", shares=[3, 3])),
     Case("a line of 64 KiB", "it is looked at, its first 4096 bytes token by token", "door 1 " + "x" * (65536 - 7) + "\ndoor 2 y\n",
-         proposal(2, "groklog '^door %{INT:number:int} %{GREEDYDATA:message}$' log")),
+         proposal(2, "groklog '^door %{INT:door:int} %{GREEDYDATA:message}$' log")),
     Case("a line of 64 KiB and a byte", "it isn't looked at", "door 1 " + "x" * (65537 - 7) + "\ndoor 2 y\ndoor 3 z\n",
-         "1 line is longer than 64 KiB, and wasn't looked at\n" + proposal(2, "groklog '^door %{INT:number:int} %{WORD:word}$' log")),
+         "1 line is longer than 64 KiB, and wasn't looked at\n" + proposal(2, "groklog '^door %{INT:door:int} %{WORD:word}$' log")),
     Case("nine lines of ten that begin with a definition", "the tenth may begin with something else",
          "".join(LOGIN.format(n, USERS[n % 3], n * 7) for n in range(9)) + "odd one\n",
-         rows((9, 6, "groklog '^%{SYSLOGBASE} user=%{WORD:user} action=login ms=%{INT:ms:int}$' log"),
-              (9, 5, "groklog '^%{SYSLOGLINE}$' log"), (9, 5, "groklog '^%{JOURNALLINE}$' log"))),
+         rows((9, 6, "groklog '^%{SYSLOGBASE} user=%{NOTSPACE:user} action=login ms=%{INT:ms:int}$' log"),
+              (9, 5, "groklog '^%{SYSLOGLINE}$' log"))),
     Case("eight lines of ten that begin with a definition", "too many begin with something else",
          "".join(LOGIN.format(n, USERS[n % 3], n * 7) for n in range(8)) + "7 odd one\n8 odd two\n",
-         rows((8, 5, "groklog '^%{SYSLOGLINE}$' log"), (8, 5, "groklog '^%{JOURNALLINE}$' log"))
-         + "these patterns match 10 of 10 lines (8 + 2):\ngroklog -e '^%{SYSLOGLINE}$' -e '^%{INT:number:int} odd %{WORD:word}$' log\n"),
+         rows((8, 6, "groklog '^%{SYSLOGBASE} user=%{NOTSPACE:user} action=login ms=%{INT:ms:int}$' log"),
+              (8, 5, "groklog '^%{SYSLOGLINE}$' log"))
+         + "these patterns match 10 of 10 lines (8 + 2):\ngroklog -e '^%{SYSLOGBASE} user=%{NOTSPACE:user} action=login ms=%{INT:ms:int}$' "
+           "-e '^%{INT:number:int} odd %{WORD:odd}$' log\n"),
     Case("one line of twenty that has no values", "the others are values between semicolons",
          "".join(f"{n};{n + 1};{n + 2};{n + 3}\n" for n in range(1, 20)) + "20\n",
          "each line has 4 values, which mlr reads, too:\nmlr --icsv --ifs ';' --implicit-csv-header --ojson cat log\n"
@@ -220,12 +222,12 @@ CASES = [
          proposal(18, "groklog '^%{INT:number:int};%{INT:number2:int};%{INT:number3:int};%{INT:number4:int}$' log", of=19)),
     Case("names of values above one line", "one is too few to see that the first has none", "a,b,c,d\n1,2,3,4\n",
          "each line has 4 values, which mlr reads, too:\nmlr --icsv --implicit-csv-header --ojson cat log\n"
-         + proposal(2, "groklog '^%{WORD:word},%{WORD:word2},%{WORD:word3},%{WORD:word4}$' log")),
+         + proposal(2, "groklog '^%{CSVVALUE:field},%{CSVVALUE:field2},%{CSVVALUE:field3},%{CSVVALUE:field4}$' log")),
     Case("six definitions that match all lines", "five are shown", "1 x\n2 x\n",
          rows(*((2, 1, f"groklog --no-common {shlex.join(SIX)} '^%{{{name}}}$' log") for name in "ABCDE")), words=["--no-common", *SIX, "log"]),
     Case("two forms with equally many lines", "the one that comes first is the first", "[a]\n(b)\n[c]\n(d)\n",
          proposal(4, r"groklog -e '^\[%{WORD:word}\]$' -e '^\(%{WORD:word}\)$' log", shares=[2, 2])),
     Case("a missing file", "the others are read", DOOR.format(1, 1) + DOOR.format(2, 2),
-         proposal(2, "groklog '^door %{INT:number:int} opened by card %{INT:number2:int}$' nowhere log"), words=["nowhere", "log"], status=3,
+         proposal(2, "groklog '^door %{INT:door:int} opened by card %{INT:card:int}$' nowhere log"), words=["nowhere", "log"], status=3,
          notes="groklog: there is no file nowhere\n  try: check its name, and the folder that you are in\n"),
 ]

@@ -26,6 +26,8 @@ pub struct FittedLines {
     /// For each of the lines, whether the pattern fits it.
     pub each: Vec<bool>,
     pub fit: Fit,
+    /// The keys of the pattern that have a value which isn't empty in one of these lines, in byte order.
+    pub keys: Vec<String>,
 }
 
 /// A pattern, and which of some lines it fits.
@@ -35,6 +37,8 @@ pub struct Candidate {
     pub fit: Fit,
     /// For each of the lines, whether the pattern fits it.
     pub each: Vec<bool>,
+    /// The keys of the pattern that have a value which isn't empty in one of these lines, in byte order.
+    pub keys: Vec<String>,
 }
 
 /// A pattern that is searched for in many lines.
@@ -87,6 +91,21 @@ impl<'p> MissingKeys<'p> {
             keys.insert(key)?;
         }
         Ok(MissingKeys { keys })
+    }
+
+    /// Returns the keys of the pattern that have had a value, in byte order.
+    fn found(&self, alloc: Global, pattern: &Pattern) -> Result<Vec<String>, AllocError> {
+        let mut found = BTreeSet::new(alloc);
+        for key in pattern.capture_names() {
+            if !self.keys.contains(key) {
+                found.insert(key)?;
+            }
+        }
+        let mut keys = Vec::new(alloc);
+        for key in &found {
+            keys.push(String::from_str(alloc, key)?)?;
+        }
+        Ok(keys)
     }
 
     /// Removes the keys that have a value in a match.
@@ -161,13 +180,14 @@ pub fn fitted_lines(
     ensures lines { IfOk result (λ fitted. fitted.fit.lines ≡ count_by (λ is_fit. is_fit) fitted.each.items) }
 {
     let mut missing = MissingKeys::of(alloc, pattern)?;
-    let all = missing.keys.len();
     let each = fits_each(alloc, pattern, lines, &mut missing)?;
-    let fields = all.saturating_sub(missing.keys.len());
+    let keys = missing.found(alloc, pattern)?;
+    let fields = keys.len();
     let lines = count(&each);
     Ok(FittedLines {
         fit: Fit { lines, fields },
         each,
+        keys,
     })
 }
 
@@ -185,11 +205,16 @@ impl Candidate {
         let Some(pattern) = compile_valid(library, text.as_str())? else {
             return Ok(None);
         };
-        let FittedLines { each, fit } = fitted_lines(alloc, &pattern, lines)?;
+        let FittedLines { each, fit, keys } = fitted_lines(alloc, &pattern, lines)?;
         if fit.lines == 0 {
             return Ok(None);
         }
-        Ok(Some(Candidate { text, fit, each }))
+        Ok(Some(Candidate {
+            text,
+            fit,
+            each,
+            keys,
+        }))
     }
 
     /// Returns the lines that the pattern doesn't fit.

@@ -1,5 +1,6 @@
 //! Lines that begin with a definition and then have more.
 
+use crate::header::Header;
 use crate::text::Frame;
 use grok::{MatchesRef, Pattern};
 use groklog_definitions::Library;
@@ -28,6 +29,8 @@ pub(crate) struct Head<'a> {
 pub(crate) struct LineView<'a> {
     pub alloc: Global,
     pub frame: Frame<'a>,
+    /// The names of the columns, if the log gives them.
+    pub header: Option<Header<'a>>,
     /// Finds the definition with which the lines begin. `None` if whole lines are aligned.
     head: Option<Pattern>,
 }
@@ -80,9 +83,10 @@ fn whole_lines<'l>(alloc: Global, lines: &[&'l str]) -> Result<Vec<Option<&'l st
 
 impl<'a> LineView<'a> {
     /// Returns the view of whole lines.
-    pub(crate) fn new(alloc: Global, lines: &[&str]) -> LineView<'a> {
+    pub(crate) fn new(alloc: Global, lines: &[&str], header: Option<Header<'a>>) -> LineView<'a> {
         LineView {
             alloc,
+            header,
             frame: Frame {
                 head: None,
                 keys: Vec::new(alloc),
@@ -105,6 +109,7 @@ impl<'a> LineView<'a> {
         }
         Ok(LineView {
             alloc,
+            header: None,
             frame: Frame {
                 head: Some(name),
                 keys,
