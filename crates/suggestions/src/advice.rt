@@ -2,7 +2,7 @@
 
 use crate::header::{Header, header_of};
 use crate::heads::LineView;
-use crate::proposals::{Continued, Proposal, propose, propose_after, propose_each_after};
+use crate::proposals::{Proposal, propose, propose_after, propose_each_after};
 use crate::starts::{events_of, start_of};
 use crate::text::whole_pattern;
 use groklog_definitions::Library;
@@ -323,7 +323,7 @@ fn add_continued<'l>(
 ) -> Result<(), AllocError> {
     let best = fit_of_first(candidates);
     let found = propose_after(alloc, recognizer, names, lines)?;
-    let Some(Continued { candidate }) = found else {
+    let Some(candidate) = found else {
         return Ok(());
     };
     if candidate.fit.lines >= best.lines && candidate.fit.fields > best.fields {

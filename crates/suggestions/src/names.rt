@@ -428,7 +428,13 @@ fn text_key<'l>(columns: &[Column<'l>], index: usize) -> Option<&'l str> {
     }
     let hint = columns.get(index).and_then(|column| column.hinted_key());
     let has_level = columns.iter().any(|column: &Column<'_>| column.is_level());
-    let hint = hint.filter(|key| *key != "logger" || has_level);
+    let last = index.checked_sub(1);
+    let is_inside = is_mark_at(columns, last, '[') || is_mark_at(columns, last, '(');
+    let hint = hint.filter(|key| match *key {
+        "logger" => has_level,
+        "thread" => is_inside,
+        _ => true,
+    });
     if hint.is_some() {
         return hint;
     }

@@ -32,12 +32,6 @@ pub(crate) struct Proposal {
     pub fit: Fit,
 }
 
-/// A pattern for lines that begin with a definition and then have more.
-#[derive(Drop)]
-pub(crate) struct Continued {
-    pub candidate: Candidate,
-}
-
 /// Compiles the pattern of a template, with the rest in this form. Returns `None` if it can't be compiled, or fits no
 /// line.
 fn compile_candidate(
@@ -251,17 +245,13 @@ fn propose_in<'l>(
     recognizer: &Recognizer<'_, '_>,
     view: &LineView<'l>,
     lines: &[&'l str],
-) -> Result<Option<Continued>, AllocError>
-    ensures { IfOk result (λ found. IfSome found (λ continued. 0 < continued.candidate.fit.lines)) }
+) -> Result<Option<Candidate>, AllocError>
+    ensures { IfOk result (λ found. IfSome found (λ candidate. 0 < candidate.fit.lines)) }
 {
     let begun = view.begun(aligned_of(lines))?;
     let mut cutter = Cutter::new(view.alloc, recognizer.search(view.alloc)?);
     let template = template_of(view, &mut cutter, &begun)?;
-    let found = best_candidate(recognizer.library, view, &template, lines)?;
-    let Some(candidate) = found else {
-        return Ok(None);
-    };
-    Ok(Some(Continued { candidate }))
+    best_candidate(recognizer.library, view, &template, lines)
 }
 
 /// Proposes patterns for the lines that begin with this definition, each with what comes after it.
@@ -288,8 +278,8 @@ pub(crate) fn propose_after<'l>(
     recognizer: &Recognizer<'_, '_>,
     names: &[&'l str],
     lines: &[&'l str],
-) -> Result<Option<Continued>, AllocError>
-    ensures { IfOk result (λ found. IfSome found (λ continued. 0 < continued.candidate.fit.lines)) }
+) -> Result<Option<Candidate>, AllocError>
+    ensures { IfOk result (λ found. IfSome found (λ candidate. 0 < candidate.fit.lines)) }
 {
     let found = longest_head(alloc, recognizer.library, names, aligned_of(lines))?;
     let Some(head) = found else {

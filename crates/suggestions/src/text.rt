@@ -236,23 +236,30 @@ impl TextWriter<'_> {
             Content::Token(Kind::Blank) => self.push_blanks_at(columns, index, column),
             Content::Pairs => self.push_pairs(column),
             Content::Token(Kind::Known(known)) => self.push_known(columns, index, known),
-            Content::Token(Kind::Word)
-                if column.are_words
-                    && !column.may_change
-                    && !is_open(key_of(columns, index, "word")) => {
-                self.push_placeholder(&WORD, key_of(columns, index, "word"), "")
-            }
-            _ => {
-                let value = if column.content == Content::Value {
-                    CSVVALUE
-                } else if column.has_blanks || column.has_empty || is_before_mark(columns, index) {
-                    DATA
-                } else {
-                    NOTSPACE
-                };
-                self.push_placeholder(&value, key_of(columns, index, "field"), "")
-            }
+            _ => self.push_text(columns, index, column),
         }
+    }
+
+    /// Writes the column at this index, which has texts that no definition recognizes.
+    fn push_text(
+        &mut self,
+        columns: &[Column<'_>],
+        index: usize,
+        column: &Column<'_>,
+    ) -> Result<(), AllocError> {
+        let has_words = column.content == Content::Token(Kind::Word) && column.are_words;
+        let are_words = has_words && !column.may_change;
+        let key = key_of(columns, index, if are_words { "word" } else { "field" });
+        let value = if are_words && !is_open(key) {
+            WORD
+        } else if column.content == Content::Value {
+            CSVVALUE
+        } else if column.has_blanks || column.has_empty || is_before_mark(columns, index) {
+            DATA
+        } else {
+            NOTSPACE
+        };
+        self.push_placeholder(&value, key, "")
     }
 
     /// Writes pairs that aren't cut into names and values.
