@@ -102,7 +102,7 @@ CASES = [
     Case("events with lines that aren't UTF-8", "the command matches no event that isn't UTF-8",
          b"2026-11-30 10:00:01 a 1\n  at x\n2026-11-30 10:00:02 a 2\n  at \xff\n2026-11-30 10:00:03 a 3\n  at y\n",
          "the lines are parts of 3 events\n" + proposal(
-             2, r"groklog --start '^%{TIMESTAMP_ISO8601}' '^%{TIMESTAMP_ISO8601:timestamp} %{WORD:word} %{INT:number:int}"
+             2, r"groklog --start '^%{TIMESTAMP_ISO8601}' '^%{TIMESTAMP_ISO8601:timestamp} %{NOTSPACE:field} %{INT:number:int}"
                 r"(?:\n(?<more>(?s:.*)))?$' log", of=3, unit="events"),
          notes="groklog: line 4 of log isn't UTF-8, so it has no fields: use --lossy, or for another encoding "
                "iconv -f LATIN1 -t UTF-8 FILE | groklog ..\n"),
