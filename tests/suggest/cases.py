@@ -176,6 +176,11 @@ CASES = [
     Case("one line without a time", "it makes no events of the others",
          "".join(f"2026-11-28 06:25:0{n} INFO {word}\n" for n, word in enumerate("abc", 1)) + "  more\n",
          proposal(4, "groklog -e '^%{TIMESTAMP_ISO8601:timestamp} %{LOGLEVEL:level} %{WORD:word}$' -e '^ +more$' log", shares=[3, 1])),
+    Case("a format that two lines of a hundred have", "one in fifty is enough for it to be in the command",
+         "".join(SQUID.format(n) for n in range(10, 70)) + KLOG.format(1, 1) + KLOG.format(2, 2) + "".join(DOOR.format(n, n) for n in range(38)),
+         rows((60, 12, "groklog '^%{SQUID3}$' log"), (2, 6, "groklog '^%{KLOG}$' log"))
+         + "these patterns match 100 of 100 lines (60 + 2 + 38):\n"
+         "groklog -e '^%{SQUID3}$' -e '^%{KLOG}$' -e '^door %{INT:door:int} opened by card %{INT:card:int}$' log\n"),
     Case("a format that one line has", "it is listed, and isn't in the command", "".join(KLOG.format(n, n) for n in range(1, 6))
          + "2201:M 28 Nov 2026 06:25:01.123 * Ready\nodd one\nodd two\n",
          rows((5, 6, "groklog '^%{KLOG}$' log"), (1, 5, "groklog '^%{REDISLOG}$' log"))
@@ -213,6 +218,8 @@ CASES = [
               (8, 5, "groklog '^%{SYSLOGLINE}$' log"))
          + "these patterns match 10 of 10 lines (8 + 2):\ngroklog -e '^%{SYSLOGBASE} user=%{NOTSPACE:user} action=login ms=%{INT:ms:int}$' "
            "-e '^%{INT:number:int} odd %{WORD:odd}$' log\n"),
+    Case("nine lines of ten of one form", "the tenth gets no pattern of its own", "".join(DOOR.format(n, n) for n in range(1, 10)) + "lamp=7 x,y z\n",
+         proposal(9, "groklog '^door %{INT:door:int} opened by card %{INT:card:int}$' log", of=10)),
     Case("one line of twenty that has no values", "the others are values between semicolons",
          "".join(f"{n};{n + 1};{n + 2};{n + 3}\n" for n in range(1, 20)) + "20\n",
          "each line has 4 values, which mlr reads, too:\nmlr --icsv --ifs ';' --implicit-csv-header --ojson cat log\n"
@@ -252,7 +259,7 @@ CASES = [
          rows((4, 5, "groklog '^%{SYSLOGLINE}$' log"), (2, 10, "groklog '^%{PAMLINE}$' log"))
          + "these patterns match 4 of 4 lines (2 + 2):\ngroklog -e '^%{PAMLINE}$' -e '^%{SYSLOGLINE}$' log\n"),
     Case("a level after a slash", "what is before it is the thread",
-         "[06:25:01] [Server thread/INFO]: bob joined\n[06:25:02] [main/WARN]: can't keep up\n[06:25:03] [Chat Thread/INFO]: hello\n",
+         "[06:25:01] [Server thread/INFO]: bob joined\n[06:25:02] [Worker-1/WARN]: can't keep up\n[06:25:03] [Chat Thread - #1/INFO]: hello\n",
          proposal(3, r"groklog '^\[%{TIME:timestamp}\] \[%{DATA:thread}/%{LOGLEVEL:level}\]: %{GREEDYDATA:message}$' log")),
     Case("a level after a dot", "what is before it is the channel",
          "[06:25:01] app.INFO: bob joined 1\n[06:25:02] security.DEBUG: 2\n[06:25:03] php.WARNING: a b c\n",

@@ -102,6 +102,18 @@ fn level_mark(line: &str, at: usize) -> Option<char> {
     rest.chars().next().filter(|c| matches!(c, '.' | '/'))
 }
 
+/// Returns how many bytes of a word stand before the dot or slash after which it has only letters in capitals.
+fn len_before_capitals(word: &str) -> Option<usize> {
+    let capitals = word
+        .as_bytes()
+        .iter()
+        .rev()
+        .take_while(|b| b.is_ascii_uppercase())
+        .count();
+    let before = word.len().checked_sub(capitals)?.checked_sub(1)?;
+    (capitals > 0 && level_mark(word, before).is_some()).then_some(before)
+}
+
 /// Returns whether a part of a line is the name of a value: letters before `=`.
 fn is_name(line: &str, found: Recognized) -> bool {
     let text = line.get(found.start..found.end).unwrap_or("");
@@ -181,19 +193,18 @@ impl<'r> Cutter<'r> {
 
     /// Returns the token at this byte position of the line if the word of this length ends with a dot or a slash and
     /// a level: the part of the word before the mark, or the mark itself.
-    fn word_before_level(&self, line: &str, at: usize, len: usize) -> Option<(Kind, usize)> {
-        let next = self.next?;
-        let is_end = next.start > at && next.end == at.saturating_add(len);
-        if !is_end || !is_capital_level(line, next) {
+    fn word_before_level(&mut self, line: &str, at: usize, len: usize) -> Option<(Kind, usize)> {
+        let end = at.saturating_add(len);
+        let before = len_before_capitals(line.get(at..end)?)?;
+        let start = at.saturating_add(before).saturating_add(1);
+        let level = self.search.find(line, start)?;
+        if level.start != start || level.end != end || !is_capital_level(line, level) {
             return None;
         }
-        let before = next.start.saturating_sub(1);
-        let mark = level_mark(line, before)?;
-        Some(if before == at {
-            (Kind::Mark(mark), 1)
-        } else {
-            (Kind::Word, before.saturating_sub(at))
-        })
+        if before > 0 {
+            return Some((Kind::Word, before));
+        }
+        Some((Kind::Mark(level_mark(line, at)?), 1))
     }
 
     /// Cuts a line. Nothing of it is lost: the tokens, one after another, are the line.

@@ -406,11 +406,11 @@ struct LinesOf<'s, 'l> {
 }
 
 /// Returns the advice for lines that these definitions for whole lines fit.
-fn advise_on<'l>(
+fn advise_on(
     alloc: Global,
     recognizer: &Recognizer<'_, '_>,
-    formats: Formats<'l>,
-    sample: LinesOf<'_, 'l>,
+    formats: Formats<'_>,
+    sample: LinesOf<'_, '_>,
     candidates: Vec<Candidate>,
 ) -> Result<Advice, AllocError> {
     let LinesOf { lines, header } = sample;

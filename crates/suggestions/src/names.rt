@@ -91,8 +91,10 @@ struct Suggested {
 
 impl Suggested {
     fn add(&mut self, key: &'static str) {
-        self.has_other = self.has_other || self.key.is_some_and(|so_far| so_far != key);
-        self.key = self.key.or(Some(key));
+        match self.key {
+            Some(so_far) => self.has_other = self.has_other || so_far != key,
+            None => self.key = Some(key),
+        }
     }
 
     fn key(&self) -> Option<&'static str> {

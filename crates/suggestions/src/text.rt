@@ -249,7 +249,11 @@ impl TextWriter<'_> {
     ) -> Result<(), AllocError> {
         let has_words = column.content == Content::Token(Kind::Word) && column.are_words;
         let are_words = has_words && !column.may_change;
-        let key = key_of(columns, index, if are_words { "word" } else { "field" });
+        let key = if are_words {
+            key_of(columns, index, "word")
+        } else {
+            key_of(columns, index, "field")
+        };
         let value = if are_words && !is_open(key) {
             WORD
         } else if column.content == Content::Value {
