@@ -114,6 +114,10 @@ fn is_minute(tens: u8, ones: u8) -> bool {
     matches!(tens, b'0'..=b'5') && ones.is_ascii_digit()
 }
 
+fn is_hour_or_minute(tens: u8, ones: u8) -> bool {
+    is_hour(tens, ones) || is_minute(tens, ones)
+}
+
 /// Returns whether a time of day, such as `06:25`, begins at this byte. No digit stands around it, and no point
 /// before it, as in an address with a port.
 fn is_time_at(bytes: &[u8], start: usize) -> bool {
@@ -179,6 +183,8 @@ impl KeyValues {
 #[derive(Clone, Copy)]
 pub(crate) struct Stretch<'t> {
     pub(crate) beginning: &'t str,
+    /// Whether the beginning ends after the tens of the minutes or of the seconds.
+    pub(crate) is_of_tens: bool,
     pub(crate) count: u64,
 }
 
@@ -194,6 +200,7 @@ fn stretches_at<'t>(
     let mut stretches: Vec<Stretch<'t>> = Vec::new(alloc);
     'times: for time in times {
         let beginning = time.as_str().get(..cut).unwrap_or(time.as_str());
+        let is_of_tens = is_between_digits(time.as_str(), cut);
         if let Some(last) = stretches.last_mut()
             && last.beginning == beginning
         {
@@ -203,17 +210,38 @@ fn stretches_at<'t>(
         if stretches.len() == MOST_STRETCHES {
             return Ok(None);
         }
-        let count = 1;
-        stretches.push(Stretch { beginning, count })?;
+        stretches.push(Stretch {
+            beginning,
+            is_of_tens,
+            count: 1,
+        })?;
     }
     Ok(Some(stretches))
 }
 
-/// Returns whether a time can be cut after this many bytes: at its end, or before a byte that is neither a letter
-/// nor a digit.
+/// Returns whether the digits of a minute or a second stand around this byte position: its tens come after two digits
+/// and a colon, as in `06:2`.
+fn is_between_digits(time: &str, cut: usize) -> bool {
+    let bytes = time.as_bytes();
+    let Some([before @ .., a, b, b':', tens]) = bytes.get(..cut) else {
+        return false;
+    };
+    let is_in_time = match before.last() {
+        Some(before) => !before.is_ascii_digit(),
+        None => true,
+    };
+    let is_before_digit = match bytes.get(cut) {
+        Some(ones) => ones.is_ascii_digit(),
+        None => false,
+    };
+    is_in_time && is_hour_or_minute(*a, *b) && tens.is_ascii_digit() && is_before_digit
+}
+
+/// Returns whether a time can be cut after this many bytes: at its end, before a byte that is neither a letter nor a
+/// digit, or after the tens of its minutes or seconds.
 fn is_cut(time: &str, cut: usize) -> bool {
     match time.as_bytes().get(cut) {
-        Some(b) => !b.is_ascii_alphanumeric(),
+        Some(b) => !b.is_ascii_alphanumeric() || is_between_digits(time, cut),
         None => true,
     }
 }
