@@ -152,6 +152,10 @@ STOPS = {
     "many pieces under --why": lambda size: Run(["--why", "--", repeated(size, "[a-f]+,")], lines="a," * 40 + "x\n"),
     "many placeholders under --why": lambda size: Run(
         ["--why", "--max-expansion", "3000000", "--", repeated(size, lambda n: f"%{{USER:k{n}}},")], lines="a," * 40 + " x\n"),
+    "many optional pieces under --why": lambda size: Run(
+        ["--why", "--", "r" + repeated(size, "[a-z]?") + "!"], lines="root 1\nbob 2\nx 3\n"),
+    "many optional pieces under --html": lambda size: Run(
+        ["--html", "/dev/null", "--", "r" + repeated(size, "[a-z]?") + "!"], lines="root 1\nbob 2\nx 3\n"),
     "nested groups under --why": lambda size: Run(
         ["--why", "--", "a" * (size // 2) + "(?:" * 200 + "b" + ")" * 200], lines="a" * (size // 2) + "c\n"),
     "many patterns under --why": lambda size: Run(
@@ -199,12 +203,22 @@ def stops(words):
     return Run([*words, "--", "\\w" * 200 + "!"], lines="".join("a" * size + "\n" for size in sizes))
 
 
+def classes(words):
+    """19,000 times `\\w`, in 2 kB of words. The engine refuses them, after its parser has taken most of the memory."""
+    return Run([*words, "--max-expansion", "40000", "-D", "A=" + "\\w" * 1000, "%{A}" * 19], lines="a\n", status=FAULT)
+
+
 COSTS = {
     "lines under --show": (lambda: Run(["--show", "%{COMBINEDAPACHELOG}"], lines=APACHE_LINE * 10_000), 1, 100),
     "lines under --html": (
         lambda: Run([*PAGE, "--max", "10000", "%{COMBINEDAPACHELOG}"], lines=APACHE_LINE * 10_000), 1.5, 200),
     "stops under --why": (lambda: stops(["--why=20"]), 4, 150),
     "stops under --html": (lambda: stops(PAGE), 4, 150),
+    "stops of many optional pieces under --html": (
+        lambda: Run([*PAGE, "--", "".join(f"[a-z]?{n % 10}" for n in range(2000))],
+                    lines="".join("".join(f"{n % 10}" for n in range(size)) + "\n" for size in range(95, 1901, 95))), 4, 150),
+    "classes within the limit": (lambda: classes([]), 2, 200),
+    "classes within the limit under --why": (lambda: classes(["--why"]), 2, 200),
     "one key under --html": (lambda: optional(PAGE, "(?:%{A:x})?" * 4000), 1.5, 100),
     "keys in brackets under --html": (lambda: optional(PAGE, "".join(f"%{{A:[a][k{n}]}}" for n in range(3300))), 2, 100),
     "a long inline definition under --html": (

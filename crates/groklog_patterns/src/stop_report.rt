@@ -91,8 +91,8 @@ fn push_fields(
     open: &[Group],
 ) -> Result<(), AllocError> {
     let mut is_first = true;
-    for number in 0..found.locations.len() {
-        if let (Some((start, end)), Some(key)) = (found.locations.get(number), searched.key(number))
+    for (number, range) in found.groups.iter().enumerate() {
+        if let (Some((start, end)), Some(key)) = (*range, searched.key(number))
             && !open.iter().any(|group| group.number == Some(number))
         {
             let key = visible(alloc, key)?;

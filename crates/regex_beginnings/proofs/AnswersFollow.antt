@@ -1,9 +1,7 @@
 -- What a compiled text finds answers for the text that it was compiled from, and a text that is refused finds nothing.
-use Rattle.std.proofs.Common.{◌≡◌, ℕ, List, Bool, true, false, Option, Some, None, MatchOption, inl, inr, refl, subst, ◌∙◌}
-use Rattle.regex.specs.Strings.{regex_source}
-use Rattle.regex.specs.declared.string.regex.Regex.{Regex}
+use Rattle.std.proofs.Common.{◌≡◌, ℕ, List, Bool, true, false, Option, Some, None, MatchOption, inl, inr, refl, subst}
 use Rattle.regex_beginnings.specs.declared.compiled.Found.{Found}
-use Rattle.regex_beginnings.specs.Finds.{IsReadByDefault, IsRefused, IsDecided, IsAnswer, IsMatchOf, IsFirstMatchIn}
+use Rattle.regex_beginnings.specs.Finds.{IsRefused, IsDecided, IsAnswer, IsMatchIn, IsFirstMatchIn}
 
 pub decided : (source text line : List ℕ) (b : Bool) → IsDecided source line b → source ≡ text → IsAnswer text line b
 decided source text line true is e = subst (λ t. IsDecided t line true) e is
@@ -12,9 +10,9 @@ decided source text line false is e = inr (subst (λ t. IsDecided t line false) 
 pub refused : (source text line : List ℕ) → IsRefused source → source ≡ text → IsAnswer text line false
 refused source text line is e = inl (subst IsRefused e is)
 
-pub first_match : (regex : Regex) (source text line : List ℕ) (found : Option Found) → ∥ IsReadByDefault regex ∥₁ → IsMatchOf regex line found
-    → regex_source regex ≡ source → source ≡ text → IsFirstMatchIn text line found
-first_match regex source text line found read is e f = inr (regex, e ∙ f, read, is)
+pub first_match : (source text line : List ℕ) (found : Option Found) → IsMatchIn source line found → source ≡ text →
+    IsFirstMatchIn text line found
+first_match source text line found is e = inr (subst (λ t. IsMatchIn t line found) e is)
 
 pub no_match : (source text line : List ℕ) → IsRefused source → source ≡ text → IsFirstMatchIn text line None
 no_match source text line is e = inl (subst IsRefused e is, refl)

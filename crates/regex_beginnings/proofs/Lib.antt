@@ -1,1 +1,4 @@
 pub mod AnswersFollow
+pub mod AutomataFindMatches
+pub mod GroupsOfMatches
+pub mod PatternsOfTexts

@@ -1,12 +1,13 @@
 //! The beginnings of a regular expression.
 ghost use Rattle.std.specs.Prelude.{◌≡◌, IfOk, MatchOption, ⊤, string_bytes};
-ghost use Rattle.regex.specs.Strings.{regex_source};
 ghost use Rattle.regex_beginnings.specs.Pieces.{ArePiecesOf, beginning_text, text_upto};
-ghost use Rattle.regex_beginnings.specs.Finds.{IsAnswer, IsFirstMatchIn};
+ghost use Rattle.regex_beginnings.specs.Finds.{IsAnswer, IsDecided, IsFirstMatchIn, IsMatchIn};
 ghost use Rattle.regex_beginnings.specs.Beginnings.{pieces_of, groups_of, IsLongestIn};
 
-use crate::compiled::{Compiled, Found, compile};
+use crate::by_regex::{find_by_regex, is_found_by_regex};
+use crate::compiled::{Compiled, Found};
 use crate::pieces::{Group, Piece, Pieces, cut};
+use regex_vm::Declined;
 use std::alloc::{AllocError, Global};
 use std::collections::BTreeMap;
 
@@ -79,10 +80,10 @@ impl<'a> Beginnings<'a> {
     }
 
     fn known(&self, count: usize, text: &str) -> Option<&Compiled>
-        ensures { MatchOption result ⊤ (λ known. regex_source known.now.regex ≡ text.now) }
+        ensures { MatchOption result ⊤ (λ known. string_bytes known.now.text ≡ text.now) }
     {
         match self.compiled.get(&count) {
-            Some(known) if known.regex.as_str() == text => Some(known),
+            Some(known) if known.text.as_str() == text => Some(known),
             _ => None,
         }
     }
@@ -99,21 +100,50 @@ impl<'a> Beginnings<'a> {
         Ok(())
     }
 
+    /// Returns `Declined` if the automata of this beginning don't decide whether it finds something. `text` is its text.
+    fn finds_by_automata(
+        &mut self,
+        step: usize,
+        count: usize,
+        text: &str,
+        line: &str,
+    ) -> Result<bool, Declined>
+        ensures answer { IfOk result (IsDecided text.now line.now) }
+        ensures same { pieces_of self.new ≡ pieces_of self.old }
+    {
+        if let Some(known) = self.known(count, text) {
+            return known.is_found(self.alloc, line);
+        }
+        let compiled = Compiled::build(self.alloc, text)?;
+        let finds = compiled.is_found(self.alloc, line)?;
+        self.keep(step, count, compiled)?;
+        Ok(finds)
+    }
+
     /// `step` is the step of the search for the longest beginning that needs this one.
     fn finds(&mut self, step: usize, count: usize, line: &str) -> Result<bool, AllocError>
         ensures answer { IfOk result (IsAnswer (beginning_text (pieces_of self.old) count) line.now) }
         ensures same { pieces_of self.new ≡ pieces_of self.old }
     {
         let text = self.text_of(count)?;
-        if let Some(known) = self.known(count, text.as_str()) {
-            return Ok(known.is_found(self.alloc, line)?);
+        match self.finds_by_automata(step, count, text.as_str(), line) {
+            Ok(finds) => Ok(finds),
+            Err(Declined) => is_found_by_regex(self.alloc, text.as_str(), line),
         }
-        let Some(compiled) = compile(self.alloc, text.as_str())? else {
-            return Ok(false);
-        };
-        let finds = compiled.is_found(self.alloc, line)?;
-        self.keep(step, count, compiled)?;
-        Ok(finds)
+    }
+
+    fn find_by_automata(
+        &self,
+        count: usize,
+        text: &str,
+        line: &str,
+    ) -> Result<Option<Found>, Declined>
+        ensures { IfOk result (IsMatchIn text.now line.now) }
+    {
+        match self.known(count, text) {
+            Some(known) => known.find(self.alloc, line),
+            None => Compiled::build(self.alloc, text)?.find(self.alloc, line),
+        }
     }
 
     /// Returns the first match of the beginning of `count` pieces in the line, or `None` if it finds
@@ -122,12 +152,9 @@ impl<'a> Beginnings<'a> {
         ensures { IfOk result (IsFirstMatchIn (beginning_text (pieces_of self.now) count) line.now) }
     {
         let text = self.text_of(count)?;
-        if let Some(known) = self.known(count, text.as_str()) {
-            return Ok(known.find(self.alloc, line)?);
-        }
-        match compile(self.alloc, text.as_str())? {
-            Some(compiled) => Ok(compiled.find(self.alloc, line)?),
-            None => Ok(None),
+        match self.find_by_automata(count, text.as_str(), line) {
+            Ok(found) => Ok(found),
+            Err(Declined) => find_by_regex(self.alloc, text.as_str(), line),
         }
     }
 

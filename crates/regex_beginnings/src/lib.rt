@@ -15,7 +15,9 @@
 #![tactic(auto)]
 
 mod beginnings;
+mod by_regex;
 mod compiled;
+mod groups;
 mod pieces;
 mod scan;
 
