@@ -2,13 +2,12 @@
 //! stand for more text than any memory holds.
 
 use crate::diagnosis::describe_location;
-use grok::parser::{GrokComponent, grok_split};
+use grok::parser::{Use, uses_in};
 use grok::{Grok, Measure};
 use groklog_definitions::{Library, PatternText};
 use groklog_input::{Report, add_excerpt};
 use std::alloc::{AllocError, Global};
 use std::collections::BTreeMap;
-use std::ops::Range;
 
 /// Which number of an expanded text is too great.
 #[derive(Clone, Copy, PartialEq, Eq)]
@@ -27,46 +26,6 @@ impl Excess {
             (Excess::Groups, _) => 0,
         }
     }
-}
-
-/// A placeholder for a stored definition.
-#[derive(Clone, Copy)]
-pub(crate) struct Use<'a> {
-    pub name: &'a str,
-    /// Whether it becomes a group of its own.
-    is_capturing: bool,
-    /// The byte of its text where it begins, and the one after it.
-    start: usize,
-    end: usize,
-}
-
-/// Returns the placeholders of a text that stand for stored definitions.
-pub(crate) fn uses_in<'a>(
-    alloc: Global,
-    text: &'a str,
-    with_alias_only: bool,
-) -> Result<Vec<Use<'a>>, AllocError> {
-    let mut uses = Vec::new(alloc);
-    for piece in grok_split(text) {
-        if let GrokComponent::GrokPattern {
-            range,
-            name,
-            alias,
-            definition,
-            ..
-        } = piece
-            && definition.is_empty()
-        {
-            let Range { start, end } = range;
-            uses.push(Use {
-                name,
-                is_capturing: !with_alias_only || !alias.is_empty(),
-                start,
-                end,
-            })?;
-        }
-    }
-    Ok(uses)
 }
 
 /// A definition that a pattern uses, and how far its uses are counted.
@@ -94,8 +53,8 @@ impl<'a> UsedDefinitions<'a> {
     /// Adds the definitions that a text uses. Returns the texts of those that are new.
     fn add_uses(&mut self, grok: &'a Grok, text: &'a str) -> Result<Vec<&'a str>, AllocError> {
         let mut texts = Vec::new(self.alloc);
-        for Use { name, .. } in &uses_in(self.alloc, text, self.with_alias_only)? {
-            if let Some(used) = self.by_name.get_mut(*name) {
+        for Use { name, .. } in uses_in(text) {
+            if let Some(used) = self.by_name.get_mut(name) {
                 used.waiting = used.waiting.saturating_add(1);
                 continue;
             }
@@ -107,7 +66,7 @@ impl<'a> UsedDefinitions<'a> {
                 waiting,
                 count,
             };
-            self.by_name.insert(*name, used)?;
+            self.by_name.insert(name, used)?;
             texts.push(text)?;
         }
         Ok(texts)
@@ -147,8 +106,8 @@ impl<'a> UsedDefinitions<'a> {
             let Some((text, times)) = left.pop() else {
                 break;
             };
-            for Use { name, .. } in &uses_in(self.alloc, text, self.with_alias_only)? {
-                if let Some(used) = self.by_name.get_mut(*name) {
+            for Use { name, .. } in uses_in(text) {
+                if let Some(used) = self.by_name.get_mut(name) {
                     used.count = used.count.saturating_add(times);
                     used.waiting = used.waiting.saturating_sub(1);
                     if used.waiting == 0 {
@@ -162,14 +121,15 @@ impl<'a> UsedDefinitions<'a> {
 
     /// Returns how many bytes or groups, whichever are too many, a placeholder adds.
     fn share(&self, each: &Use<'_>) -> u128 {
-        let own = each.is_capturing && self.excess == Excess::Groups;
+        let is_capturing = !self.with_alias_only || !each.alias.is_empty();
+        let own = is_capturing && self.excess == Excess::Groups;
         let size = self.by_name.get(each.name).map_or(0, |used| used.size);
         size.saturating_add(own as u128)
     }
 }
 
 /// A definition that a text uses, and how much of the expanded text comes from it.
-#[derive(Clone, Copy)]
+#[derive(Drop)]
 struct Part<'a> {
     /// Its first placeholder in the text.
     first: Use<'a>,
@@ -185,19 +145,22 @@ fn greatest_part<'a>(
     used: &UsedDefinitions<'a>,
     text: &'a str,
 ) -> Result<Option<Part<'a>>, AllocError> {
-    let mut parts = BTreeMap::new(used.alloc);
-    for each in &uses_in(used.alloc, text, used.with_alias_only)? {
-        let before: Option<&Part<'a>> = parts.get(each.name);
+    let mut parts: BTreeMap<&'a str, Part<'a>> = BTreeMap::new(used.alloc);
+    for each in uses_in(text) {
+        let share = used.share(&each);
+        if let Some(part) = parts.get_mut(each.name) {
+            part.is_several = true;
+            part.share = part.share.saturating_add(share);
+            continue;
+        }
         let part = Part {
-            first: before.map_or(*each, |part| part.first),
-            is_several: before.is_some(),
-            share: before
-                .map_or(0, |part| part.share)
-                .saturating_add(used.share(each)),
+            first: each,
+            is_several: false,
+            share,
         };
-        parts.insert(each.name, part)?;
+        parts.insert(part.first.name, part)?;
     }
-    Ok(parts.values().max_by_key(|part| part.share).copied())
+    Ok(parts.into_values().max_by_key(|part| part.share))
 }
 
 /// Where a text becomes large.
@@ -228,24 +191,22 @@ fn growth_of<'a>(used: &UsedDefinitions<'a>, pattern: &'a str) -> Result<Growth<
         let Some(part) = greatest_part(used, text)? else {
             break;
         };
+        let name = part.first.name;
         if part.is_several || !is_several {
             is_several = part.is_several;
             let names = Vec::from_slice(alloc, names.as_slice())?;
             let part = Some(part);
             found = Growth { names, text, part };
         }
-        names.push(part.first.name)?;
-        text = used
-            .by_name
-            .get(part.first.name)
-            .map_or("", |next| next.text);
+        names.push(name)?;
+        text = used.by_name.get(name).map_or("", |next| next.text);
     }
     Ok(found)
 }
 
 fn advice_for_size(
     used: &UsedDefinitions<'_>,
-    part: Option<Part<'_>>,
+    part: Option<&Part<'_>>,
 ) -> Result<String, AllocError> {
     let alloc = used.alloc;
     let raise = match used.excess {
@@ -319,14 +280,14 @@ pub fn too_large_report(
     used.add_all(grok, text)?;
     used.measure(grok)?;
     used.count(text)?;
-    let growth = growth_of(&used, text)?;
-    let advice = advice_for_size(&used, growth.part)?;
+    let Growth { names, text, part } = growth_of(&used, text)?;
+    let advice = advice_for_size(&used, part.as_ref())?;
     let mut report = Report::new(alloc, what.as_str(), advice.as_str())?;
-    let range = match growth.part {
-        Some(Part { first, .. }) => first.start..first.end,
-        None => 0..growth.text.len(),
+    let range = match part {
+        Some(Part { first, .. }) => first.range,
+        None => 0..text.len(),
     };
-    let location = describe_location(alloc, library, pattern, growth.names.as_slice())?;
-    add_excerpt(alloc, &mut report, location.as_str(), growth.text, range)?;
+    let location = describe_location(alloc, library, pattern, &names)?;
+    add_excerpt(alloc, &mut report, location.as_str(), text, range)?;
     Ok(report)
 }

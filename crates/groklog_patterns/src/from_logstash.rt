@@ -1,7 +1,7 @@
 //! Rewrites what was made for Logstash: the patterns, and the definitions that they use.
 
-use crate::expansions::uses_in;
 use grok::Measure;
+use grok::parser::uses_in;
 use groklog_definitions::{DefinitionSource, Library, Origin, PatternText, common_definition};
 use groklog_input::{Fault, Report, add_excerpt};
 use oniguruma_syntax::{Outcome, Reason, Refused, Rewritten, Wish, rewrite};
@@ -16,14 +16,6 @@ pub struct Adapted {
     pub notes: Vec<String>,
 }
 
-/// Appends the names of the stored definitions that a text uses.
-fn push_uses<'t>(alloc: Global, names: &mut Vec<&'t str>, text: &'t str) -> Result<(), AllocError> {
-    for each in &uses_in(alloc, text, true)? {
-        names.push(each.name)?;
-    }
-    Ok(())
-}
-
 /// Returns the user's definitions that patterns use, themselves or through other definitions. Each comes
 /// once, in the byte order of their names.
 fn used_sources<'a>(
@@ -35,7 +27,7 @@ fn used_sources<'a>(
     let mut seen = BTreeSet::new(alloc);
     let mut left = Vec::new(alloc);
     for pattern in patterns {
-        push_uses(alloc, &mut left, pattern.text.as_str())?;
+        left.extend(uses_in(pattern.text.as_str()).map(|each| each.name))?;
     }
     for _ in 0..u64::MAX {
         let Some(name) = left.pop() else {
@@ -48,7 +40,7 @@ fn used_sources<'a>(
         else {
             continue;
         };
-        push_uses(alloc, &mut left, text)?;
+        left.extend(uses_in(text).map(|each| each.name))?;
         if source.origin.is_own() {
             found.push(source)?;
         }
@@ -213,7 +205,7 @@ pub fn own_wholes<'a>(alloc: Global, library: &Library<'a>) -> Result<Vec<&'a st
     let mut used = Vec::new(alloc);
     for source in &own {
         if let Some(text) = library.grok.definition(source.name) {
-            push_uses(alloc, &mut used, text)?;
+            used.extend(uses_in(text).map(|each| each.name))?;
         }
     }
     let mut wholes = Vec::new(alloc);
