@@ -29,6 +29,7 @@ pub mod CountedMeasures
 pub mod FaultLocations
 pub mod ByteLocations
 pub mod ClashLocations
+pub mod KeyLocations
 pub mod Diagnoses
 pub mod TreeLaws
 pub mod steps
@@ -60,6 +61,7 @@ pub use Rattle.grok.specs.CountedMeasures.{IsCountedMeasure}
 pub use Rattle.grok.specs.FaultLocations.{IsFaultAt, IsFaultOf, path_view}
 pub use Rattle.grok.specs.ByteLocations.{HasByte, IsEventAt, IsByteLocation, LocatesByte}
 pub use Rattle.grok.specs.ClashLocations.{HasKeyAt, IsClashAt}
+pub use Rattle.grok.specs.KeyLocations.{IsUseAt, HasUse, LocatesKey}
 pub use Rattle.grok_parser.specs.Malformations.{IsMalformedAt}
 pub use Rattle.grok.specs.Diagnoses.{FindsDiagnosis, IsDiagnosis, IsFine, IsFirstStructural, IsFirstMalformed, IsFirstClashOf, IsRefusedAs, IsBlamed, IsRefusedPart, IsInnermost, AreNotToBlame, IsNotToBlame, IfPlaceholder, IfRefused, LeadsTo, IsTooLong, LocatesReason, IsOriginOf}
 -- errors, and what compiling returns

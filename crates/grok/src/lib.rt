@@ -53,6 +53,7 @@ pub mod laws;
 mod locate;
 mod locate_byte;
 mod locate_clash;
+mod locate_key;
 mod location;
 mod matches;
 mod measure;

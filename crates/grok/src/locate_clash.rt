@@ -118,7 +118,7 @@ impl<'a> Search<'a> for UseSearch<'a, '_, '_> {
     }
 }
 
-fn find_use<'a>(
+pub(crate) fn find_use<'a>(
     settings: Settings<'a>,
     parts: &KnownParts<'a>,
     base: &str,

@@ -27,6 +27,10 @@ fn ask(rt: &HostRuntime, (label, name): (&str, &str), grok: &Grok, pattern: &str
         "diagnose" => finish(rt, label, grok.diagnose(pattern, true)),
         "byte" => finish(rt, label, grok.locate_byte(pattern, false, 36)),
         "bytes" => finish(rt, label, grok.locate_bytes(pattern, false, &[36, 10, 100])),
+        "located_keys" => {
+            let keys = [("A", 2), ("key", 0), ("A", 3)];
+            finish(rt, label, grok.locate_keys(pattern, false, &keys))
+        }
         "measure" | "measure_aliases" | "counted" | "all" => {
             measure(rt, (label, name), grok, pattern)
         }

@@ -2,10 +2,9 @@
 
 use crate::compiled::RunPattern;
 use crate::stop_report::cut_text;
-use grok::{ByteLocation, Location, Pattern, WrittenByte};
+use grok::{Location, Pattern, PlaceholderKey};
 use groklog_definitions::Library;
 use std::alloc::{AllocError, Global};
-use std::collections::BTreeMap;
 
 /// How many characters of each part of a title are shown at most.
 const MOST_SHOWN: usize = 100;
@@ -21,84 +20,21 @@ struct Key<'k> {
     name: &'k str,
 }
 
-/// A pattern, and the byte positions in the expanded text where its groups begin.
-#[derive(Drop)]
-struct GroupStarts<'p> {
-    of: &'p RunPattern,
-    /// Where the group of each name begins.
-    starts: BTreeMap<&'p str, usize>,
-}
-
 /// Returns the text, which is cut if it is long.
 fn shortened(alloc: Global, text: &str) -> Result<String, AllocError> {
     cut_text(alloc, text, MOST_SHOWN)
 }
 
-/// Returns the byte position where the group of each name begins in an expanded text, which is read once.
-fn starts_of_groups(alloc: Global, expanded: &str) -> Result<BTreeMap<&str, usize>, AllocError> {
-    let mut starts = BTreeMap::new(alloc);
-    let mut parts = expanded.split("(?<");
-    let mut start = parts.next().unwrap_or("").len();
-    for part in parts {
-        if let Some((name, _)) = part.split_once(">")
-            && !starts.contains_key(&name)
-        {
-            starts.insert(name, start)?;
-        }
-        start = start.saturating_add("(?<".len()).saturating_add(part.len());
+/// Returns the placeholder that captures the value of a key, or `None` if a group that was written by hand does.
+fn placeholder_of<'p>(pattern: &'p Pattern, key: &str) -> Option<&'p PlaceholderKey> {
+    let name = pattern.group_names().get(pattern.group_of(key)?)?;
+    if name.as_ref()?.as_str() == key {
+        return None;
     }
-    Ok(starts)
-}
-
-/// Returns the location of the placeholder whose group has a byte, or `None` if the byte is one of regular text.
-fn placeholder_of(written: ByteLocation<'_>) -> Option<Location<'_>> {
-    let ByteLocation { location, part } = written;
-    match part {
-        WrittenByte::OfGroup => Some(location),
-        WrittenByte::Copied(_) => None,
-    }
-}
-
-impl<'p> GroupStarts<'p> {
-    fn new(alloc: Global, of: &'p RunPattern) -> Result<GroupStarts<'p>, AllocError> {
-        let starts = starts_of_groups(alloc, of.pattern.text())?;
-        Ok(GroupStarts { of, starts })
-    }
-
-    fn start(&self, key: &str) -> Option<usize> {
-        let pattern = &self.of.pattern;
-        let name = pattern.group_names().get(pattern.group_of(key)?)?;
-        let name = name.as_ref()?;
-        self.starts.get(&name.as_str()).copied()
-    }
-
-    /// Returns for each key the location of the placeholder that captures its value, or `None` if the group was
-    /// written by hand.
-    fn placeholders(
-        &self,
-        alloc: Global,
-        library: &'p Library<'_>,
-        keys: &[Key<'_>],
-    ) -> Result<Vec<Option<Location<'p>>>, AllocError> {
-        let mut starts = Vec::new(alloc);
-        for key in keys {
-            // No text has a byte at the greatest position.
-            starts.push(self.start(key.name).unwrap_or(usize::MAX))?;
-        }
-        let text = &self.of.text;
-        let found = library
-            .grok
-            .locate_bytes(text.text.as_str(), text.with_alias_only, &starts)?;
-        let mut locations = Vec::new(alloc);
-        for written in found {
-            let location = match written {
-                Some(written) => placeholder_of(written),
-                None => None,
-            };
-            locations.push(location)?;
-        }
-        Ok(locations)
-    }
+    pattern
+        .placeholder_keys()
+        .iter()
+        .find(|placeholder| placeholder.key.as_str() == key)
 }
 
 /// Returns the key with its placeholder, which stands at this location, and with the definition of the
@@ -122,15 +58,24 @@ fn title_of(
     Ok(title)
 }
 
-/// Sets the titles of the keys that have the location of a placeholder.
+/// Sets the titles of the keys whose values placeholders of a pattern capture.
 fn add_placeholders(
     alloc: Global,
     library: &Library<'_>,
     titles: &mut Vec<String>,
+    of: &RunPattern,
     keys: &[Key<'_>],
-    locations: &[Option<Location<'_>>],
 ) -> Result<(), AllocError> {
-    for (key, location) in keys.iter().zip(locations) {
+    let (mut sought, mut placed) = (Vec::new(alloc), Vec::new(alloc));
+    for key in keys {
+        if let Some(placeholder) = placeholder_of(&of.pattern, key.name) {
+            sought.push((placeholder.base(), placeholder.number))?;
+            placed.push(*key)?;
+        }
+    }
+    let (text, with_alias_only) = (of.text.text.as_str(), of.text.with_alias_only);
+    let locations = library.grok.locate_keys(text, with_alias_only, &sought)?;
+    for (key, location) in placed.iter().zip(&locations) {
         if let (Some(location), Some(title)) = (location, titles.get_mut(key.index)) {
             *title = title_of(alloc, library, location, key.name)?;
         }
@@ -171,10 +116,9 @@ pub fn titles_of(
             rest.push(Key { index, name })?;
         }
     }
-    for pattern in patterns {
-        let (own, others) = keys_of(alloc, &pattern.pattern, &rest)?;
-        let locations = GroupStarts::new(alloc, pattern)?.placeholders(alloc, library, &own)?;
-        add_placeholders(alloc, library, &mut titles, &own, &locations)?;
+    for of in patterns {
+        let (own, others) = keys_of(alloc, &of.pattern, &rest)?;
+        add_placeholders(alloc, library, &mut titles, of, &own)?;
         rest = others;
     }
     Ok(titles)

@@ -9,7 +9,8 @@ use Rattle.grok.specs.FaultLocations.{path_view}
 use Rattle.grok.specs.ByteLocations.{IsEventAt}
 use Rattle.grok.specs.ClashLocations.{HasKeyAt, IsClashAt}
 use Rattle.grok.specs.steps.TreeClashes.{IsClashIn}
-use Rattle.grok.specs.steps.UseSearches.{IsUseAt, FindsUse}
+use Rattle.grok.specs.KeyLocations.{IsUseAt}
+use Rattle.grok.specs.steps.UseSearches.{FindsUse}
 use Rattle.grok.specs.declared.expand.clash_search.FoundClash.{FoundClash}
 use Rattle.grok.specs.declared.location.Location.{Location}
 use Rattle.grok.specs.declared.locate_clash.Clash as found

@@ -14,7 +14,8 @@ use Rattle.grok.specs.steps.Searches.{PassesMore, StopsAt}
 use Rattle.grok.specs.steps.Rows.{uses_in}
 use Rattle.grok.specs.steps.CountedUses.{no_uses, AreCountsOf}
 use Rattle.grok.specs.steps.KnownParts.{resolve, opened_events, used_keys, IsKnownPartOf}
-use Rattle.grok.specs.steps.UseSearches.{CanSearch, HasPassedUses, IsSoughtUse, IsUseAt}
+use Rattle.grok.specs.KeyLocations.{IsUseAt}
+use Rattle.grok.specs.steps.UseSearches.{CanSearch, HasPassedUses, IsSoughtUse}
 use Rattle.grok.specs.declared.location.Location.{Location}
 use Rattle.grok.specs.declared.expand.uses.Uses.{Uses}
 use Rattle.grok.specs.declared.settings.Settings.{Settings}

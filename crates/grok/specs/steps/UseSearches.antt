@@ -1,9 +1,8 @@
 -- What the search for one use of a base key passes over, and what it seeks.
 use Rattle.std.specs.Prelude.{◌≡◌, ℕ, ◌+◌, ◌-◌, ◌^◌, ◌<◌, ◌≤◌, Bool, true, List, Option, MatchOption}
-use Rattle.grok.specs.Tree.{Definitions, Label, Meaning, PlaceholderItem, Event, Text, Open, Close, FaultEvent, deepest, tree}
+use Rattle.grok.specs.Tree.{Definitions, Event, Text, Open, Close, FaultEvent, tree}
 use Rattle.grok.specs.Keys.{is_capturing, capturing, base_key, how_often}
-use Rattle.grok.specs.FaultLocations.{path_view}
-use Rattle.grok.specs.ByteLocations.{IsEventAt}
+use Rattle.grok.specs.KeyLocations.{IsUseAt}
 use Rattle.grok.specs.steps.KnownParts.{AreKnown}
 use Rattle.grok.specs.steps.CountedUses.{AreCountsOf}
 use Rattle.grok.specs.declared.location.Location.{Location}
@@ -28,18 +27,6 @@ IsSoughtUse start es (Open label meaning) = (is_capturing start.settings.with_al
     × (how_often (capturing start.settings.with_alias_only es) start.base.now ≡ start.left)
 IsSoughtUse start es Close = ⊥
 IsSoughtUse start es (FaultEvent fault) = ⊥
-
--- At this location is a capturing placeholder of the pattern that has this base key. Before it, capturing placeholders use
--- the base key `number` times.
-pub record IsUseAt (stored : Definitions) (alias_only : Bool) (pattern base : List ℕ) (number : ℕ) (location : Location) : Type 0 where
-  pub label : Label
-  pub meaning : Meaning
-  pub before : List Event
-  pub stands : IsEventAt stored deepest pattern (path_view location.path.items) location.text.now
-      location.range.start location.range.end (PlaceholderItem label meaning) before (Open label meaning)
-  pub captures : is_capturing alias_only label ≡ true
-  pub asks : base_key label ≡ base
-  pub often : how_often (capturing alias_only before) base ≡ number
 
 -- What the search of a pattern for use `number` of a base key, counted from 0, returns: where the placeholder with that use
 -- is, or `None` if the base key isn't used that often.
