@@ -592,6 +592,14 @@ PIECES = {
     "%{A:}": ["InvalidPatternDefinition <error InvalidPatternDefinition>"],
 }
 
+# Texts with their placeholders that have no definition of their own: the byte range, the name and the alias of each.
+USES = {
+    "": [],
+    "100%%{A}": [],
+    "é%{A:a.b}": ['2..10 "A" "a.b"'],
+    "%{A:x=a}%{A}%{B:y:int}%{A} %%{C}%{D!%{E}": ['8..12 "A" ""', '12..22 "B" "y"', '22..26 "A" ""'],
+}
+
 # Patterns without a fault, cut into their pieces.
 CUT = [
     ["Hello, ", "%{name}", "!"],

@@ -176,6 +176,11 @@ CASES = [
     Case("one line without a time", "it makes no events of the others",
          "".join(f"2026-11-28 06:25:0{n} INFO {word}\n" for n, word in enumerate("abc", 1)) + "  more\n",
          proposal(4, "groklog -e '^%{TIMESTAMP_ISO8601:timestamp} %{LOGLEVEL:level} %{WORD:word}$' -e '^ +more$' log", shares=[3, 1])),
+    Case("a format that two lines of a hundred have", "one in fifty is enough for it to be in the command",
+         "".join(SQUID.format(n) for n in range(10, 70)) + KLOG.format(1, 1) + KLOG.format(2, 2) + "".join(DOOR.format(n, n) for n in range(38)),
+         rows((60, 12, "groklog '^%{SQUID3}$' log"), (2, 6, "groklog '^%{KLOG}$' log"))
+         + "these patterns match 100 of 100 lines (60 + 2 + 38):\n"
+         "groklog -e '^%{SQUID3}$' -e '^%{KLOG}$' -e '^door %{INT:number:int} opened by card %{INT:number2:int}$' log\n"),
     Case("a format that one line has", "it is listed, and isn't in the command", "".join(KLOG.format(n, n) for n in range(1, 6))
          + "2201:M 28 Nov 2026 06:25:01.123 * Ready\nodd one\nodd two\n",
          rows((5, 6, "groklog '^%{KLOG}$' log"), (1, 5, "groklog '^%{REDISLOG}$' log"))
@@ -211,6 +216,8 @@ CASES = [
          "".join(LOGIN.format(n, USERS[n % 3], n * 7) for n in range(8)) + "7 odd one\n8 odd two\n",
          rows((8, 5, "groklog '^%{SYSLOGLINE}$' log"), (8, 5, "groklog '^%{JOURNALLINE}$' log"))
          + "these patterns match 10 of 10 lines (8 + 2):\ngroklog -e '^%{SYSLOGLINE}$' -e '^%{INT:number:int} odd %{WORD:word}$' log\n"),
+    Case("nine lines of ten of one form", "the tenth gets no pattern of its own", "".join(DOOR.format(n, n) for n in range(1, 10)) + "lamp=7 x,y z\n",
+         proposal(9, "groklog '^door %{INT:number:int} opened by card %{INT:number2:int}$' log", of=10)),
     Case("one line of twenty that has no values", "the others are values between semicolons",
          "".join(f"{n};{n + 1};{n + 2};{n + 3}\n" for n in range(1, 20)) + "20\n",
          "each line has 4 values, which mlr reads, too:\nmlr --icsv --ifs ';' --implicit-csv-header --ojson cat log\n"

@@ -41,11 +41,11 @@ DATESTAMP_RFC822=%{DAY} %{MONTH} +%{MONTHDAY} %{YEAR4} %{TIME} %{TZ}
 DATESTAMP_RFC2822=%{TIMESTAMP_RFC2822}
 DATESTAMP_OTHER=%{DAY} %{MONTH} +%{MONTHDAY} %{TIME} %{TZ} %{YEAR4}
 
-# Dates with the name of the month and a time after them (Cisco, PHP, Django), dates with a time of twelve hours (Windows),
-# without a year, and without marks.
-TIMESTAMP_MONTHNAME=(?:%{MONTHDAY}[ /-]%{MONTH}[ /-]%{YEAR4}|%{MONTH} +%{MONTHDAY},? %{YEAR4}),?[ :]%{TIME}(?: %{TZ})?
+# Dates with the name of the month and a time after them (Cisco, PHP, Django, Oracle's 28-NOV-2026, MikroTik's nov/28/2026), dates
+# with a time of twelve hours (Windows), without a year (Android; Snort's 11/28-06:25:01), and without marks.
+TIMESTAMP_MONTHNAME=(?:%{MONTHDAY}[ /-](?i:%{MONTH})[ /-]%{YEAR4}|(?i:%{MONTH})(?: +|/)%{MONTHDAY}(?:,? |/)%{YEAR4}),?[ :]%{TIME}(?: %{TZ})?
 DATESTAMP_12H=%{DATE},? +%{TIME} ?[AaPp][Mm]\b
-DATESTAMP_SHORT=%{MONTHNUM2}-%{MONTHDAY2} %{TIME}
+DATESTAMP_SHORT=%{MONTHNUM2}[-/]%{MONTHDAY2}[ -]%{TIME}
 DATESTAMP_COMPACT=%{YEAR4}%{MONTHNUM2}%{MONTHDAY2}[T_ -]%{TIME}
 
 # The times of WMI (CIM_DATETIME), of Apache Tomcat, of Unix (seconds or milliseconds since 1970), and of web servers (the

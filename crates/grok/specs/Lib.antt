@@ -39,6 +39,7 @@ pub use Rattle.grok_parser.specs.Pieces.{is_name_byte, is_brace, pieces_at}
 pub use Rattle.grok_parser.specs.PlaceholderNames.{is_name}
 pub use Rattle.grok_parser.specs.Grammar.{ArePieces, NonePass}
 pub use Rattle.grok_parser.specs.Views.{piece_view}
+pub use Rattle.grok_parser.specs.Uses.{UseValue, use_view, use_of, uses_in}
 pub use Rattle.grok_parser.specs.Texts.{component_text, component_debug, fault_words, IsFaultText, IsPieceText}
 pub use Rattle.grok_parser.specs.Tiles.{Tile}
 pub use Rattle.grok_parser.specs.Joined.{AreRegular, AreWellFormed, joined_pieces}

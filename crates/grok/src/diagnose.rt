@@ -71,8 +71,8 @@ pub enum Diagnosis<'a> {
 /// placeholder's group closes it, and the group that isn't closed is one further out.
 #[derive(PartialEq, Eq, Debug, Drop)]
 pub struct Refused<'a> {
-    /// The placeholders that lead from the pattern to the refused part, outermost first. If there is
-    /// none, the part is the pattern.
+    /// The placeholders that lead from the pattern to the refused part, outermost first. If the list
+    /// is empty, the refused part is the pattern itself.
     pub path: Vec<PathStep<'a>>,
     /// The part that `regex` refuses, taken as a pattern of its own: the pattern, or the definition
     /// that the path leads to.

@@ -10,11 +10,11 @@ use std::io::{ErrorKind, Read, Write};
 #[derive(Clone, Copy)]
 enum Failing {
     Never,
-    /// All from this one on.
+    /// All calls from this one on.
     Since(usize),
-    /// This one alone, because it would block.
+    /// This call alone, because it would block.
     At(usize),
-    /// Every second one, beginning with the first, is interrupted.
+    /// Every second call, beginning with the first, fails as interrupted.
     Interrupted,
     /// Each flush.
     Flush,

@@ -13,6 +13,14 @@ fn count_pieces() -> u64 {
     count
 }
 
+fn count_uses() -> u64 {
+    let mut count = 0u64;
+    for _ in parser::uses_in("%{A=a}%{A} %{B:key:int}") {
+        count = count.saturating_add(1);
+    }
+    count
+}
+
 pub(crate) fn call(rt: &HostRuntime, name: &str) -> Result<()> {
     'calls: for label in LABELS {
         begin(rt)?;
@@ -24,6 +32,7 @@ pub(crate) fn call(rt: &HostRuntime, name: &str) -> Result<()> {
 fn ask(rt: &HostRuntime, label: &str, name: &str) -> Result<()> {
     match name {
         "split" => finish(rt, label, count_pieces()),
+        "uses_in" => finish(rt, label, count_uses()),
         "is_name" => finish(rt, label, (parser::is_name("A_1"), parser::is_name("a-b"))),
         "split_name" => finish(rt, label, parser::split_name("NAME=definition")),
         _ => bail!("no call has this name"),

@@ -2,13 +2,14 @@
 use crate::libraries::library_of_input;
 use anyhow::{Result, bail};
 use grok::Grok;
-use grok::parser::{GrokComponent, grok_split};
+use grok::parser::{GrokComponent, Use, grok_split, uses_in};
 use regex::Regex;
 use std::io;
 
 pub(crate) fn call(rt: &HostRuntime, name: &str, words: &[String]) -> Result<()> {
     match (name, words) {
         ("pieces", []) => show_pieces(rt),
+        ("uses", []) => show_uses(rt),
         ("regex", []) => show_regex(rt),
         ("library", []) => show_library(rt),
         (_, [pattern]) => show_pattern(rt, name, &library_of_input(rt)?, pattern.as_str()),
@@ -31,6 +32,15 @@ fn show_pieces(rt: &HostRuntime) -> Result<()> {
     let text = io::read_to_string(rt.alloc(), rt.stdin())?;
     for piece in grok_split(text.as_str()) {
         show_piece(rt, &piece)?;
+    }
+    Ok(())
+}
+
+/// Prints the placeholders without a definition of their own in the text on standard input.
+fn show_uses(rt: &HostRuntime) -> Result<()> {
+    let text = io::read_to_string(rt.alloc(), rt.stdin())?;
+    for Use { range, name, alias } in uses_in(text.as_str()) {
+        println!(rt; "{range:?} {name:?} {alias:?}")?;
     }
     Ok(())
 }

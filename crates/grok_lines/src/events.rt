@@ -22,7 +22,8 @@ pub trait EventStarts {
         ensures same { starts self.new ≡ starts self.old };
 }
 
-/// Answers to lines, some of which may be left out.
+/// Answers to lines, of which the next ones can be skipped: they are counted, and nothing is written for
+/// them.
 pub trait SkipLines: LineAnswers {
     /// Leaves out the answers to the next `count` lines. Does nothing if that fails.
     ///

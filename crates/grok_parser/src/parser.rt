@@ -1,10 +1,11 @@
 //! Splits a pattern into its pieces: texts for the engine, and placeholders such as `%{name}`.
-ghost use Rattle.std.specs.Prelude.{◌≡◌, ◌+◌, ◌-◌, ◌<◌, ◌≤◌, ◌^◌, ◌≢◌, length, take, drop, List, ℕ, slice_index, true, false, MatchOption, IsOk};
+ghost use Rattle.std.specs.Prelude.{◌≡◌, ◌+◌, ◌-◌, ◌<◌, ◌≤◌, ◌^◌, ◌≢◌, length, take, drop, List, ℕ, slice_index, true, false, option_map, filter_map, MatchOption, IsOk};
 ghost use Rattle.std.specs.Fmt.{IsPlainFormatter, HasWritten, DisplaysOnOk};
 ghost use Rattle.std.specs.List.{prefix_len, position_or_len, take_while};
 ghost use Rattle.std.specs.Str.{IsCharBoundary};
 ghost use Rattle.grok_parser.specs.steps.Rest.{IsRest};
 ghost use Rattle.grok_parser.specs.Views.{piece_view};
+ghost use Rattle.grok_parser.specs.Uses.{use_view, use_of, uses_in};
 ghost use Rattle.grok_parser.specs.Pieces.{is_name_byte, is_percent, is_open, regular_skip, regular_len, first_piece, pieces, pieces_at, Piece};
 ghost use Rattle.grok_parser.specs.PlaceholderNames.{is_name};
 ghost use Rattle.grok_parser.specs.Grammar.{ArePieces};
@@ -221,6 +222,78 @@ pub fn grok_split<'a>(string: &'a str) -> GrokSplit<'a>
     GrokSplit {
         rest: string,
         at: 0,
+    }
+}
+
+/// A placeholder that names a definition and has none of its own. It stands for the stored definition of its
+/// name, unless a placeholder before it in the text has an inline definition of that name.
+#[derive(Drop)]
+pub struct Use<'a> {
+    /// The byte range of the placeholder in the text, with its `%{` and `}`.
+    pub range: Range<usize>,
+    /// The name of the definition.
+    pub name: &'a str,
+    /// The key for its value. If it is empty, the name is the key.
+    pub alias: &'a str,
+}
+
+/// An iterator over the placeholders of a text that have no definition of their own. [`uses_in`] returns it. It
+/// allocates nothing.
+#[derive(Drop)]
+pub struct Uses<'a> {
+    pieces: GrokSplit<'a>,
+}
+
+impl<'a> Model for Uses<'a> {
+    ghost use Rattle.std.specs.Prelude.{List, filter_map};
+    ghost use Rattle.grok_parser.specs.Uses.{UseValue, use_of};
+
+    ghost Value = { List UseValue };
+
+    ghost view = { λ u. filter_map use_of u.pieces };
+}
+
+fn use_of<'a>(piece: GrokComponent<'a>) -> Option<Use<'a>>
+    ensures { option_map use_view result ≡ use_of (piece_view piece.entry) }
+{
+    match piece {
+        GrokComponent::GrokPattern {
+            range,
+            name,
+            alias,
+            definition,
+            ..
+        } if definition.is_empty() => Some(Use { range, name, alias }),
+        _ => None,
+    }
+}
+
+impl<'a> Iterator for Uses<'a> {
+    type Item = Use<'a>;
+
+    ghost use Rattle.std.specs.Iterator.{YieldsFirstBy, item_count};
+
+    ghost next_gives = { YieldsFirstBy use_view (λ left. left) };
+
+    ghost remaining = { item_count (λ left. left) };
+
+    fn next(&mut self) -> Option<Use<'a>> {
+        'pieces: while let Some(piece) = self.pieces.next() {
+            if let Some(found) = use_of(piece) {
+                return Some(found);
+            }
+        }
+        None
+    }
+}
+
+/// Returns the placeholders of a text that have no definition of their own, in its order. They name the
+/// definitions that the text uses itself.
+pub fn uses_in<'a>(text: &'a str) -> Uses<'a>
+    ensures { result ≡ uses_in text.now }
+{
+    Uses {
+        pieces: grok_split(text),
     }
 }
 

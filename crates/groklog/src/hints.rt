@@ -1,8 +1,10 @@
 //! Hints at what an input is, for a user whose lines have no fields. They are shown after its lines
 //! were answered.
 
-use groklog_answers::Searches;
-use groklog_input::{Encoding, LineForm, Signs, Unit};
+use groklog_answers::{Lines, Missed, Searches};
+use groklog_input::{Encoding, LineForm, Signs};
+use groklog_options::{Options, Task};
+use groklog_reports::Unit;
 use std::alloc::{AllocError, Global};
 
 /// Whether the patterns of a run match any line or event.
@@ -10,8 +12,8 @@ use std::alloc::{AllocError, Global};
 pub enum Matched {
     /// One of them matches one.
     Any,
-    /// None of them matches any.
-    Nothing,
+    /// None of them matches any of this many.
+    NoneOf(u64),
     /// There are no patterns: they are suggested.
     NoPatterns,
 }
@@ -25,9 +27,22 @@ impl Matched {
         } else if counts.iter().any(|count| *count > 0) {
             Matched::Any
         } else {
-            Matched::Nothing
+            Matched::NoneOf(searches.unmatched().saturating_add(searches.broken()))
         })
     }
+}
+
+/// Returns whether a user would otherwise not be told that nothing matched: `--why`, `--summary` and `--exit-status` tell
+/// it, and `--unmatched` asks for such lines.
+fn is_news(options: &Options<'_>) -> bool {
+    let lines = match &options.task {
+        Task::Answers(answers) => answers.lines,
+        Task::Shown(shown) => shown.lines,
+        Task::Page(page) => page.lines,
+        Task::Counts(_) => Lines::All,
+        Task::Reasons(_) | Task::Suggestions(_) | Task::Explanation | Task::List(_) => return false,
+    };
+    !matches!(lines, Lines::Unmatched) && !options.has_summary && !options.has_exit_status
 }
 
 /// Returns the program that compressed an input and the one that unpacks it, or `None` if it isn't compressed.
@@ -41,6 +56,29 @@ fn packer_of(encoding: Encoding) -> Option<(&'static str, &'static str)> {
     }
 }
 
+/// What lines without a match may show of how they were written.
+#[derive(Clone, Copy)]
+struct Trace {
+    /// How a hint says that lines show it, if none matched.
+    all: &'static str,
+    /// The same of some of them: their count comes after these words.
+    some: &'static str,
+    /// What takes it off.
+    advice: &'static str,
+}
+
+const RETURNS: Trace = Trace {
+    all: "lines end in a carriage return",
+    some: "a carriage return ends",
+    advice: "--crlf",
+};
+
+const ESCAPES: Trace = Trace {
+    all: "lines have escape characters, as colours of a terminal do",
+    some: "escape characters, as colours of a terminal have them, are in",
+    advice: "sed 's/\\x1b\\[[0-9;]*m//g' FILE | groklog ..",
+};
+
 /// Finds the hints of a run. Each hint comes once, except that for a compressed file or for UTF-16, which comes
 /// for each such input.
 #[derive(Drop)]
@@ -50,8 +88,10 @@ pub struct Hints {
     unit: Unit,
     /// Whether the hint at lines that aren't UTF-8 was given.
     was_broken: bool,
-    /// Whether the first line of an input ended in a carriage return.
-    has_return: bool,
+    /// Whether a hint says that an input isn't a text in UTF-8, so that it is clear why nothing matches.
+    has_no_text: bool,
+    /// What lines or events showed that no pattern matches. Inputs that aren't texts in UTF-8 don't count.
+    missed: Missed,
 }
 
 impl Hints {
@@ -61,19 +101,33 @@ impl Hints {
             form,
             unit,
             was_broken: false,
-            has_return: false,
+            has_no_text: false,
+            missed: Missed::none(),
         }
     }
 
-    /// Returns the hint at the input `name`, whose lines showed these signs, or `None` if there is
-    /// none.
+    /// Remembers what lines of one more input showed that no pattern matches, for the hints at the end.
+    fn note_missed(&mut self, missed: Missed) {
+        self.missed = Missed {
+            returns: self.missed.returns.saturating_add(missed.returns),
+            escapes: self.missed.escapes.saturating_add(missed.escapes),
+        };
+    }
+
+    /// Returns the hint at the input `name`, whose lines showed these signs, and those without a match this, or `None`
+    /// if there is none.
     pub fn of_input(
         &mut self,
         alloc: Global,
         name: &str,
         signs: Signs,
+        missed: Missed,
     ) -> Result<Option<String>, AllocError> {
-        self.has_return = self.has_return || signs.has_return;
+        if matches!(signs.encoding, Encoding::Other) {
+            self.note_missed(missed);
+        } else {
+            self.has_no_text = true;
+        }
         if let Some((packer, unpacker)) = packer_of(signs.encoding) {
             return Ok(Some(format!(in alloc;
                 "{name} looks like a file of {packer}: use {unpacker} FILE | groklog .."
@@ -97,21 +151,53 @@ impl Hints {
         }
     }
 
-    /// Returns the hint to use `--crlf`, which comes at the end of a run if the first line of an input ended in
-    /// a carriage return and no line or event matched.
-    pub fn at_end(&self, matched: Matched) -> Option<&'static str> {
-        if !self.has_return || self.form.drops_return {
-            return None;
+    /// Returns the hint that this many lines or events without a match show a trace of how they were written.
+    fn at_trace(
+        &self,
+        alloc: Global,
+        matched: Matched,
+        trace: Trace,
+        count: u64,
+    ) -> Result<String, AllocError> {
+        let Trace { all, some, advice } = trace;
+        let Matched::NoneOf(lines) = matched else {
+            let units = self.unit.word(0);
+            return format!(in alloc;
+                "{some} {count} of the {units} that don't match: use {advice}"
+            );
+        };
+        let counted = self.unit.counted(alloc, lines)?;
+        format!(in alloc; "0 of {counted} matched, and {all}: use {advice}")
+    }
+
+    /// Returns the hint at the end of a run: at carriage returns or escape characters in lines or events without a match,
+    /// or else at `--why` if nothing matched.
+    pub fn at_end(
+        &self,
+        alloc: Global,
+        matched: Matched,
+        options: &Options<'_>,
+    ) -> Result<Option<String>, AllocError> {
+        // A command that is suggested has `--crlf` if it needs it.
+        if matches!(matched, Matched::NoPatterns) {
+            return Ok(None);
         }
-        match (matched, self.unit) {
-            // A command that is suggested has `--crlf` if it needs it.
-            (Matched::Any | Matched::NoPatterns, _) => None,
-            (Matched::Nothing, Unit::Line) => {
-                Some("no line matches, and lines end in a carriage return: use --crlf")
-            }
-            (Matched::Nothing, Unit::Event) => {
-                Some("no event matches, and lines end in a carriage return: use --crlf")
-            }
+        let Missed { returns, escapes } = self.missed;
+        if returns > 0 && !self.form.drops_return {
+            return Ok(Some(self.at_trace(alloc, matched, RETURNS, returns)?));
         }
+        if escapes > 0 {
+            return Ok(Some(self.at_trace(alloc, matched, ESCAPES, escapes)?));
+        }
+        let Matched::NoneOf(count) = matched else {
+            return Ok(None);
+        };
+        if count == 0 || self.has_no_text || !is_news(options) {
+            return Ok(None);
+        }
+        let counted = self.unit.counted(alloc, count)?;
+        Ok(Some(format!(in alloc;
+            "0 of {counted} matched: use --why to see where the pattern stops"
+        )?))
     }
 }

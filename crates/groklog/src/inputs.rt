@@ -3,20 +3,19 @@
 use crate::hints::{Hints, Matched};
 use crate::output::{Outlet, show_note};
 use crate::terminal::shows_progress;
-use grok::Pattern;
 use grok_lines::{EventAnswers, EventStarts, LineHandler, SkipLines};
-use groklog_answers::{Flow, LineTask, SearchedLines, StartPattern};
+use groklog_answers::{Flow, LineTask, Missed, SearchedLines, StartPattern};
 use groklog_files::{STANDARD_INPUT, StandardInput, shown_name};
-use groklog_input::{
-    Answered, Failure, Fault, FormedAnswers, Unit, Watched, answer_input, file_fault, visible,
-};
+use groklog_input::{Answered, FormedAnswers, Watched, answer_input};
 use groklog_options::Options;
+use groklog_patterns::RunPattern;
+use groklog_reports::{Fault, FileFailure, Unit, file_fault, visible};
 use std::alloc::{AllocError, Global};
 use std::fs::File;
 
 /// How a run ended in which nothing failed but reading.
 #[derive(Clone, Copy, PartialEq, Eq)]
-pub enum Outcome {
+pub enum RunOutcome {
     /// All files were read, or as much of them as was wanted.
     AllRead,
     /// The same, and nothing was found, which `--exit-status` asks about.
@@ -25,12 +24,12 @@ pub enum Outcome {
     SomeUnread,
 }
 
-impl Outcome {
+impl RunOutcome {
     /// Returns how a run ends with these options that ended so far like this. `is_found` is whether it found
     /// something: a line or an event that matches, or a pattern for the lines.
-    pub fn with_found(self, options: &Options<'_>, is_found: bool) -> Outcome {
-        if self == Outcome::AllRead && options.has_exit_status && !is_found {
-            Outcome::NothingFound
+    pub fn with_found(self, options: &Options<'_>, is_found: bool) -> RunOutcome {
+        if self == RunOutcome::AllRead && options.has_exit_status && !is_found {
+            RunOutcome::NothingFound
         } else {
             self
         }
@@ -47,6 +46,9 @@ pub trait LogLines<'p>: LineHandler {
 
     /// Returns whether any of the lines or events matched.
     fn matched(&self, alloc: Global) -> Result<Matched, AllocError>;
+
+    /// Returns what the lines or events of this file showed that no pattern matches.
+    fn missed(&self) -> Missed;
 }
 
 impl<'p, T: LineTask<'p>> LogLines<'p> for SearchedLines<'p, T> {
@@ -61,6 +63,10 @@ impl<'p, T: LineTask<'p>> LogLines<'p> for SearchedLines<'p, T> {
     fn matched(&self, alloc: Global) -> Result<Matched, AllocError> {
         Matched::of(alloc, &self.searches)
     }
+
+    fn missed(&self) -> Missed {
+        self.missed
+    }
 }
 
 impl<'p, A: LogLines<'p> + SkipLines, S: EventStarts> LogLines<'p> for EventAnswers<A, S> {
@@ -74,6 +80,10 @@ impl<'p, A: LogLines<'p> + SkipLines, S: EventStarts> LogLines<'p> for EventAnsw
 
     fn matched(&self, alloc: Global) -> Result<Matched, AllocError> {
         self.answers.matched(alloc)
+    }
+
+    fn missed(&self) -> Missed {
+        self.answers.missed()
     }
 }
 
@@ -113,7 +123,7 @@ fn answer_file<A: LineHandler>(
             let mut input = watch(rt, file, shown.as_str(), shows);
             answer_input(alloc, answers, &mut input, &mut outlet, name)
         }
-        Err(error) => Err(file_fault(alloc, name, Failure::of(&error))?),
+        Err(error) => Err(file_fault(alloc, name, FileFailure::of(&error))?),
     }
 }
 
@@ -125,16 +135,17 @@ fn answer_files<'p, A: LogLines<'p>>(
     files: &[&'p str],
     hints: &mut Hints,
     shows: bool,
-) -> Result<Outcome, Fault> {
+) -> Result<RunOutcome, Fault> {
     let rt = outlet.rt;
-    let mut outcome = Outcome::AllRead;
+    let mut outcome = RunOutcome::AllRead;
     for file in files {
         if answers.answers.has_enough() {
             break;
         }
         answers.answers.begin_file(file);
         let answered = answer_file(outlet, answers, file, shows);
-        if let Some(hint) = hints.of_input(rt.alloc(), shown_name(file), answers.signs)? {
+        let missed = answers.answers.missed();
+        if let Some(hint) = hints.of_input(rt.alloc(), shown_name(file), answers.signs, missed)? {
             show_note(rt, hint.as_str())?;
         }
         match answered {
@@ -144,7 +155,7 @@ fn answer_files<'p, A: LogLines<'p>>(
             Err(Fault::Read(report)) => {
                 // The run goes on if the report can't be written.
                 let _ = eprint!(rt; "{report}");
-                outcome = Outcome::SomeUnread;
+                outcome = RunOutcome::SomeUnread;
             }
             Err(fault) => return Err(fault),
         }
@@ -161,7 +172,7 @@ pub fn answer_inputs<'p, A: LogLines<'p>>(
     outlet: &Outlet<'_>,
     options: &Options<'p>,
     answers: &mut FormedAnswers<A>,
-) -> Result<Outcome, Fault> {
+) -> Result<RunOutcome, Fault> {
     let rt = outlet.rt;
     let mut hints = Hints::new(answers.form, options.unit());
     let outcome = if options.files.is_empty() {
@@ -171,10 +182,10 @@ pub fn answer_inputs<'p, A: LogLines<'p>>(
         answer_files(outlet, answers, &options.files, &mut hints, shows)?
     };
     let matched = answers.answers.matched(rt.alloc())?;
-    if let Some(hint) = hints.at_end(matched) {
-        show_note(rt, hint)?;
+    if let Some(hint) = hints.at_end(rt.alloc(), matched, options)? {
+        show_note(rt, hint.as_str())?;
     }
-    Ok(outcome.with_found(options, matched != Matched::Nothing))
+    Ok(outcome.with_found(options, !matches!(matched, Matched::NoneOf(_))))
 }
 
 /// Searches each line of the inputs, or each event if `start` is the pattern of `--start`.
@@ -182,16 +193,16 @@ pub fn answer_inputs<'p, A: LogLines<'p>>(
 pub fn answer_each<'p, A: LogLines<'p> + SkipLines + Drop>(
     outlet: &Outlet<'_>,
     options: &Options<'p>,
-    start: Option<&Pattern>,
+    start: Option<&RunPattern>,
     lines: A,
-) -> Result<(A, Outcome), Fault> {
+) -> Result<(A, RunOutcome), Fault> {
     let alloc = outlet.rt.alloc();
     let (Some(start), Some(events)) = (start, options.events) else {
         let mut lines = FormedAnswers::new(alloc, lines, options.form);
         let outcome = answer_inputs(outlet, options, &mut lines)?;
         return Ok((lines.into_answers(), outcome));
     };
-    let start = StartPattern::new(start)?;
+    let start = StartPattern::new(&start.pattern)?;
     let events = EventAnswers::new(alloc, lines, start, events.most_lines);
     let mut lines = FormedAnswers::new(alloc, events, options.form);
     let outcome = answer_inputs(outlet, options, &mut lines)?;

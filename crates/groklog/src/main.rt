@@ -11,18 +11,18 @@ mod page;
 mod plans;
 mod run;
 mod show;
-mod suggest;
 mod summary;
 mod tasks;
 mod terminal;
 mod why;
 
-use crate::inputs::Outcome;
-use groklog_input::{Fault, Report};
+use crate::inputs::RunOutcome;
 use groklog_options::{is_answer, read_options, usage_fault};
+use groklog_reports::{Fault, Report};
 use std::env;
 use std::io::ErrorKind;
 use std::process::ExitCode;
+use std::rt::Env;
 
 /// The exit status of a run in which a file couldn't be read.
 const UNREAD: u8 = 3;
@@ -31,7 +31,7 @@ const UNREAD: u8 = 3;
 const NOTHING_FOUND: u8 = 4;
 
 /// Reads the words of the command line. The first one is the name of the program.
-fn read_words(rt: &HostRuntime) -> Result<Vec<String>, Fault> {
+fn read_words(rt: &(impl Env + AllocGlobal)) -> Result<Vec<String>, Fault> {
     match env::args(rt) {
         Ok(words) => Ok(words.collect(rt.alloc())?),
         // own error: the words could not be read because an allocation failed.
@@ -45,14 +45,14 @@ fn read_words(rt: &HostRuntime) -> Result<Vec<String>, Fault> {
 }
 
 /// Runs the program with the words of its command line.
-fn work(rt: &HostRuntime) -> Result<Outcome, Fault> {
+fn work(rt: &HostRuntime) -> Result<RunOutcome, Fault> {
     let words = read_words(rt)?;
     match read_options(rt.alloc(), words.as_slice()) {
         Ok(options) => run::run(rt, &options),
         Err(error) if is_answer(&error) => {
             let text = error.to_string(rt.alloc())?;
             output::write_output(rt, text.as_str())?;
-            Ok(Outcome::AllRead)
+            Ok(RunOutcome::AllRead)
         }
         Err(error) => Err(usage_fault(rt.alloc(), &error)?),
     }
@@ -60,9 +60,9 @@ fn work(rt: &HostRuntime) -> Result<Outcome, Fault> {
 
 fn main(rt: HostRuntime) -> ExitCode {
     match work(&rt) {
-        Ok(Outcome::AllRead) => ExitCode::SUCCESS,
-        Ok(Outcome::NothingFound) => ExitCode::from(NOTHING_FOUND),
-        Ok(Outcome::SomeUnread) => ExitCode::from(UNREAD),
+        Ok(RunOutcome::AllRead) => ExitCode::SUCCESS,
+        Ok(RunOutcome::NothingFound) => ExitCode::from(NOTHING_FOUND),
+        Ok(RunOutcome::SomeUnread) => ExitCode::from(UNREAD),
         Err(fault) => {
             // If writing to standard error fails too, there is nothing left to do.
             let _ = eprint!(rt; "{fault}");

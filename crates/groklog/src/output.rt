@@ -1,19 +1,19 @@
 //! Writes to standard output and to standard error.
 
-use groklog_input::{Fault, visible, write_fault};
+use groklog_reports::{Fault, visible, write_fault};
 use std::alloc::AllocError;
 use std::cell::Cell;
 use std::io::{self, Write};
 
 /// Writes a note to standard error. The run goes on if that fails.
-pub fn show_note(rt: &HostRuntime, note: &str) -> Result<(), AllocError> {
+pub fn show_note(rt: &(impl Eprint + AllocGlobal), note: &str) -> Result<(), AllocError> {
     let note = visible(rt.alloc(), note)?;
     let _ = eprintln!(rt; "groklog: {note}");
     Ok(())
 }
 
 /// Writes these notes to standard error.
-pub fn show_notes(rt: &HostRuntime, notes: &[String]) -> Result<(), AllocError> {
+pub fn show_notes(rt: &(impl Eprint + AllocGlobal), notes: &[String]) -> Result<(), AllocError> {
     for note in notes {
         show_note(rt, note.as_str())?;
     }
@@ -25,7 +25,7 @@ pub fn show_notes(rt: &HostRuntime, notes: &[String]) -> Result<(), AllocError> 
 /// # Errors
 ///
 /// If the output fails. A closed pipe is no error.
-pub fn write_output(rt: &HostRuntime, text: &str) -> Result<(), Fault> {
+pub fn write_output(rt: &(impl Print + AllocGlobal), text: &str) -> Result<(), Fault> {
     write_bytes(rt, text.as_bytes())
 }
 
@@ -34,7 +34,7 @@ pub fn write_output(rt: &HostRuntime, text: &str) -> Result<(), Fault> {
 /// # Errors
 ///
 /// If the output fails. A closed pipe is no error.
-pub fn write_bytes(rt: &HostRuntime, bytes: &[u8]) -> Result<(), Fault> {
+pub fn write_bytes(rt: &(impl Print + AllocGlobal), bytes: &[u8]) -> Result<(), Fault> {
     let mut output = io::writer(rt);
     if let Err(error) = output.write_all(bytes)
         && let Some(fault) = write_fault(rt.alloc(), &error)?

@@ -1,12 +1,12 @@
-//! Plans where the values of each pattern are written, for `--nested` and `--merge`.
+//! Pairs patterns with their tags, and with the plans of where their values are written, for `--nested` and `--merge`.
 
 use grok::Pattern;
-use groklog_answers::{Clash, Plan, PlanError, SharedKey};
-use groklog_definitions::PatternText;
-use groklog_input::{Fault, Report};
-use groklog_options::PlanOptions;
+use groklog_answers::{Clash, NamedPattern, Plan, PlanError, SharedKey};
+use groklog_options::{GivenPattern, PlanOptions};
+use groklog_patterns::RunPattern;
+use groklog_reports::{Fault, Report};
 use std::alloc::{AllocError, Global};
-use std::collections::BTreeMap;
+use std::collections::BTreeSet;
 
 /// Returns each key of a pattern with the key that its values are written under: with `--merge`, its
 /// base key. The keys of placeholders come first, in reading order.
@@ -15,7 +15,7 @@ fn shared_keys<'p>(
     plan: PlanOptions,
     pattern: &'p Pattern,
 ) -> Result<Vec<SharedKey<'p>>, AllocError> {
-    let mut known = BTreeMap::new(alloc);
+    let mut known = BTreeSet::new(alloc);
     let mut keys = Vec::new(alloc);
     for placeholder in pattern.placeholder_keys() {
         let key = placeholder.key.as_str();
@@ -24,11 +24,11 @@ fn shared_keys<'p>(
         } else {
             key
         };
-        known.insert(key, ())?;
+        known.insert(key)?;
         keys.push(SharedKey { key, base })?;
     }
     for key in pattern.capture_names() {
-        if !known.contains_key(&key) {
+        if !known.contains(&key) {
             keys.push(SharedKey { key, base: key })?;
         }
     }
@@ -57,10 +57,10 @@ fn clash_fault(
 fn plan_of<'p>(
     alloc: Global,
     plan: PlanOptions,
-    words: &str,
-    pattern: &'p Pattern,
+    pattern: &'p RunPattern,
 ) -> Result<Plan<'p>, Fault> {
-    let keys = shared_keys(alloc, plan, pattern)?;
+    let words = pattern.text.words.as_str();
+    let keys = shared_keys(alloc, plan, &pattern.pattern)?;
     match Plan::new(alloc, &keys, plan.is_nested) {
         Ok(plan) => Ok(plan),
         // own error: an allocation failed, as the plan reported.
@@ -78,15 +78,30 @@ fn plan_of<'p>(
 pub fn plan_all<'p>(
     alloc: Global,
     plan: PlanOptions,
-    texts: &[PatternText],
-    patterns: &'p [Pattern],
+    patterns: &'p [RunPattern],
 ) -> Result<Vec<Plan<'p>>, Fault> {
     let mut plans = Vec::new(alloc);
     if !plan.is_planned() {
         return Ok(plans);
     }
-    for (text, pattern) in texts.iter().zip(patterns) {
-        plans.push(plan_of(alloc, plan, text.words.as_str(), pattern)?)?;
+    for pattern in patterns {
+        plans.push(plan_of(alloc, plan, pattern)?)?;
     }
     Ok(plans)
+}
+
+/// Pairs each pattern with its tag, which is its name or else its text, and with its plan if there are
+/// plans.
+pub fn with_tags<'p>(
+    alloc: Global,
+    given: &[GivenPattern<'p>],
+    patterns: &'p [RunPattern],
+    plans: &'p [Plan<'p>],
+) -> Result<Vec<NamedPattern<'p>>, AllocError> {
+    let mut named = Vec::new(alloc);
+    for (i, (given, RunPattern { pattern, .. })) in given.iter().zip(patterns).enumerate() {
+        let (tag, plan) = (given.tag(), plans.get(i));
+        named.push(NamedPattern { tag, pattern, plan })?;
+    }
+    Ok(named)
 }

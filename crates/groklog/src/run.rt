@@ -1,43 +1,45 @@
 //! Runs the program over files, or over standard input: from the options come the definitions and the patterns,
 //! and then the task of the run is done.
 
-use crate::inputs::Outcome;
-use crate::notes::{notes_of_extracts, notes_of_pattern, notes_of_words};
-use crate::output::{Outlet, show_notes, write_output};
-use crate::plans::plan_all;
-use crate::tasks::{Run, suggest};
-use grok::Pattern;
-use groklog_definitions::{Library, RunTexts, list_common_definitions, patterns_of, start_pattern};
+use crate::inputs::RunOutcome;
+use crate::notes::{note_without_keys, notes_of_extracts, notes_of_pattern, notes_of_words};
+use crate::output::{Outlet, show_note, show_notes, write_output};
+use crate::plans::{plan_all, with_tags};
+use crate::tasks::{CompiledRun, suggest};
+use groklog_answers::Plan;
+use groklog_definitions::{
+    Library, PatternText, list_common_definitions, patterns_of, start_pattern,
+};
 use groklog_files::{ReadFiles, WholeFile, check_logs, is_same_file, read_definition_files};
-use groklog_input::{Fault, Report, TextFile};
-use groklog_options::{Options, Task, check_keys, chosen_fields, with_tags};
-use groklog_patterns::{Adapted, adapt_all, adapt_own, compile, compile_all, definition_lines};
+use groklog_options::{Options, Task, check_keys, chosen_fields};
+use groklog_patterns::{Adapted, RunPattern, adapt_all, adapt_own, compile_all, definition_lines};
+use groklog_reports::{Fault, Report, TextFile};
 use std::alloc::{AllocError, Global};
+use std::fs::File;
+use std::rt::Files;
 
 /// The options that ask for a file.
 pub const PAGE: &str = "--html";
 
 const DEFINITIONS: &str = "--write-definitions";
 
-/// Returns the patterns of the run as they are compiled. If they were made for Logstash, they are rewritten, with
+/// Returns the patterns of the run as they are compiled, that of `--start` last. If they were made for Logstash, they are rewritten, with
 /// the definitions that they use, and notes say what was changed.
 fn texts_of(
-    rt: &HostRuntime,
+    rt: &(impl Eprint + AllocGlobal),
     library: &mut Library<'_>,
     options: &Options<'_>,
-) -> Result<RunTexts, Fault> {
+) -> Result<Vec<PatternText>, Fault> {
     let alloc = rt.alloc();
     let words: Vec<&str> = options
         .patterns
         .iter()
         .map(|pattern| pattern.text)
         .collect(alloc)?;
-    let patterns = patterns_of(alloc, &words)?;
-    let start = match options.events {
-        Some(events) => Some(start_pattern(alloc, events.start)?),
-        None => None,
-    };
-    let given = RunTexts { patterns, start };
+    let mut given = patterns_of(alloc, &words, !options.is_all)?;
+    if let Some(events) = options.events {
+        given.push(start_pattern(alloc, events.start)?)?;
+    }
     let Some(wish) = options.definitions.wish else {
         return Ok(given);
     };
@@ -49,7 +51,7 @@ fn texts_of(
 /// Rewrites the definitions made for Logstash that the patterns don't use, if patterns are suggested or if the
 /// definitions are written to a file. Notes say what was changed in what is written.
 fn adapt_others(
-    rt: &HostRuntime,
+    rt: &(impl Eprint + AllocGlobal),
     library: &mut Library<'_>,
     options: &Options<'_>,
 ) -> Result<(), AllocError> {
@@ -68,23 +70,27 @@ fn adapt_others(
 
 /// Shows the notes on the patterns, before any line is read.
 fn show_notes_of_patterns(
-    rt: &HostRuntime,
+    rt: &(impl Eprint + AllocGlobal),
     options: &Options<'_>,
     library: &Library<'_>,
-    texts: &RunTexts,
-    patterns: &[Pattern],
+    patterns: &[RunPattern],
 ) -> Result<(), AllocError> {
     let alloc = rt.alloc();
     if let Task::Answers(answers) = &options.task
         && answers.is_typed
     {
-        for pattern in patterns {
+        for RunPattern { pattern, .. } in patterns {
             show_notes(rt, &notes_of_extracts(alloc, pattern)?)?;
         }
     }
-    for (text, pattern) in texts.patterns.iter().zip(patterns) {
-        let notes = notes_of_pattern(alloc, library, text, pattern)?;
+    let mut has_notes = false;
+    for pattern in patterns {
+        let notes = notes_of_pattern(alloc, library, options.unit(), pattern)?;
         show_notes(rt, &notes)?;
+        has_notes = has_notes || !notes.is_empty();
+    }
+    if !has_notes && let Some(note) = note_without_keys(alloc, options, patterns)? {
+        show_note(rt, note.as_str())?;
     }
     Ok(())
 }
@@ -97,7 +103,11 @@ fn written_twice(alloc: Global, name: &str) -> Result<Fault, AllocError> {
 
 /// Checks, before a line is read, that each file can be written that the options ask for, that it isn't one
 /// of those that are read, and that the logs can be opened.
-fn check_files(rt: &HostRuntime, options: &Options<'_>, read: &ReadFiles) -> Result<(), Fault> {
+fn check_files(
+    rt: &(impl Files<File = File> + AllocGlobal),
+    options: &Options<'_>,
+    read: &ReadFiles,
+) -> Result<(), Fault> {
     let page = match &options.task {
         Task::Page(page) => Some(page.file),
         _ => None,
@@ -116,34 +126,44 @@ fn check_files(rt: &HostRuntime, options: &Options<'_>, read: &ReadFiles) -> Res
     Ok(())
 }
 
-/// Does the task. Unless patterns are suggested, compiles those of the run, and checks the keys that the options name.
+/// Returns the keys of patterns that are written, or `None` if all are. Checks the keys that the options name.
+fn checked_fields<'p>(
+    alloc: Global,
+    options: &'p Options<'p>,
+    patterns: &'p [RunPattern],
+    plans: &'p [Plan<'p>],
+) -> Result<Option<Vec<&'p str>>, Fault> {
+    let named = with_tags(alloc, &options.patterns, patterns, plans)?;
+    check_keys(alloc, &options.task, &named)?;
+    chosen_fields(alloc, &options.task, &named)
+}
+
+/// Does the task. Unless patterns are suggested, compiles those of the run.
 fn run_task(
     rt: &HostRuntime,
     options: &Options<'_>,
     library: &Library<'_>,
-    texts: &RunTexts,
+    texts: Vec<PatternText>,
     read: &ReadFiles,
-) -> Result<Outcome, Fault> {
+) -> Result<RunOutcome, Fault> {
     let alloc = rt.alloc();
     let outlet = Outlet::new(rt);
     if let Task::Suggestions(most) = options.task {
         return suggest(&outlet, options, library, most);
     }
-    let patterns = compile_all(alloc, library, &texts.patterns, !options.is_all)?;
-    let start = match &texts.start {
-        Some(start) => Some(compile(alloc, library, start, true)?),
+    let mut patterns = compile_all(alloc, library, texts)?;
+    let start = match options.events {
+        Some(_) => patterns.pop(),
         None => None,
     };
-    let plans = plan_all(alloc, options.task.plan(), &texts.patterns, &patterns)?;
-    check_keys(alloc, &options.task, &patterns, &plans)?;
-    show_notes_of_patterns(rt, options, library, texts, &patterns)?;
-    let fields = chosen_fields(alloc, &options.task, &patterns)?;
+    let plans = plan_all(alloc, options.task.plan(), &patterns)?;
+    let fields = checked_fields(alloc, options, &patterns, &plans)?;
+    show_notes_of_patterns(rt, options, library, &patterns)?;
     let named = with_tags(alloc, &options.patterns, &patterns, &plans)?;
-    Run {
+    CompiledRun {
         outlet: &outlet,
         options,
         library,
-        texts: &texts.patterns,
         patterns: &patterns,
         start: start.as_ref(),
         named: &named,
@@ -165,8 +185,8 @@ fn run_over(
     options: &Options<'_>,
     files: &[TextFile],
     library: &Library<'_>,
-    texts: &RunTexts,
-) -> Result<Outcome, Fault> {
+    texts: Vec<PatternText>,
+) -> Result<RunOutcome, Fault> {
     let read = ReadFiles::of(rt, &options.files, files)?;
     check_files(rt, options, &read)?;
     let given = &options.definitions;
@@ -183,8 +203,24 @@ fn run_over(
         name,
         read: &read,
     };
-    file.write(rt, outcome != Outcome::SomeUnread, lines.as_str())?;
+    file.write(rt, outcome != RunOutcome::SomeUnread, lines.as_str())?;
     Ok(outcome)
+}
+
+/// Returns the fault that reports that no common definition has this text in its name.
+fn nothing_to_list(alloc: Global, text: &str) -> Result<Fault, AllocError> {
+    let what = format!(in alloc; "no name of a common definition has {text} in it")?;
+    Ok(Fault::Usage(Report::new(alloc, what.as_str(), "groklog --list, which lists all")?))
+}
+
+/// Lists the common definitions whose names have this text.
+fn list(rt: &HostRuntime, text: &str) -> Result<RunOutcome, Fault> {
+    let lines = list_common_definitions(rt.alloc(), text)?;
+    if lines.is_empty() {
+        return Err(nothing_to_list(rt.alloc(), text)?);
+    }
+    write_output(rt, lines.as_str())?;
+    Ok(RunOutcome::AllRead)
 }
 
 /// Does what the options ask for.
@@ -193,12 +229,10 @@ fn run_over(
 ///
 /// Returns the first fault of a definition, a pattern, a key or a file that is written, before any line is
 /// read. After that, returns an error if an allocation, a file or the output fails.
-pub fn run(rt: &HostRuntime, options: &Options<'_>) -> Result<Outcome, Fault> {
+pub fn run(rt: &HostRuntime, options: &Options<'_>) -> Result<RunOutcome, Fault> {
     let alloc = rt.alloc();
     if let Task::List(text) = options.task {
-        let lines = list_common_definitions(alloc, text)?;
-        write_output(rt, lines.as_str())?;
-        return Ok(Outcome::AllRead);
+        return list(rt, text);
     }
     show_notes(rt, &notes_of_words(rt, options)?)?;
     let given = &options.definitions;
@@ -212,5 +246,5 @@ pub fn run(rt: &HostRuntime, options: &Options<'_>) -> Result<Outcome, Fault> {
     )?;
     let texts = texts_of(rt, &mut library, options)?;
     adapt_others(rt, &mut library, options)?;
-    run_over(rt, options, &files, &library, &texts)
+    run_over(rt, options, &files, &library, texts)
 }

@@ -3,8 +3,8 @@ ghost use Rattle.std.specs.Prelude.{◌≡◌, ◌==◌, IfOk, is_none};
 
 use groklog_answers::Searches;
 use groklog_definitions::ordinal;
-use groklog_input::{Unit, visible};
 use groklog_options::GivenPattern;
+use groklog_reports::{Unit, visible};
 use std::alloc::{AllocError, Global};
 
 /// Returns how many lines or events were read, how many each pattern was the first to match, how many
@@ -36,18 +36,24 @@ pub fn summary_of(
     format!(in alloc; "{lines} {word}, {parts}{unmatched} not matched, {broken} not UTF-8")
 }
 
-/// Returns a note on the lines or events whose values `--count` didn't count by themselves, or `None` if there are none.
-pub fn note_of_others(alloc: Global, others: u64, unit: Unit) -> Result<Option<String>, AllocError>
+/// Returns a note on the lines or events whose values `--count` didn't count by themselves, since there is room for `most`
+/// different ones, or `None` if there are none.
+pub fn note_of_others(
+    alloc: Global,
+    others: u64,
+    most: usize,
+    unit: Unit,
+) -> Result<Option<String>, AllocError>
     ensures { IfOk result (λ note. is_none note ≡ (others == 0)) }
 {
     let word = unit.word(others);
     match others {
         0 => Ok(None),
         1 => Ok(Some(format!(in alloc;
-            "1 more {word} has another value, which isn't counted: use a larger --max"
+            "1 more {word} has another value, which isn't counted: there is room for {most} different ones"
         )?)),
         others => Ok(Some(format!(in alloc;
-            "{others} more {word} have other values, which aren't counted: use a larger --max"
+            "{others} more {word} have other values, which aren't counted: there is room for {most} different ones"
         )?)),
     }
 }

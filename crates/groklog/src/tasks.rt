@@ -1,40 +1,38 @@
 //! Does the task of a run: one search of each line or event, and one writer or view of what was found.
 
-use crate::inputs::{LogLines, Outcome, answer_each, answer_inputs};
+use crate::inputs::{LogLines, RunOutcome, answer_each, answer_inputs};
 use crate::output::{Outlet, show_note, write_bytes, write_output};
 use crate::page::Page;
 use crate::run::PAGE;
 use crate::show::Show;
-use crate::suggest::{Sample, report_of_sample};
 use crate::summary::{note_of_others, summary_of};
 use crate::terminal::is_coloured;
 use crate::why::Why;
-use grok::Pattern;
 use grok_lines::SkipLines;
 use groklog_answers::{
     KeyCounts, LineTask, LogAnswers, NamedPattern, SearchedLines, Searches, header_of,
 };
-use groklog_definitions::{Library, PatternText};
+use groklog_definitions::Library;
 use groklog_files::{ReadFiles, WholeFile};
-use groklog_input::{Fault, FormedAnswers};
+use groklog_input::FormedAnswers;
 use groklog_options::{
     AnswerOptions, CountOptions, Options, PageOptions, ShownOptions, Task, layout_of,
 };
-use groklog_patterns::{Explainer, explain, titles_of};
+use groklog_patterns::{Explainer, RunPattern, explain, titles_of};
+use groklog_reports::Fault;
 use groklog_views::{LocatedFields, PageContent, Scope, page_html};
 use std::alloc::AllocError;
+use suggestion_reports::{Sample, report_of_sample};
 
 /// A run whose patterns are compiled, before it reads a line.
 #[derive(Clone, Copy)]
-pub struct Run<'r, 'a, 'd> {
+pub struct CompiledRun<'r, 'a, 'd> {
     pub outlet: &'r Outlet<'r>,
     pub options: &'a Options<'a>,
     pub library: &'a Library<'d>,
-    /// The texts of the patterns.
-    pub texts: &'a [PatternText],
-    pub patterns: &'a [Pattern],
+    pub patterns: &'a [RunPattern],
     /// The pattern of `--start`, if events are answered.
-    pub start: Option<&'a Pattern>,
+    pub start: Option<&'a RunPattern>,
     /// The patterns with their tags and plans.
     pub named: &'a [NamedPattern<'a>],
     /// The keys of patterns that are written, or `None` if all are.
@@ -47,16 +45,16 @@ pub struct Run<'r, 'a, 'd> {
 #[derive(Drop)]
 struct Ended<'a> {
     searches: Searches<'a>,
-    outcome: Outcome,
+    outcome: RunOutcome,
 }
 
-impl<'r, 'a, 'd> Run<'r, 'a, 'd> {
+impl<'r, 'a, 'd> CompiledRun<'r, 'a, 'd> {
     /// Does the task, and then reports the counts of the lines or events if that is wanted.
     ///
     /// # Errors
     ///
     /// If an allocation, a file or the output fails.
-    pub fn perform(self) -> Result<Outcome, Fault> {
+    pub fn perform(self) -> Result<RunOutcome, Fault> {
         let ended = match &self.options.task {
             Task::Answers(answers) => self.answer(answers)?,
             Task::Counts(counts) => self.count(counts)?,
@@ -65,7 +63,7 @@ impl<'r, 'a, 'd> Run<'r, 'a, 'd> {
             Task::Reasons(most) => self.explain_lines(*most)?,
             Task::Explanation => return self.explain_patterns(),
             // They compile no patterns.
-            Task::Suggestions(_) | Task::List(_) => return Ok(Outcome::AllRead),
+            Task::Suggestions(_) | Task::List(_) => return Ok(RunOutcome::AllRead),
         };
         if self.options.has_summary {
             let (names, unit) = (&self.options.patterns, self.options.unit());
@@ -88,24 +86,18 @@ impl<'r, 'a, 'd> Run<'r, 'a, 'd> {
     }
 
     /// Reads all lines or events. Returns what searched them, and how that ended.
-    fn read<A: LogLines<'a> + SkipLines + Drop>(self, lines: A) -> Result<(A, Outcome), Fault> {
+    fn read<A: LogLines<'a> + SkipLines + Drop>(self, lines: A) -> Result<(A, RunOutcome), Fault> {
         answer_each(self.outlet, self.options, self.start, lines)
     }
 
     /// Returns what finds where the values of keys are.
     fn located(self) -> Result<LocatedFields<'a>, AllocError> {
-        LocatedFields::new(self.rt().alloc(), self.patterns, self.fields)
+        LocatedFields::new(self.rt().alloc(), self.named, self.fields)
     }
 
     /// Returns what explains where the patterns stop.
     fn explainer(self) -> Result<Explainer<'a, 'd>, AllocError> {
-        Explainer::new(
-            self.rt().alloc(),
-            self.library,
-            self.texts,
-            self.patterns,
-            !self.options.is_all,
-        )
+        Explainer::new(self.rt().alloc(), self.library, self.patterns)
     }
 
     /// Writes the answers.
@@ -127,8 +119,9 @@ impl<'r, 'a, 'd> Run<'r, 'a, 'd> {
         let counts = KeyCounts::new(alloc, keys, options.format, options.most);
         let (lines, outcome) = self.read(self.searched(counts)?)?;
         let counts = &lines.task;
-        write_bytes(self.rt(), &counts.text()?)?;
-        if let Some(note) = note_of_others(alloc, counts.counts.others(), self.options.unit())? {
+        write_bytes(self.rt(), &counts.text(options.top)?)?;
+        let (others, unit) = (counts.counts.others(), self.options.unit());
+        if let Some(note) = note_of_others(alloc, others, options.most, unit)? {
             show_note(self.rt(), note.as_str())?;
         }
         let searches = lines.searches;
@@ -154,13 +147,7 @@ impl<'r, 'a, 'd> Run<'r, 'a, 'd> {
     fn page_content(self, options: &PageOptions<'a>) -> Result<PageContent<'a>, AllocError> {
         let alloc = self.rt().alloc();
         let located = self.located()?;
-        let titles = titles_of(
-            alloc,
-            self.library,
-            (self.texts, self.patterns),
-            &located.keys,
-            !self.options.is_all,
-        )?;
+        let titles = titles_of(alloc, self.library, self.patterns, &located.keys)?;
         let scope = Scope {
             unit: self.options.unit(),
             lines: options.lines,
@@ -174,7 +161,7 @@ impl<'r, 'a, 'd> Run<'r, 'a, 'd> {
         self,
         options: &PageOptions<'a>,
         lines: &SearchedLines<'a, Page<'a, 'a, 'd>>,
-        outcome: Outcome,
+        outcome: RunOutcome,
     ) -> Result<(), Fault> {
         let alloc = self.rt().alloc();
         let tags: Vec<&str> = self.named.iter().map(|named| named.tag).collect(alloc)?;
@@ -190,7 +177,7 @@ impl<'r, 'a, 'd> Run<'r, 'a, 'd> {
             name: options.file,
             read: self.read,
         };
-        file.write(self.rt(), outcome != Outcome::SomeUnread, html.as_str())
+        file.write(self.rt(), outcome != RunOutcome::SomeUnread, html.as_str())
     }
 
     /// Reads the first lines or events, and writes a page about them to a file.
@@ -216,20 +203,12 @@ impl<'r, 'a, 'd> Run<'r, 'a, 'd> {
     }
 
     /// Writes the explanation of each pattern.
-    fn explain_patterns(self) -> Result<Outcome, Fault> {
-        let with_alias_only = !self.options.is_all;
-        for (text, pattern) in self.texts.iter().zip(self.patterns) {
-            let text = text.text.as_str();
-            let lines = explain(
-                self.rt().alloc(),
-                self.library,
-                text,
-                pattern,
-                with_alias_only,
-            )?;
+    fn explain_patterns(self) -> Result<RunOutcome, Fault> {
+        for pattern in self.patterns {
+            let lines = explain(self.rt().alloc(), self.library, pattern)?;
             write_output(self.rt(), lines.as_str())?;
         }
-        Ok(Outcome::AllRead)
+        Ok(RunOutcome::AllRead)
     }
 }
 
@@ -244,7 +223,7 @@ pub fn suggest(
     options: &Options<'_>,
     library: &Library<'_>,
     most: u64,
-) -> Result<Outcome, Fault> {
+) -> Result<RunOutcome, Fault> {
     let alloc = outlet.rt.alloc();
     let sample = Sample::new(alloc, most);
     let flow = sample.flow();

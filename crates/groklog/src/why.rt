@@ -3,8 +3,8 @@ ghost use Rattle.std.specs.Prelude.{◌≡◌, [], nat_lt};
 
 use crate::output::Outlet;
 use groklog_answers::{Failure, Flow, FoundLine, LineTask};
-use groklog_input::Unit;
 use groklog_patterns::Explainer;
+use groklog_reports::Unit;
 use std::alloc::{AllocError, Global};
 
 /// Writes where the patterns stop in the first lines that don't match.

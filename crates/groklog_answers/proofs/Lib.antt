@@ -6,6 +6,7 @@ mod TokensOfMembers
 mod FirstBytes
 mod PlannedTokens
 mod PlansAreMade
+mod FractionsAreWhole
 mod ValuesAreInPlace
 mod ObjectsReadBack
 mod AnswerLaws

@@ -178,7 +178,7 @@ any_from_place : (b : Bool) (p : ℕ → Bool) (x : ℕ) (xs : List ℕ) → p x
 any_from_place true p x xs is more none = absurd (omega (arith, rw is at none))
 any_from_place false p x xs is more none = let rest : position_or_len p xs ≡ length xs = omega (arith, rw is at none) in rw is (more rest)
 
-none_at_end : (p : ℕ → Bool) (xs : List ℕ) → position_or_len p xs ≡ length xs → list_any p xs ≡ false
+pub none_at_end : (p : ℕ → Bool) (xs : List ℕ) → position_or_len p xs ≡ length xs → list_any p xs ≡ false
 none_at_end p [] none = refl
 none_at_end p (x ∷ xs) none = any_from_place (p x) p x xs refl (none_at_end p xs) none
 
@@ -188,7 +188,7 @@ some_from_place : (b : Bool) (p : ℕ → Bool) (x : ℕ) (xs : List ℕ) → p 
 some_from_place true p x xs is more some = rw is refl
 some_from_place false p x xs is more some = let rest : position_or_len p xs < length xs = omega (arith, rw is at some) in rw is (more rest)
 
-some_before_end : (p : ℕ → Bool) (xs : List ℕ) → position_or_len p xs < length xs → list_any p xs ≡ true
+pub some_before_end : (p : ℕ → Bool) (xs : List ℕ) → position_or_len p xs < length xs → list_any p xs ≡ true
 some_before_end p [] some = absurd (omega arith)
 some_before_end p (x ∷ xs) some = some_from_place (p x) p x xs refl (some_before_end p xs) some
 

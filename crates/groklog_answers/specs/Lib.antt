@@ -12,6 +12,7 @@ pub mod SearchedLines
 pub mod LogAnswers
 pub mod Views
 pub mod Searches
+pub mod Missed
 pub mod AnswerLaws
 pub mod ValueCounts
 pub mod ValueLists
@@ -27,6 +28,7 @@ pub use Rattle.groklog_answers.specs.SearchedLines.{found_in, searched_answer, s
 pub use Rattle.groklog_answers.specs.LogAnswers.{log_answer, log_answers_from}
 pub use Rattle.groklog_answers.specs.Views.{pattern_text, found_text_of, patterns_of, layout_of, next_number_of, finds_of, starts_of}
 pub use Rattle.groklog_answers.specs.Searches.{patterns_in, next_number_in, matched_in, unmatched_in, broken_in, first_index, one_more_at, HasNumbered, HasCounted}
-pub use Rattle.groklog_answers.specs.ValueCounts.{count_of, value_count, most_of, others_of, one_more, IsUnchanged, SetsCount, SkipsValue, counted_values, counted_pair, AreByCount, counts_text}
+pub use Rattle.groklog_answers.specs.Missed.{has_return, has_escape, missed_with}
+pub use Rattle.groklog_answers.specs.ValueCounts.{count_of, value_count, most_of, others_of, one_more, IsUnchanged, SetsCount, SkipsValue, counted_values, counted_pair, AreByCount, AreCommonest, counts_text}
 pub use Rattle.groklog_answers.specs.ValueLists.{key_value, pairs_text, values_by, list_text, lists_text}
 pub use Rattle.groklog_answers.specs.KeyCounts.{found_value, list_in, counted_in, keys_text, CountsOnce, CountsValue}

@@ -1,4 +1,4 @@
--- What a task is told of each line, and what is written for the line.
+-- What is found in a line of a log, and what a task writes for it.
 use Rattle.std.specs.Prelude.{ℕ, ◌+◌, List, Option, Result, Err, if◌then◌else◌}
 use Rattle.std.specs.Option.{ok_or}
 use Rattle.std.specs.Str.{is_utf8}
@@ -18,6 +18,6 @@ searched_answer answer patterns n line =
     if is_utf8 line then answer (found_in patterns line) n line
     else answer (Err NotUtf8) n (utf8_lossy line)
 
--- The same of the line that comes `n` lines after the line with the number `first`.
+-- What is written for the line that comes `n` lines after the one with the number `first`.
 abbrev pub searched_answers_from : (Result MatchText Failure → ℕ → List ℕ → List ℕ) → List PatternText → ℕ → ℕ → List ℕ → List ℕ
 searched_answers_from answer patterns first n = searched_answer answer patterns (first + n)

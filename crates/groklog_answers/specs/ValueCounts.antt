@@ -1,5 +1,5 @@
 -- How often each value of a key comes.
-use Rattle.std.specs.Prelude.{◌≡◌, ◌≢◌, ℕ, ◌+◌, ◌≤◌, ◌-◌, ◌^◌, List, [], ◌∷◌, ◌++◌, Option, Some, if◌then◌else◌, nat_lt, codes, map, flat_map, length, string_bytes, IsPermutation}
+use Rattle.std.specs.Prelude.{◌≡◌, ◌≢◌, ℕ, ◌+◌, ◌≤◌, ◌-◌, ◌^◌, List, [], ◌∷◌, ◌++◌, Option, Some, if◌then◌else◌, nat_lt, codes, map, flat_map, length, string_bytes, IsPermutation, take}
 use Rattle.std.specs.BTreeMap.{get_by_text, btree_map_len}
 use Rattle.std.specs.List.{AllAdjacentBelow}
 use Rattle.csv.specs.Writing.{default_writer, row_text}
@@ -61,6 +61,12 @@ counted_pair counted = (counted.value.now, counted.count)
 pub record AreByCount (counts : ValueCounts) (pairs : List (List ℕ × ℕ)) : Type 0 where
   pub all : IsPermutation (counted_values counts) pairs
   pub order : AllAdjacentBelow (λ pair next. next.1 ≤ pair.1) pairs (length pairs)
+
+-- These are the counted values that come first in such an order, at most `top` of them.
+pub record AreCommonest (counts : ValueCounts) (top : ℕ) (pairs : List (List ℕ × ℕ)) : Type 0 where
+  pub all : List (List ℕ × ℕ)
+  pub sorted : AreByCount counts all
+  pub first : pairs ≡ take top all
 
 -- A value with its count as it is written: a JSON object on a line of its own.
 abbrev pub counted_object : List ℕ × ℕ → List ℕ

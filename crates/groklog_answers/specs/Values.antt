@@ -1,6 +1,6 @@
 -- How the value of a key is written in a JSON object.
-use Rattle.std.specs.Prelude.{ℕ, ◌-◌, List, [], ◌∷◌, ◌++◌, Bool, true, false, ◌&&◌, ◌||◌, ◌==◌, nat_le, not, Option, Some, None, if◌then◌else◌, codes, length, slice_index}
-use Rattle.std.specs.List.{list_any}
+use Rattle.std.specs.Prelude.{ℕ, List, [], ◌∷◌, ◌++◌, Bool, true, false, ◌&&◌, ◌||◌, ◌==◌, not, Option, Some, None, if◌then◌else◌, codes}
+use Rattle.std.specs.List.{list_any, before_first, after_first}
 use Rattle.std.specs.Char.{is_ascii_digit}
 use Rattle.std.specs.Str.{bytes_eq}
 use Rattle.json.specs.Word.{after_number}
@@ -39,12 +39,6 @@ abbrev pub begins_with_fraction : List ℕ → Bool
 begins_with_fraction [] = false
 begins_with_fraction (b ∷ text) = (b == 46) && begins_with_digit text
 
--- The text ends with a digit, and then a point, as `5.`.
-abbrev pub ends_with_point : List ℕ → Bool
-ends_with_point text =
-    nat_le 2 (length text)
-    && (is_ascii_digit (slice_index text (length text - 2)) && (slice_index text (length text - 1) == 46))
-
 -- The sign that a JSON number has in place of the sign of the text: a `-` stays.
 abbrev pub json_sign : List ℕ → List ℕ
 json_sign [] = []
@@ -74,12 +68,27 @@ without_zeros (b ∷ text) = if (b == 48) && begins_with_digit text then without
 abbrev pub zero_if : Bool → List ℕ
 zero_if is_missing = if is_missing then codes "0" else []
 
+-- What comes before the first point, and what comes after it, if there is one.
+abbrev pub parts_at_point : List ℕ → Option (List ℕ × List ℕ)
+parts_at_point text =
+    if list_any (λ b. b == 46) text then Some (before_first (λ b. b == 46) text, after_first (λ b. b == 46) text)
+    else None
+
+-- The text, or if it has these parts before and after a point, these with a digit after the point.
+abbrev pub with_digit : List ℕ → Option (List ℕ × List ℕ) → List ℕ
+with_digit text None = text
+with_digit text (Some (whole, fraction)) = whole ++ (codes "." ++ (zero_if (not (begins_with_digit fraction)) ++ fraction))
+
+-- The text with a digit after its first point: `5.` becomes `5.0`, and `5.e1` becomes `5.0e1`.
+abbrev pub with_fraction : List ℕ → List ℕ
+with_fraction text = with_digit text (parts_at_point text)
+
 -- The digits with a digit on each side of the point: `.5` becomes `0.5`, and `5.` becomes `5.0`.
 abbrev pub with_both_sides : List ℕ → List ℕ
-with_both_sides digits = zero_if (begins_with_fraction digits) ++ (digits ++ zero_if (ends_with_point digits))
+with_both_sides digits = zero_if (begins_with_fraction digits) ++ with_fraction digits
 
--- The text as JSON would have it, if it is a number: `007` becomes `7`, `+2` becomes `2`, and `-.5`
--- becomes `-0.5`. A text that is a JSON number stays as it is.
+-- The text as JSON would have it, if it is a number: `007` becomes `7`, `+2` becomes `2`, `-.5`
+-- becomes `-0.5`, and `5.e1` becomes `5.0e1`. A text that is a JSON number stays as it is.
 abbrev pub number_form : List ℕ → List ℕ
 number_form text =
     if is_json_number text then text

@@ -101,8 +101,8 @@ impl AnsweredLine<'_> {
 pub struct AnswerWriter<'p> {
     pub alloc: Global,
     pub layout: Layout<'p>,
-    /// Whether the answer to each line that has no fields is an object without members. Many lines are of
-    /// another kind than the pattern's, and then the writer would take as long as the search.
+    /// Whether the answer to each line that has no fields is `{}`. It is found out once for a file, because on lines
+    /// that don't match the writer would take as long as the search.
     are_unmatched_empty: bool,
     ghost empty: { are_unmatched_empty ≡ true → (why : Failure) (n : ℕ) (line : List ℕ)
         → answer_to (line_of (layout_value layout) (Err why) n line) ≡ codes "{}\n" },

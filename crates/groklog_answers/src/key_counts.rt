@@ -1,6 +1,6 @@
 //! Counts the values of keys, for `--count`.
 ghost use Rattle.std.specs.Prelude.{◌≡◌, ℕ, List, Some, None, IfOk, OnOk, option_map, string_bytes};
-ghost use Rattle.groklog_answers.specs.{found_text_of, count_of, others_of, most_of, AreByCount};
+ghost use Rattle.groklog_answers.specs.{found_text_of, count_of, others_of, most_of, AreCommonest};
 ghost use Rattle.groklog_answers.specs.PlanViews.{names_of};
 ghost use Rattle.groklog_answers.specs.KeyCounts.{found_value, list_in, counted_in, keys_text, CountsValue};
 
@@ -95,15 +95,15 @@ impl<'a> KeyCounts<'a> {
         self.count_list(found)
     }
 
-    /// Returns what was counted, as it is written: as JSON objects, or as records with a header. What came
-    /// most often comes first, and of that the first in byte order.
-    pub fn text(&self) -> Result<Vec<u8>, AllocError>
-        ensures { IfOk result (λ text. (pairs : List (List ℕ × ℕ)) × AreByCount self.now.counts pairs
+    /// Returns what came most often, at most `top` values or lists of them, as it is written: as JSON objects, or as
+    /// records with a header. What came most often comes first, and of that the first in byte order.
+    pub fn text(&self, top: usize) -> Result<Vec<u8>, AllocError>
+        ensures { IfOk result (λ text. (pairs : List (List ℕ × ℕ)) × AreCommonest self.now.counts top pairs
             × (text.items ≡ keys_text self.now.format (names_of self.now.keys.items) pairs)) }
     {
         match self.keys.as_slice() {
-            [_] => self.counts.text(self.format),
-            keys => self.counts.text_of_lists(self.format, keys),
+            [_] => self.counts.text(self.format, top),
+            keys => self.counts.text_of_lists(self.format, keys, top),
         }
     }
 }

@@ -1,12 +1,14 @@
 //! Searches each line of a log, and gives what was found to a task.
-ghost use Rattle.std.specs.Prelude.{◌≡◌, ℕ, ◌+◌, ◌++◌, Ok, Err, IfOk, OnOk, OnErr, string_bytes};
-ghost use Rattle.std.specs.Result.{ForOk};
+ghost use Rattle.std.specs.Prelude.{◌≡◌, ℕ, ◌+◌, ◌++◌, Ok, Err, IfOk, OnOk, OnErr, string_bytes, if◌then◌else◌};
+ghost use Rattle.std.specs.Result.{ForOk, is_ok};
 ghost use Rattle.std.specs.Str.Lossy.{utf8_lossy};
 ghost use Rattle.grok.specs.{borrowed_line};
-ghost use Rattle.groklog_answers.specs.Searches.{patterns_in, next_number_in};
+ghost use Rattle.groklog_answers.specs.Missed.{missed_with};
+ghost use Rattle.groklog_answers.specs.Searches.{patterns_in, next_number_in, matched_in, unmatched_in, broken_in};
 ghost use Rattle.groklog_answers.specs.SearchedLines.{found_in};
 
 use crate::layout::Failure;
+use crate::missed::Missed;
 use crate::searches::{LineMatch, Searches};
 use grok_lines::{LineAnswers, SkipLines};
 use std::alloc::{AllocError, Global};
@@ -75,6 +77,8 @@ pub struct SearchedLines<'p, T> {
     alloc: Global,
     /// Finds the matches, and counts the lines.
     pub searches: Searches<'p>,
+    /// What the lines of this file showed that no pattern matches.
+    pub missed: Missed,
     pub task: T,
     /// Whether the task wants more lines. If it has enough, the line that it took last isn't answered, so that no more
     /// lines are read.
@@ -94,6 +98,7 @@ impl<'p, T: LineTask<'p>> SearchedLines<'p, T> {
         SearchedLines {
             alloc,
             searches,
+            missed: Missed::none(),
             task,
             flow: Flow::More,
         }
@@ -103,8 +108,11 @@ impl<'p, T: LineTask<'p>> SearchedLines<'p, T> {
     pub fn begin_file(&mut self, name: &'p str)
         ensures begun { T.begins self.old.task name.now self.new.task }
         ensures searches { self.new.searches ≡ self.old.searches }
+        ensures returns { self.new.missed.returns ≡ 0 }
+        ensures escapes { self.new.missed.escapes ≡ 0 }
         ensures flow { self.new.flow ≡ self.old.flow }
     {
+        self.missed = Missed::none();
         self.task.begin_file(name);
     }
 
@@ -121,6 +129,8 @@ impl<'p, T: LineTask<'p>> SearchedLines<'p, T> {
             (first_index (patterns_in self.old.searches) line.now)) }
         ensures number { OnOk result (next_number_in self.new.searches ≡ next_number_in self.old.searches + 1) }
         ensures patterns { patterns_in self.new.searches ≡ patterns_in self.old.searches }
+        ensures missed { OnOk result (self.new.missed ≡ (if is_ok (found_in (patterns_in self.old.searches) line.now)
+            then self.old.missed else missed_with self.old.missed line.now)) }
         ensures same { T.answer self.new.task ≡ T.answer self.old.task }
     {
         let number = self.searches.next_number;
@@ -136,6 +146,7 @@ impl<'p, T: LineTask<'p>> SearchedLines<'p, T> {
                 self.task.take(searched, out)
             }
             None => {
+                self.missed = self.missed.with(text);
                 let found = Err(Failure::NoMatch);
                 let searched = FoundLine {
                     number,
@@ -166,6 +177,9 @@ impl<'p, T: LineTask<'p>> SearchedLines<'p, T> {
             (next_number_in self.old.searches) (utf8_lossy line.now)) }
         ensures enough { IfOk result (λ flow. flow ≡ Flow.Enough → out.new.items ≡ out.old.items) }
         ensures memory { OnErr result (out.new.items ≡ out.old.items) }
+        ensures broken { OnOk result (broken_in self.new.searches ≡ broken_in self.old.searches + 1) }
+        ensures matched { OnOk result (matched_in self.new.searches ≡ matched_in self.old.searches) }
+        ensures unmatched { OnOk result (unmatched_in self.new.searches ≡ unmatched_in self.old.searches) }
         ensures number { OnOk result (next_number_in self.new.searches ≡ next_number_in self.old.searches + 1) }
         ensures patterns { patterns_in self.new.searches ≡ patterns_in self.old.searches }
         ensures same { T.answer self.new.task ≡ T.answer self.old.task }

@@ -147,6 +147,9 @@ impl<'p> Searches<'p> {
     pub fn new(alloc: Global, patterns: &[NamedPattern<'p>]) -> Result<Searches<'p>, AllocError>
         ensures patterns { IfOk result (λ searches. patterns_in searches ≡ map pattern_text patterns.now) }
         ensures number { IfOk result (λ searches. next_number_in searches ≡ 1) }
+        ensures matched { IfOk result (λ searches. matched_in searches ≡ map (λ pattern. 0) patterns.now) }
+        ensures unmatched { IfOk result (λ searches. unmatched_in searches ≡ 0) }
+        ensures broken { IfOk result (λ searches. broken_in searches ≡ 0) }
     {
         let mut searches = Vec::new(alloc);
         'patterns: for named in patterns {
@@ -219,6 +222,9 @@ impl<'p> Searches<'p> {
         ensures ok { OnOk result (next_number_in self.new ≡ next_number_in self.old + count) }
         ensures err { OnErr result (next_number_in self.new ≡ next_number_in self.old) }
         ensures same { patterns_in self.new ≡ patterns_in self.old }
+        ensures matched { matched_in self.new ≡ matched_in self.old }
+        ensures unmatched { unmatched_in self.new ≡ unmatched_in self.old }
+        ensures broken { broken_in self.new ≡ broken_in self.old }
     {
         let Some(number) = self.next_number.checked_add(count) else {
             // own error: the next line would have no number. No run reads so many lines.

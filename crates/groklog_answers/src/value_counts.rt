@@ -2,7 +2,7 @@
 ghost use Rattle.std.specs.Prelude.{◌≡◌, ℕ, ◌<◌, ◌≤◌, ◌^◌, All, List, Some, None, ◌++◌, map, flat_map, IfOk, OnOk, OnErr, is_some, string_bytes};
 ghost use Rattle.groklog_answers.specs.PlanViews.{names_of};
 ghost use Rattle.groklog_answers.specs.ValueLists.{frame_text, frame_of, framed_list, list_header, lists_text};
-ghost use Rattle.groklog_answers.specs.ValueCounts.{count_of, value_count, most_of, others_of, one_more, IsUnchanged, SetsCount, SkipsValue, counted_values, counted_pair, AreByCount, counted_object, counted_record, counts_text};
+ghost use Rattle.groklog_answers.specs.ValueCounts.{count_of, value_count, most_of, others_of, one_more, IsUnchanged, SetsCount, SkipsValue, counted_values, counted_pair, AreByCount, AreCommonest, counted_object, counted_record, counts_text};
 
 use crate::layout::OutputFormat;
 use crate::object::{write_number, write_string};
@@ -233,25 +233,39 @@ impl ValueCounts {
         Ok(all)
     }
 
-    /// Returns the values with their counts as they are written: as JSON objects, or as records with a
-    /// header. Those that came most often come first, and of these the first in byte order.
-    pub fn text(&self, format: OutputFormat) -> Result<Vec<u8>, AllocError>
-        ensures { IfOk result (λ text. (pairs : List (List ℕ × ℕ)) × AreByCount self.now pairs
+    fn commonest(&self, top: usize) -> Result<Vec<Counted<'_>>, AllocError>
+        ensures { IfOk result (λ all. AreCommonest self.now top (map counted_pair all.items)) }
+    {
+        let mut all = self.sorted()?;
+        all.truncate(top);
+        Ok(all)
+    }
+
+    /// Returns the values that came most often with their counts as they are written, at most `top` of them: as JSON
+    /// objects, or as records with a header. Those that came most often come first, and of these the first in byte order.
+    pub fn text(&self, format: OutputFormat, top: usize) -> Result<Vec<u8>, AllocError>
+        ensures { IfOk result (λ text. (pairs : List (List ℕ × ℕ)) × AreCommonest self.now top pairs
             × (text.items ≡ counts_text format pairs)) }
     {
-        let all = self.sorted()?;
+        let all = self.commonest(top)?;
         match format {
             OutputFormat::Csv => records_of(self.alloc, &all),
             OutputFormat::Json | OutputFormat::Pairs => objects_of(self.alloc, &all),
         }
     }
+
     /// Returns the same as `text`, for lists of values that were counted by their texts. A record has a column
     /// for each of these keys.
-    pub fn text_of_lists(&self, format: OutputFormat, keys: &[&str]) -> Result<Vec<u8>, AllocError>
-        ensures { IfOk result (λ text. (pairs : List (List ℕ × ℕ)) × AreByCount self.now pairs
+    pub fn text_of_lists(
+        &self,
+        format: OutputFormat,
+        keys: &[&str],
+        top: usize,
+    ) -> Result<Vec<u8>, AllocError>
+        ensures { IfOk result (λ text. (pairs : List (List ℕ × ℕ)) × AreCommonest self.now top pairs
             × (text.items ≡ lists_text format (names_of keys.now) pairs)) }
     {
-        let all = self.sorted()?;
+        let all = self.commonest(top)?;
         let header = list_header(self.alloc, format, keys)?;
         append_lists(self.alloc, header, frame_of(format), &all)
     }

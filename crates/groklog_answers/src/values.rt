@@ -3,7 +3,7 @@ ghost use Rattle.std.specs.Prelude.{◌≡◌, ◌++◌, OnOk, IfOk, option_map,
 ghost use Rattle.std.specs.List.{list_any};
 ghost use Rattle.json.specs.Json.{Json, number, string};
 ghost use Rattle.json.specs.Tree.{json_tokens};
-ghost use Rattle.groklog_answers.specs.Values.{is_json_number, is_json_integer, begins_fraction_or_exponent, begins_with_digit, begins_with_fraction, ends_with_point, json_sign, begins_with_number, without_plus, without_sign, without_zeros, zero_if, with_both_sides, number_form, asks_for_numbers, is_written_as_number, json_value};
+ghost use Rattle.groklog_answers.specs.Values.{is_json_number, is_json_integer, begins_fraction_or_exponent, begins_with_digit, begins_with_fraction, json_sign, begins_with_number, without_plus, without_sign, without_zeros, zero_if, parts_at_point, with_fraction, with_both_sides, number_form, asks_for_numbers, is_written_as_number, json_value};
 
 use json::{Writer, is_number};
 use std::alloc::{AllocError, Global};
@@ -45,15 +45,6 @@ fn begins_with_fraction(text: &str) -> bool
         Some(rest) => begins_with_digit(rest),
         None => false,
     }
-}
-
-/// Returns whether a text ends with a digit, and then a point.
-fn ends_with_point(text: &str) -> bool
-    ensures { result ≡ ends_with_point text.now }
-{
-    let bytes = text.as_bytes();
-    let len = bytes.len();
-    len >= 2 && bytes[len - 2].is_ascii_digit() && bytes[len - 1] == b'.'
 }
 
 fn begins_with_number(text: &str) -> bool
@@ -102,6 +93,26 @@ fn zero_if(is_missing: bool) -> &'static str
     if is_missing { "0" } else { "" }
 }
 
+fn parts_at_point(text: &str) -> Option<(&str, &str)>
+    ensures { option_map (λ parts. (parts.0.now, parts.1.now)) result ≡ parts_at_point text.now }
+{
+    text.split_once('.')
+}
+
+/// Returns a text with a digit after its first point: `5.0e1` for `5.e1`.
+fn with_fraction(alloc: Global, text: &str) -> Result<String, AllocError>
+    ensures { IfOk result (λ form. string_bytes form ≡ with_fraction text.now) }
+{
+    let Some((whole, fraction)) = parts_at_point(text) else {
+        return String::from_str(alloc, text);
+    };
+    let mut form = String::from_str(alloc, whole)?;
+    form.push_str(".")?;
+    form.push_str(zero_if(!begins_with_digit(fraction)))?;
+    form.push_str(fraction)?;
+    Ok(form)
+}
+
 fn other_form(alloc: Global, text: &str) -> Result<String, AllocError>
     ensures { IfOk result (λ form. string_bytes form
         ≡ json_sign text.now ++ with_both_sides (without_zeros (without_sign text.now))) }
@@ -110,8 +121,8 @@ fn other_form(alloc: Global, text: &str) -> Result<String, AllocError>
     let digits = without_zeros(unsigned);
     let mut form = String::from_str(alloc, sign)?;
     form.push_str(zero_if(begins_with_fraction(digits)))?;
-    form.push_str(digits)?;
-    form.push_str(zero_if(ends_with_point(digits)))?;
+    let number = with_fraction(alloc, digits)?;
+    form.push_str(number.as_str())?;
     Ok(form)
 }
 

@@ -1,5 +1,3 @@
 pub mod BlanksEndAtBoundaries
 pub mod FirstCharacterDecides
-pub mod PlaceByPlace
-pub mod RefusalsOfPatterns
 pub mod MeasuresDecide

@@ -1,106 +1,72 @@
-//! Compiles the patterns of a run.
-ghost use Rattle.std.specs.Prelude.{◌≡◌, Any, IfOk, IfErr, OnOk};
-ghost use Rattle.std.specs.List.{AllZip};
+//! Compiles patterns, as far as the limit of a library allows.
+ghost use Rattle.std.specs.Prelude.{◌≡◌, IfOk, IfErr, OnOk};
 ghost use Rattle.groklog_definitions.specs.Compiled.{IsCompiledFrom, IsRefusedText, IsTooLarge, IsTooLargeOrNot, IsRefusal};
-ghost use Rattle.groklog_definitions.specs.declared.compiled.Refusal.TheVariants.{Memory};
+ghost use Rattle.groklog_definitions.specs.declared.compiled.CompileRefusal.TheVariants.{Memory};
 
 use crate::library::Library;
-use crate::pattern_text::PatternText;
 use grok::{Error, Pattern};
-use std::alloc::{AllocError, AllocFailed, Global};
+use std::alloc::AllocError;
 
 /// Why a pattern isn't compiled.
 #[derive(Clone, Copy)]
-pub enum Refusal<'a> {
-    /// The expanded text of this pattern is larger than the library takes.
-    TooLarge(&'a PatternText),
-    /// This pattern is empty or has a structural fault, or the engine refuses its expanded text.
-    Invalid(&'a PatternText),
+pub enum CompileRefusal {
+    /// Its expanded text is larger than the library takes.
+    TooLarge,
+    /// It is empty or has a structural fault, or the engine refuses its expanded text.
+    Invalid,
     /// An allocation failed.
     Memory,
 }
 
-impl From<AllocError> for Refusal<'_> {
+impl From<AllocError> for CompileRefusal {
     ghost from_gives = { λ _ refusal. refusal ≡ Memory };
 
     fn from(_error: AllocError) -> Self {
         // own error: an allocation failed.
-        Refusal::Memory
-    }
-}
-
-impl<T: Drop> From<AllocFailed<T>> for Refusal<'_> {
-    ghost from_gives = { λ _ refusal. refusal ≡ Memory };
-
-    fn from(_error: AllocFailed<T>) -> Self {
-        // own error: an allocation failed.
-        Refusal::Memory
+        CompileRefusal::Memory
     }
 }
 
 #[tactic(auto, using(crate::proofs::MeasuresDecide::carried))]
 fn is_too_large(
     library: &Library<'_>,
-    pattern: &PatternText,
+    text: &str,
     with_alias_only: bool,
 ) -> Result<bool, AllocError>
-    ensures { IfOk result (IsTooLargeOrNot library.now.grok with_alias_only library.now.limit pattern.now) }
+    ensures { IfOk result (IsTooLargeOrNot library.now.grok with_alias_only library.now.limit text.now) }
 {
-    let measure = library
-        .grok
-        .measure(pattern.text.as_str(), with_alias_only)?;
+    let measure = library.grok.measure(text, with_alias_only)?;
     Ok(library.limit.is_past(measure))
 }
 
-/// Compiles one pattern, unless its expanded text is larger than the library takes. That is known before any
+/// Compiles a pattern, unless its expanded text is larger than the library takes. That is known before any
 /// of the text is written.
 ///
 /// # Errors
 ///
 /// Returns a refusal if the pattern can't be compiled or is too large, or if an allocation fails.
-pub fn compile<'a>(
+pub fn compile(
     library: &Library<'_>,
-    pattern: &'a PatternText,
+    text: &str,
     with_alias_only: bool,
-) -> Result<Pattern, Refusal<'a>>
-    ensures pattern { IfOk result (IsCompiledFrom library.now.grok with_alias_only pattern.now) }
-    ensures limit { OnOk result (IsTooLarge library.now.grok with_alias_only library.now.limit pattern.now → ⊥) }
+) -> Result<Pattern, CompileRefusal>
+    ensures pattern { IfOk result (IsCompiledFrom library.now.grok with_alias_only text.now) }
+    ensures limit { OnOk result (IsTooLarge library.now.grok with_alias_only library.now.limit text.now → ⊥) }
     ensures refusal { IfErr result (IsRefusal
-        (IsTooLarge library.now.grok with_alias_only library.now.limit pattern.now)
-        (IsRefusedText library.now.grok with_alias_only pattern.now)) }
+        (IsTooLarge library.now.grok with_alias_only library.now.limit text.now)
+        (IsRefusedText library.now.grok with_alias_only text.now)) }
 {
-    if is_too_large(library, pattern, with_alias_only)? {
-        return Err(Refusal::TooLarge(pattern));
+    if is_too_large(library, text, with_alias_only)? {
+        return Err(CompileRefusal::TooLarge);
     }
-    match library.grok.compile(pattern.text.as_str(), with_alias_only) {
-        Ok(compiled) => Ok(compiled),
+    let grok = &library.grok;
+    match grok.compile(text, with_alias_only) {
+        Ok(pattern) => Ok(pattern),
         // own error: the library reported that an allocation failed.
-        Err(Error::Memory) => Err(Refusal::Memory),
-        Err(_) => Err(Refusal::Invalid(pattern)),
+        Err(Error::Memory) => Err(CompileRefusal::Memory),
+        Err(_) if grok.diagnose(text, with_alias_only)?.is_some() => Err(CompileRefusal::Invalid),
+        // own error: nothing is wrong with this pattern, so compiling it failed because an
+        // allocation did.
+        Err(_) => Err(CompileRefusal::Memory),
     }
-}
-
-/// Compiles the patterns, in their order.
-///
-/// # Errors
-///
-/// Returns the refusal of the first pattern that can't be compiled or is too large, or that an allocation failed.
-#[tactic(auto, using(crate::proofs::PlaceByPlace::all_zip_more))]
-pub fn compile_all<'a>(
-    alloc: Global,
-    library: &Library<'_>,
-    patterns: &'a [PatternText],
-    with_alias_only: bool,
-) -> Result<Vec<Pattern>, Refusal<'a>>
-    ensures patterns { IfOk result (λ all. AllZip (IsCompiledFrom library.now.grok with_alias_only)
-        patterns.now all.items) }
-    ensures refusal { IfErr result (IsRefusal
-        (Any (IsTooLarge library.now.grok with_alias_only library.now.limit) patterns.now)
-        (Any (IsRefusedText library.now.grok with_alias_only) patterns.now)) }
-{
-    let mut all = Vec::new(alloc);
-    'patterns: for pattern in patterns {
-        all.push(compile(library, pattern, with_alias_only)?)?;
-    }
-    Ok(all)
 }

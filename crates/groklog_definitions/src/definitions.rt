@@ -1,6 +1,7 @@
 //! Reads definitions from the lines of a file, and from the words after `-D`.
 ghost use Rattle.std.specs.Prelude.{◌≡◌, option_map};
 ghost use Rattle.groklog_definitions.specs.DefinitionTexts.{definition_of};
+ghost use Rattle.groklog_definitions.specs.Origins.{is_own};
 
 use crate::definition::{read_definition, skip_blanks};
 use std::alloc::AllocError;
@@ -21,7 +22,9 @@ pub enum Origin<'a> {
 
 impl Origin<'_> {
     /// Returns whether a definition is one of the user's, and not built in.
-    pub fn is_own(self) -> bool {
+    pub fn is_own(self) -> bool
+        ensures { result ≡ is_own self.entry }
+    {
         matches!(self, Origin::Line { .. } | Origin::Word)
     }
 }

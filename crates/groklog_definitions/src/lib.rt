@@ -1,12 +1,11 @@
 //! The definitions and the patterns of a run of `groklog`. It reads and writes no files.
 //!
-//! A [`Library`] has the definitions, and where each was given. [`compile_all`] compiles patterns with it, or says
-//! which of them is too large or faulty:
+//! A [`Library`] has the definitions, and where each was given. [`compile`] compiles a pattern with it, or says
+//! whether it is too large or faulty:
 //!
 //! ```text
 //! let library = Library::new(alloc, true, &files, &words, most_bytes)?;
-//! let texts = patterns_of(alloc, &["%{IP:client} %{WORD:verb}"])?;
-//! let patterns = compile_all(alloc, &library, &texts, true)?;
+//! let pattern = compile(&library, "%{IP:client} %{WORD:verb}", true)?;
 //! ```
 //!
 //! Where a call has no section `# Errors`, its error is a failed allocation.
@@ -20,8 +19,8 @@ mod library;
 mod pattern_text;
 
 pub use common::{common_definition, list_common_definitions};
-pub use compiled::{Refusal, compile, compile_all};
+pub use compiled::{CompileRefusal, compile};
 pub use definition::{read_definition, skip_blanks};
 pub use definitions::{Origin, without_mark};
-pub use library::{Library, Limit, Source};
-pub use pattern_text::{PatternText, RunTexts, ordinal, patterns_of, start_pattern};
+pub use library::{DefinitionSource, Library, Limit};
+pub use pattern_text::{PatternText, ordinal, patterns_of, start_pattern};

@@ -9,19 +9,19 @@ use crate::common::add_common_definitions;
 use crate::definition::name_of_spaced;
 use crate::definitions::{Definition, Origin, read_file, read_word};
 use grok::{Grok, Measure, patterns};
-use groklog_input::{Fault, Report, TextFile, add_excerpt};
+use groklog_reports::{Fault, Report, TextFile, add_excerpt};
 use std::alloc::{AllocError, Global};
 use std::collections::BTreeMap;
 
 /// Where a stored definition was given.
 #[derive(Clone, Copy)]
-pub struct Source<'a> {
+pub struct DefinitionSource<'a> {
     pub name: &'a str,
     pub origin: Origin<'a>,
 }
 
-/// How many bytes a limit has for each group that it allows. The engine compares the name of each group with
-/// all others, so 4,000 of them take most of a second.
+/// A limit allows one group for each of this many bytes. The engine compares the name of each group with all
+/// others, so 4,000 of them take most of a second.
 const BYTES_FOR_A_GROUP: usize = 250;
 
 /// From how many bytes on a limit allows 4,000 groups.
@@ -78,7 +78,7 @@ pub struct Library<'a> {
     pub limit: Limit,
     /// Whether the common definitions are among them.
     pub has_common: bool,
-    sources: BTreeMap<&'a str, Source<'a>>,
+    sources: BTreeMap<&'a str, DefinitionSource<'a>>,
 }
 
 /// Returns the fault that reports that a line or a word isn't a definition.
@@ -155,7 +155,7 @@ impl<'a> Library<'a> {
         let mut sources = BTreeMap::new(alloc);
         for (name, _) in patterns() {
             let origin = Origin::Default;
-            let source = Source { name, origin };
+            let source = DefinitionSource { name, origin };
             sources.insert(*name, source)?;
         }
         Ok(Library {
@@ -184,13 +184,13 @@ impl<'a> Library<'a> {
         let mut library = Library::with_default_definitions(alloc, with_common, most_bytes)?;
         for definition in &collect(alloc, with_common, files, words)? {
             let Definition { name, text, origin } = *definition;
-            library.store(Source { name, origin }, text)?;
+            library.store(DefinitionSource { name, origin }, text)?;
         }
         Ok(library)
     }
 
     /// Stores a definition with this text. If an allocation fails, the definitions are as before.
-    pub fn store(&mut self, source: Source<'a>, text: &str) -> Result<(), AllocError>
+    pub fn store(&mut self, source: DefinitionSource<'a>, text: &str) -> Result<(), AllocError>
         ensures ok { OnOk result (self.new.grok ≡ finite.insert self.old.grok source.entry.name.now text.now) }
         ensures memory { OnErr result (self.new.grok ≡ self.old.grok) }
     {
@@ -199,11 +199,11 @@ impl<'a> Library<'a> {
     }
 
     /// Returns where the definition of a name was given, or `None` if the name has no definition.
-    pub fn source(&self, name: &str) -> Option<Source<'a>> {
+    pub fn source(&self, name: &str) -> Option<DefinitionSource<'a>> {
         self.sources.get(name).copied()
     }
     /// Returns where each of the user's definitions was given, in the byte order of their names.
-    pub fn own_sources(&self, alloc: Global) -> Result<Vec<Source<'a>>, AllocError> {
+    pub fn own_sources(&self, alloc: Global) -> Result<Vec<DefinitionSource<'a>>, AllocError> {
         let mut own = Vec::new(alloc);
         for source in self.sources.values() {
             if source.origin.is_own() {

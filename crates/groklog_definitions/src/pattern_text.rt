@@ -1,5 +1,5 @@
 //! The patterns of a run, as they are compiled, and the words by which reports refer to them.
-ghost use Rattle.std.specs.Prelude.{◌≡◌, IfOk, map, string_bytes};
+ghost use Rattle.std.specs.Prelude.{◌≡◌, IfOk, map, string_bytes, true};
 ghost use Rattle.groklog_definitions.specs.Texts.{ordinal_text, pattern_texts};
 
 use std::alloc::{AllocError, Global};
@@ -12,15 +12,8 @@ pub struct PatternText {
     /// The words by which reports refer to it: `the pattern`, or `the 2nd pattern` if there are
     /// several.
     pub words: String,
-}
-
-/// The patterns of a run.
-#[derive(Drop)]
-pub struct RunTexts {
-    /// The patterns that are searched for in each line or event.
-    pub patterns: Vec<PatternText>,
-    /// The pattern that is found in each line that begins an event, if events are answered.
-    pub start: Option<PatternText>,
+    /// Whether only placeholders with an alias capture.
+    pub with_alias_only: bool,
 }
 
 /// Returns an ordinal number in digits, such as `2nd`.
@@ -52,23 +45,33 @@ const START_WORDS: &str = "the pattern of --start";
 
 /// Returns the pattern of `--start`, which has this text.
 pub fn start_pattern(alloc: Global, text: &str) -> Result<PatternText, AllocError>
-    ensures { IfOk result (λ pattern. string_bytes pattern.text ≡ text.now) }
+    ensures text { IfOk result (λ pattern. string_bytes pattern.text ≡ text.now) }
+    ensures mode { IfOk result (λ pattern. pattern.with_alias_only ≡ true) }
 {
     Ok(PatternText {
         text: String::from_str(alloc, text)?,
         words: String::from_str(alloc, START_WORDS)?,
+        with_alias_only: true,
     })
 }
 
-/// Returns the patterns with these texts.
-pub fn patterns_of(alloc: Global, texts: &[&str]) -> Result<Vec<PatternText>, AllocError>
-    ensures { IfOk result (λ patterns. pattern_texts patterns.items ≡ map (λ text. text.now) texts.now) }
+/// Returns the patterns with these texts, in this mode.
+pub fn patterns_of(
+    alloc: Global,
+    texts: &[&str],
+    with_alias_only: bool,
+) -> Result<Vec<PatternText>, AllocError>
+    ensures { IfOk result (λ patterns. pattern_texts patterns.items ≡ map (λ text. (text.now, with_alias_only)) texts.now) }
 {
     let mut patterns = Vec::new(alloc);
     'texts: for (index, text) in texts.iter().enumerate() {
         let words = words_for(alloc, index.saturating_add(1), texts.len())?;
         let text = String::from_str(alloc, text)?;
-        patterns.push(PatternText { text, words })?;
+        patterns.push(PatternText {
+            text,
+            words,
+            with_alias_only,
+        })?;
     }
     Ok(patterns)
 }

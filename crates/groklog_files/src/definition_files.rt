@@ -1,7 +1,7 @@
 //! Reads the files and folders of definitions that are named after `-d`.
 
 use crate::read_files::is_link;
-use groklog_input::{Failure, Fault, Report, TextFile, file_fault};
+use groklog_reports::{Fault, FileFailure, Report, TextFile, file_fault};
 use std::alloc::{AllocError, Global};
 use std::fs::{self, Metadata};
 use std::io::{self, ErrorKind};
@@ -11,7 +11,7 @@ use std::rt::Files;
 fn or_file_fault<T>(alloc: Global, name: &str, outcome: io::Result<T>) -> Result<T, Fault> {
     match outcome {
         Ok(value) => Ok(value),
-        Err(error) => Err(file_fault(alloc, name, Failure::of(&error))?),
+        Err(error) => Err(file_fault(alloc, name, FileFailure::of(&error))?),
     }
 }
 

@@ -1,7 +1,7 @@
 //! The files that a run reads, and those that its output goes to. It never writes over them.
 
 use crate::standard_input::{INPUT, STANDARD_INPUT, shown_name};
-use groklog_input::{Failure, Fault, Report, TextFile, file_fault};
+use groklog_reports::{Fault, FileFailure, Report, TextFile, file_fault};
 use std::alloc::{AllocError, Global};
 use std::fs::{self, File, Metadata};
 use std::io::{self, ErrorKind};
@@ -112,7 +112,7 @@ pub fn check_logs(rt: &(impl Files + AllocGlobal), logs: &[&str]) -> Result<(), 
         if *name != "-"
             && let Err(error) = try_open(rt, name)
         {
-            return Err(file_fault(rt.alloc(), name, Failure::of(&error))?);
+            return Err(file_fault(rt.alloc(), name, FileFailure::of(&error))?);
         }
     }
     Ok(())

@@ -2,7 +2,7 @@
 //! takes its place, so that whatever fails, even the system, the old file is as it was.
 
 use crate::read_files::{ReadFiles, folder_and_name, is_link, is_open_file};
-use groklog_input::{Failure, Fault, Report};
+use groklog_reports::{Fault, FileFailure, Report};
 use std::alloc::{AllocError, Global};
 use std::fs::{self, File, Metadata, OpenOptions};
 use std::io::{self, ErrorKind, Write};
@@ -13,7 +13,7 @@ use std::rt::Files;
 /// wrote are taken.
 const MOST_TEMPORARIES: u32 = 1000;
 
-/// The advice for a file that has no room.
+/// The advice if the disk has no room for a file.
 const MORE_SPACE: &str = "free some space, or write to another disk";
 
 /// A file that an option asks for.
@@ -23,7 +23,7 @@ pub struct WholeFile<'a> {
     pub option: &'static str,
     /// The name of the file, as the user wrote it. `-` means standard output.
     pub name: &'a str,
-    /// The files that the run uses, which it must not be one of.
+    /// The files that the run uses. None of them may be written over.
     pub read: &'a ReadFiles,
 }
 
@@ -246,7 +246,7 @@ impl WholeFile<'_> {
 
     /// Returns the fault that reports this error of the system, or `Ok` if the reader of the file closed the pipe.
     fn outcome_of_error(&self, alloc: Global, error: &io::Error) -> Result<(), Fault> {
-        let failure = Failure::of(error);
+        let failure = FileFailure::of(error);
         match failure.kind {
             ErrorKind::BrokenPipe => Ok(()),
             // own error: the system reported that an allocation failed.

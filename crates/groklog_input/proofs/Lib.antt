@@ -1,2 +1,1 @@
-pub mod ShownTextHasNoRawCharacter
 mod LinesAreFormed

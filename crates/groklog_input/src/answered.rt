@@ -2,14 +2,14 @@
 ghost use Rattle.std.specs.Prelude.{◌≡◌, IfOk, IfErr};
 ghost use Rattle.grok_lines.specs.Streams.{HasAnsweredInputAnd, HasAnsweredEndedAnd};
 ghost use Rattle.grok_lines.specs.Traffic.{traffic};
-ghost use Rattle.groklog_input.specs.Faults.{IsReadFault, IsDeviceFault, IsFaultOfFile, IsFaultOfWrite, IsFaultOfLines};
+ghost use Rattle.groklog_input.specs.InputFaults.{IsFaultOfLines};
+ghost use Rattle.groklog_reports.specs.Faults.{IsReadFault, IsDeviceFault};
 
-use crate::failure::Failure;
-use crate::fault::{Fault, Report};
 use crate::watched::Watched;
 use grok_lines::{LineHandler, LinesError, handle_lines};
+use groklog_reports::{Fault, FileFailure, file_fault, write_fault};
 use std::alloc::{AllocError, Global};
-use std::io::{self, ErrorKind, Read, Write};
+use std::io::{ErrorKind, Read, Write};
 
 /// How answering an input ended, if nothing failed.
 #[derive(Clone, Copy, PartialEq, Eq)]
@@ -20,64 +20,11 @@ pub enum Answered {
     Enough,
 }
 
-fn advice_for_unreadable(kind: ErrorKind) -> &'static str {
-    match kind {
-        ErrorKind::IsADirectory => "name the files in it",
-        ErrorKind::PermissionDenied => "check with ls -l who may read it",
-        _ => "check whether cat can read it",
-    }
-}
-
-/// Returns the fault that reports that a file can't be opened or read.
-pub fn file_fault(alloc: Global, file: &str, failure: Failure) -> Result<Fault, AllocError>
-    ensures { IfOk result (IsFaultOfFile failure.kind) }
-{
-    let (what, advice) = match failure.kind {
-        // own error: the file could not be read because an allocation failed.
-        ErrorKind::OutOfMemory => return Ok(Fault::Memory),
-        ErrorKind::NotFound => (
-            format!(in alloc; "there is no file {file}")?,
-            "check its name, and the folder that you are in",
-        ),
-        ErrorKind::InvalidData => (format!(in alloc; "{file} isn't UTF-8")?, "save it as UTF-8"),
-        kind => (
-            format!(in alloc; "can't read {file}: {failure}")?,
-            advice_for_unreadable(kind),
-        ),
-    };
-    // own error: opening or reading the file failed, and no allocation did.
-    Ok(Fault::Read(Report::new(alloc, what.as_str(), advice)?))
-}
-
-/// Returns the fault that reports that the output can't be written, or `None` if its reader closed
-/// the pipe.
-pub fn write_fault(alloc: Global, error: &io::Error) -> Result<Option<Fault>, AllocError>
-    ensures { IfOk result (IsFaultOfWrite error.now) }
-{
-    if error.kind() == ErrorKind::BrokenPipe {
-        return Ok(None);
-    }
-    let failure = Failure::of(error);
-    // The error may have words of its own, but not if the system's number alone says what it is.
-    let what = match failure.kind {
-        ErrorKind::Uncategorized => format!(in alloc; "can't write the answers: {failure}")?,
-        _ => format!(in alloc; "can't write the answers: {error}")?,
-    };
-    let advice = match failure.kind {
-        ErrorKind::StorageFull | ErrorKind::QuotaExceeded => {
-            "free some space, or write to another disk"
-        }
-        _ => "check where standard output goes",
-    };
-    // own error: the writer reported an error, and its reader didn't close the pipe.
-    Ok(Some(Fault::Write(Report::new(alloc, what.as_str(), advice)?)))
-}
-
 /// Returns `None` if the reader of the answers closed the pipe. If reading failed, `failure` says why.
 fn lines_fault(
     alloc: Global,
     name: &str,
-    failure: Option<Failure>,
+    failure: Option<FileFailure>,
     error: &LinesError,
 ) -> Result<Option<Fault>, AllocError>
     ensures { IfOk result (IsFaultOfLines failure error.now) }
@@ -86,7 +33,7 @@ fn lines_fault(
         // own error: `grok_lines` reported that an allocation failed.
         LinesError::Memory => Ok(Some(Fault::Memory)),
         LinesError::Read => {
-            let failure = failure.unwrap_or(Failure {
+            let failure = failure.unwrap_or(FileFailure {
                 // own error: reading ended without a reason, which no run does.
                 kind: ErrorKind::Other,
                 number: None,

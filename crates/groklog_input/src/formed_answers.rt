@@ -23,7 +23,6 @@ pub struct FormedAnswers<A> {
 /// The signs of an input before its first line was read.
 const NO_SIGNS: Signs = Signs {
     encoding: Encoding::Other,
-    has_return: false,
     first_broken: None,
 };
 

@@ -1,8 +1,7 @@
 //! Reads a line as the options say: without a byte order mark and a carriage return at its ends,
 //! and with U+FFFD for what isn't UTF-8.
-ghost use Rattle.std.specs.Prelude.{◌≡◌, ◌==◌, None};
-ghost use Rattle.std.specs.List.{ends_with};
-ghost use Rattle.groklog_input.specs.LineForms.{without_prefix, without_suffix, carriage_return, trimmed, encoding_of};
+ghost use Rattle.std.specs.Prelude.{◌≡◌, None};
+ghost use Rattle.groklog_input.specs.LineForms.{without_prefix, without_suffix, trimmed, encoding_of};
 
 /// The byte order mark, with which some programs begin a file in UTF-8.
 const MARK: &str = "\u{feff}";
@@ -37,8 +36,6 @@ pub enum Encoding {
 pub struct Signs {
     /// The kind of the input.
     pub encoding: Encoding,
-    /// Whether its first line ends in a carriage return.
-    pub has_return: bool,
     /// The number of the first line that isn't UTF-8, counted from 1, or `None` if there is none.
     pub first_broken: Option<u64>,
 }
@@ -117,12 +114,10 @@ impl Signs {
     /// Returns the signs of an input after its first line.
     pub fn of_first_line(line: &[u8]) -> Signs
         ensures encoding { result.encoding ≡ encoding_of line.now }
-        ensures has_return { result.has_return ≡ ends_with ◌==◌ line.now carriage_return }
         ensures broken { result.first_broken ≡ None }
     {
         Signs {
             encoding: encoding_of(line),
-            has_return: line.ends_with(RETURN.as_bytes()),
             first_broken: None,
         }
     }

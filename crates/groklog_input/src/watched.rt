@@ -3,9 +3,9 @@
 ghost use Rattle.std.specs.Prelude.{◌≡◌, OnOk, IfErr};
 ghost use Rattle.std.specs.Io.{ReadsAtMost};
 ghost use Rattle.std.specs.Io.KnownBytes.{ReadConsumes};
-ghost use Rattle.groklog_input.specs.Faults.{failure_of};
+ghost use Rattle.groklog_reports.specs.Faults.{failure_of};
 
-use crate::failure::Failure;
+use groklog_reports::FileFailure;
 use std::io::{self, Read};
 use std::time::{Duration, Instant};
 
@@ -31,7 +31,7 @@ pub struct Watched<'a, R> {
     pub input: R,
     progress: Option<Progress<'a>>,
     /// The reason for which the last failed read failed.
-    pub failure: Option<Failure>,
+    pub failure: Option<FileFailure>,
 }
 
 impl<'a> Progress<'a> {
@@ -104,7 +104,7 @@ impl<'a, R> Watched<'a, R> {
     }
 
     /// Clears the line of progress, and returns why the last read failed, if it did.
-    pub fn finish(&self) -> Option<Failure>
+    pub fn finish(&self) -> Option<FileFailure>
         ensures { result ≡ self.now.failure }
     {
         if let Some(progress) = &self.progress {
@@ -132,7 +132,7 @@ impl<'a, R: Read> Read for Watched<'a, R> {
                 Ok(count)
             }
             Err(error) => {
-                self.failure = Some(Failure::of(&error));
+                self.failure = Some(FileFailure::of(&error));
                 Err(error)
             }
         }

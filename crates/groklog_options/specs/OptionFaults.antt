@@ -1,6 +1,6 @@
 -- The faults of options.
-use Rattle.groklog_input.specs.declared.fault.Fault.{Fault}
-use Rattle.groklog_input.specs.declared.fault.Fault.TheVariants.{Pattern, Usage, Memory, Read, Write}
+use Rattle.groklog_reports.specs.declared.fault.Fault.{Fault}
+use Rattle.groklog_reports.specs.declared.fault.Fault.TheVariants.{Pattern, Usage, Memory, Read, Write}
 
 -- The `Fault` is one of the options, or an allocation failed.
 abbrev pub IsOptionFault : Fault → Type 0

@@ -21,9 +21,12 @@ const EXAMPLES: &str =
     Standard input is read if no file is named, and for the file -.\n\
     The names that users of Logstash know are defined, and --list shows their definitions.\n\n\
     Examples:\n  \
-    groklog '%{USERNAME:user} logged in' auth.log\n  \
+    groklog --suggest access.log\n  \
+    groklog --why '%{COMMONAPACHELOG}' access.log\n  \
+    groklog --html page.html '%{COMMONAPACHELOG}' access.log\n  \
+    groklog --count response '%{COMMONAPACHELOG}' access.log\n  \
     groklog --typed '%{COMMONAPACHELOG}' access.log | jq .response\n  \
-    groklog --typed -D 'NUM=\\d+' '%{NUM:n:int}' counts.log\n\n\
+    groklog -D 'NUM=\\d+' '%{USERNAME:user} took %{NUM:n}' auth.log\n\n\
     Exit status: 0, 1 for a fault of a pattern or a definition, 2 for wrong options, 3 if memory, reading or writing fails,\n\
     4 with --exit-status if nothing is found.";
 
@@ -34,14 +37,19 @@ enum Takes {
     /// already.
     Nothing,
     Value(&'static str),
+    /// The key under which something is written.
+    Key,
+    /// Keys of patterns, with commas between them.
+    Keys,
     ValueOrNothing(&'static str),
     /// A value that may begin with `-`, as a pattern may.
     Pattern(&'static str),
     /// A value that may begin with `-`, as that of `Pattern`. The option may be given several times, each time
     /// with one. It may also have a name of one letter.
     Patterns(Option<char>, &'static str),
+    /// A whole number above 0.
     Number,
-    /// A whole number after `=`, or this one if there is none.
+    /// Such a number after `=`, or this one if there is none.
     NumberOr(&'static str),
     /// One of these words. Without the option it is the word `auto`.
     WordOrAuto(&'static str, &'static [&'static str]),
@@ -184,266 +192,139 @@ impl CommandOption {
         are_opposite
             || !ALL.iter().any(|task| self.effect.is_on(*task) && other.effect.is_on(*task))
     }
+
+    /// Returns `Err` if its value is the number 0, or has an empty key.
+    fn check_value(&self, matches: &ArgMatches<'_>) -> Result<(), WordsError> {
+        let name = self.name;
+        let text = matches.get_str(name);
+        match self.takes {
+            Takes::Number | Takes::NumberOr(_) if matches.get_one(name) == Some(0_u64) => {
+                Err(WordsError::Zero { name })
+            }
+            Takes::Key if text == Some("") => Err(WordsError::EmptyKey { name }),
+            Takes::Keys if text.is_some_and(has_empty_key) => Err(WordsError::EmptyKey { name }),
+            _ => Ok(()),
+        }
+    }
 }
 
-const SOURCES: &[CommandOption] = &[
-    CommandOption {
-        name: "pattern",
-        takes: Takes::Patterns(Some('e'), "PATTERN"),
-        help: "A pattern; the first of several that matches a line gives the answer",
-        effect: PATTERNS,
-    },
-    CommandOption {
-        name: "named",
-        takes: Takes::Patterns(None, "NAME=PATTERN"),
-        help: "A pattern with a name, which --tag and --summary write in place of its text",
-        effect: PATTERNS,
-    },
-    CommandOption {
-        name: "definitions",
-        takes: Takes::Patterns(Some('d'), "FILE"),
-        help: "Definitions: lines NAME=DEF, or NAME DEF as Logstash has them; also a folder of such files",
-        effect: DEFINITIONS,
-    },
-    CommandOption {
-        name: "define",
-        takes: Takes::Patterns(Some('D'), "NAME=DEF"),
-        help: "A definition; it replaces one of a file",
-        effect: DEFINITIONS,
-    },
-    CommandOption {
-        name: "no-common",
-        takes: Takes::Nothing,
-        help: "Leave out the common definitions, which --list shows",
-        effect: DEFINITIONS,
-    },
-    CommandOption {
-        name: "max-expansion",
-        takes: Takes::Number,
-        help: "At most N bytes of regular expression for a pattern with its definitions [default: 40000]",
-        effect: DEFINITIONS,
-    },
-    CommandOption {
-        name: "list",
-        takes: Takes::ValueOrNothing("TEXT"),
-        help: "Write the common definitions, or those whose name has this text, and read no lines",
-        effect: Effect::On(&[TaskKind::List]),
-    },
-    CommandOption {
-        name: "from-logstash",
-        takes: Takes::Nothing,
-        help: "Rewrite what the engine doesn't know in definitions made for Logstash, and report each change",
-        effect: DEFINITIONS,
-    },
-    CommandOption {
-        name: "loose",
-        takes: Takes::Nothing,
-        help: "With --from-logstash, drop each lookaround that can't be rewritten, and report it",
-        effect: Effect::With(&["from-logstash"]),
-    },
-    CommandOption {
-        name: "write-definitions",
-        takes: Takes::Value("FILE"),
-        help: "Also write the definitions of -d and -D to this file, rewritten by --from-logstash",
-        effect: DEFINITIONS,
-    },
-];
+/// Returns whether one of the keys between commas is empty.
+fn has_empty_key(keys: &str) -> bool {
+    keys.split(',').any(|key| key.is_empty())
+}
 
-const READING: &[CommandOption] = &[
-    CommandOption {
-        name: "crlf",
-        takes: Takes::Nothing,
-        help: "Take one carriage return off the end of each line",
-        effect: LINES,
-    },
-    CommandOption {
-        name: "lossy",
-        takes: Takes::Nothing,
-        help: "Read bytes that aren't UTF-8 as U+FFFD, so that their line can match",
-        effect: LINES,
-    },
-    CommandOption {
-        name: "start",
-        takes: Takes::Pattern("PATTERN"),
-        help: "Answer events of several lines, which begin at each line in which this pattern is found",
-        effect: EVENTS,
-    },
-    CommandOption {
-        name: "max-lines",
-        takes: Takes::Number,
-        help: "At most N lines in an event of --start; 1000 without this option",
-        effect: Effect::With(&["start"]),
-    },
-];
+/// Makes options of rows: the name of an option, what it takes, on which tasks it has an effect, and its help.
+macro_rules! options {
+    ($($name:literal, $takes:expr, $effect:expr => $help:literal;)*) => {
+        &[$(CommandOption {
+            name: $name,
+            takes: $takes,
+            help: $help,
+            effect: $effect,
+        }),*]
+    };
+}
 
-const WRITING: &[CommandOption] = &[
-    CommandOption {
-        name: "all",
-        takes: Takes::Nothing,
-        help: "Also write placeholders without an alias, under their name",
-        effect: PATTERNS,
-    },
-    CommandOption {
-        name: "matched",
-        takes: Takes::Nothing,
-        help: "Only lines that match",
-        effect: WRITTEN_LINES,
-    },
-    CommandOption {
-        name: "unmatched",
-        takes: Takes::Nothing,
-        help: "Only lines that don't match",
-        effect: WRITTEN_LINES,
-    },
-    CommandOption {
-        name: "typed",
-        takes: Takes::Nothing,
-        help: "Write values with the extract int or float as numbers",
-        effect: OBJECTS,
-    },
-    CommandOption {
-        name: "no-empty",
-        takes: Takes::Nothing,
-        help: "Leave out fields whose value is empty",
-        effect: Effect::On(&[TaskKind::Objects, TaskKind::PlannedObjects, TaskKind::Pairs]),
-    },
-    CommandOption {
-        name: "nested",
-        takes: Takes::Nothing,
-        help: "Write keys such as [a][b] as nested objects",
-        effect: PLANNED,
-    },
-    CommandOption {
-        name: "merge",
-        takes: Takes::Nothing,
-        help: "Let placeholders with one key share it; several values are a list",
-        effect: PLANNED,
-    },
-    CommandOption {
-        name: "logstash",
-        takes: Takes::Nothing,
-        help: "Write what Logstash would: --nested --merge --typed --no-empty, and a tag in lines that don't match",
-        effect: PLANNED,
-    },
-    CommandOption {
-        name: "pairs",
-        takes: Takes::Nothing,
-        help: "Write lines KEY=VALUE in place of JSON",
-        effect: Effect::On(&[TaskKind::Pairs]),
-    },
-    CommandOption {
-        name: "csv",
-        takes: Takes::Nothing,
-        help: "Write comma-separated values with a header in place of JSON",
-        effect: Effect::On(&[TaskKind::Records, TaskKind::Counts]),
-    },
-    CommandOption {
-        name: "fields",
-        takes: Takes::Value("KEYS"),
-        help: "Only write these keys, as a,b,c; --csv and --pairs write them in this order",
-        effect: FIELDS,
-    },
-    CommandOption {
-        name: "count",
-        takes: Takes::Value("KEYS"),
-        help: "Count the values of this key, or of several as a,b together, in place of answers",
-        effect: Effect::On(&[TaskKind::Counts]),
-    },
-    CommandOption {
-        name: "max",
-        takes: Takes::Number,
-        help: "At most N: different values for --count [default: 100000], lines for --html [default: 1000]",
-        effect: Effect::With(&["count", "html"]),
-    },
-    CommandOption {
-        name: "summary",
-        takes: Takes::Nothing,
-        help: "At the end, also report how many lines matched, on standard error",
-        effect: SEARCHES,
-    },
-    CommandOption {
-        name: "exit-status",
-        takes: Takes::Nothing,
-        help: "End with status 4 if no line matches, or --suggest finds no pattern",
-        effect: LINES,
-    },
-    CommandOption {
-        name: "keep",
-        takes: Takes::Value("KEY"),
-        help: "Also write the line itself, under this key",
-        effect: ANSWERS,
-    },
-    CommandOption {
-        name: "tag",
-        takes: Takes::Value("KEY"),
-        help: "Also write the pattern that matched, under this key",
-        effect: ANSWERS,
-    },
-    CommandOption {
-        name: "number",
-        takes: Takes::Value("KEY"),
-        help: "Also write the number of the line, under this key",
-        effect: ANSWERS,
-    },
-    CommandOption {
-        name: "file",
-        takes: Takes::Value("KEY"),
-        help: "Also write the name of the line's file, under this key",
-        effect: ANSWERS,
-    },
-    CommandOption {
-        name: "failed",
-        takes: Takes::Value("KEY"),
-        help: "Also write why a line has no fields, under this key",
-        effect: ANSWERS,
-    },
-    CommandOption {
-        name: "show",
-        takes: Takes::Nothing,
-        help: "Show each line with its fields in colours, or with letters under them, in place of answers",
-        effect: Effect::On(&[TaskKind::Shown]),
-    },
-    CommandOption {
-        name: "color",
-        takes: Takes::WordOrAuto("WHEN", &["auto", "always", "never"]),
-        help: "When --show uses colours; auto is on a terminal, unless NO_COLOR is set",
-        effect: Effect::With(&["show"]),
-    },
-    CommandOption {
-        name: "html",
-        takes: Takes::Value("FILE"),
-        help: "Write a page about the first lines to this file, in place of answers",
-        effect: Effect::On(&[TaskKind::Page]),
-    },
-];
+const WORKING: &[CommandOption] = options! {
+    "suggest", Takes::NumberOr("1000"), Effect::On(&[TaskKind::Suggestions]) =>
+        "Suggest patterns for the first N lines, in place of answers; all words are files";
+    "why", Takes::NumberOr("3"), Effect::On(&[TaskKind::Reasons]) =>
+        "Show where the pattern stops in the first N lines that don't match, in place of answers";
+    "explain", Takes::Nothing, Effect::On(&[TaskKind::Explanation]) =>
+        "Explain the pattern, or its first fault, and read no lines";
+};
 
-const WORKING: &[CommandOption] = &[
-    CommandOption {
-        name: "explain",
-        takes: Takes::Nothing,
-        help: "Explain the pattern, or its first fault, and read no lines",
-        effect: Effect::On(&[TaskKind::Explanation]),
-    },
-    CommandOption {
-        name: "why",
-        takes: Takes::NumberOr("3"),
-        help: "Show where the pattern stops in the first N lines that don't match, in place of answers",
-        effect: Effect::On(&[TaskKind::Reasons]),
-    },
-    CommandOption {
-        name: "suggest",
-        takes: Takes::NumberOr("1000"),
-        help: "Suggest patterns for the first N lines, in place of answers; all words are files",
-        effect: Effect::On(&[TaskKind::Suggestions]),
-    },
-];
+const SOURCES: &[CommandOption] = options! {
+    "pattern", Takes::Patterns(Some('e'), "PATTERN"), PATTERNS =>
+        "A pattern; the first of several that matches a line gives the answer";
+    "named", Takes::Patterns(None, "NAME=PATTERN"), PATTERNS =>
+        "A pattern with a name, which --tag and --summary write in place of its text";
+    "definitions", Takes::Patterns(Some('d'), "FILE"), DEFINITIONS =>
+        "Definitions: lines NAME=DEF, or NAME DEF as Logstash has them; also a folder of such files";
+    "define", Takes::Patterns(Some('D'), "NAME=DEF"), DEFINITIONS =>
+        "A definition; it replaces one of a file";
+    "no-common", Takes::Nothing, DEFINITIONS =>
+        "Leave out the common definitions, which --list shows";
+    "max-expansion", Takes::Number, DEFINITIONS =>
+        "At most N bytes of regular expression for a pattern with its definitions [default: 40000]";
+    "list", Takes::ValueOrNothing("TEXT"), Effect::On(&[TaskKind::List]) =>
+        "Write the common definitions, or those whose name has this text, and read no lines";
+    "from-logstash", Takes::Nothing, DEFINITIONS =>
+        "Rewrite what the engine doesn't know in definitions made for Logstash, and report each change";
+    "loose", Takes::Nothing, Effect::With(&["from-logstash"]) =>
+        "With --from-logstash, drop each lookaround that can't be rewritten, and report it";
+    "write-definitions", Takes::Value("FILE"), DEFINITIONS =>
+        "Also write the definitions of -d and -D to this file, rewritten by --from-logstash";
+};
+
+const READING: &[CommandOption] = options! {
+    "crlf", Takes::Nothing, LINES =>
+        "Take one carriage return off the end of each line";
+    "lossy", Takes::Nothing, LINES =>
+        "Read bytes that aren't UTF-8 as U+FFFD, so that their line can match";
+    "start", Takes::Pattern("PATTERN"), EVENTS =>
+        "Answer events of several lines, which begin at each line in which this pattern is found";
+    "max-lines", Takes::Number, Effect::With(&["start"]) =>
+        "At most N lines in an event of --start; 1000 without this option";
+};
+
+const WRITING: &[CommandOption] = options! {
+    "all", Takes::Nothing, PATTERNS =>
+        "Also write placeholders without an alias, under their name";
+    "matched", Takes::Nothing, WRITTEN_LINES =>
+        "Only lines that match";
+    "unmatched", Takes::Nothing, WRITTEN_LINES =>
+        "Only lines that don't match";
+    "typed", Takes::Nothing, OBJECTS =>
+        "Write values with the extract int or float as numbers";
+    "no-empty", Takes::Nothing, Effect::On(&[TaskKind::Objects, TaskKind::PlannedObjects, TaskKind::Pairs]) =>
+        "Leave out fields whose value is empty";
+    "nested", Takes::Nothing, PLANNED =>
+        "Write keys such as [a][b] as nested objects";
+    "merge", Takes::Nothing, PLANNED =>
+        "Let placeholders with one key share it; several values are a list";
+    "logstash", Takes::Nothing, PLANNED =>
+        "Write what Logstash would: --nested --merge --typed --no-empty, and a tag in lines that don't match";
+    "pairs", Takes::Nothing, Effect::On(&[TaskKind::Pairs]) =>
+        "Write lines KEY=VALUE in place of JSON";
+    "csv", Takes::Nothing, Effect::On(&[TaskKind::Records, TaskKind::Counts]) =>
+        "Write comma-separated values with a header in place of JSON";
+    "fields", Takes::Keys, FIELDS =>
+        "Only write these keys, as a,b,c; --csv and --pairs write them in this order";
+    "count", Takes::Keys, Effect::On(&[TaskKind::Counts]) =>
+        "Count the values of this key, or of several as a,b together, in place of answers";
+    "top", Takes::Number, Effect::With(&["count"]) =>
+        "Only the N values of --count that come most often";
+    "summary", Takes::Nothing, SEARCHES =>
+        "At the end, also report how many lines matched, on standard error";
+    "exit-status", Takes::Nothing, LINES =>
+        "End with status 4 if no line matches, or --suggest finds no pattern";
+    "keep", Takes::Key, ANSWERS =>
+        "Also write the line itself, under this key";
+    "tag", Takes::Key, ANSWERS =>
+        "Also write the pattern that matched, under this key";
+    "number", Takes::Key, ANSWERS =>
+        "Also write the number of the line, under this key";
+    "file", Takes::Key, ANSWERS =>
+        "Also write the name of the line's file, under this key";
+    "failed", Takes::Key, ANSWERS =>
+        "Also write why a line has no fields, under this key";
+    "show", Takes::Nothing, Effect::On(&[TaskKind::Shown]) =>
+        "Show each line with its fields in colours, or with letters under them, in place of answers";
+    "color", Takes::WordOrAuto("WHEN", &["auto", "always", "never"]), Effect::With(&["show"]) =>
+        "When --show uses colours; auto is on a terminal, unless NO_COLOR is set";
+    "html", Takes::Value("FILE"), Effect::On(&[TaskKind::Page]) =>
+        "Write a page about the first lines to this file, in place of answers";
+    "max", Takes::Number, Effect::With(&["html"]) =>
+        "At most N lines for --html [default: 1000]";
+};
 
 /// The headings of the help, with the options below each.
 const HEADINGS: [(&str, &[CommandOption]); 4] = [
+    ("Working on a pattern", WORKING),
     ("Patterns and definitions", SOURCES),
     ("How lines are read", READING),
     ("What is written", WRITING),
-    ("Working on a pattern", WORKING),
 ];
 
 fn with_value<'a>(arg: Arg<'a>, value: &'a str) -> Arg<'a> {
@@ -470,6 +351,8 @@ impl Takes {
         match self {
             Takes::Nothing => arg.action(ArgAction::SetTrue),
             Takes::Value(value) => with_value(arg, value),
+            Takes::Key => with_value(arg, "KEY"),
+            Takes::Keys => with_value(arg, "KEYS"),
             Takes::ValueOrNothing(value) => with_value(arg, value).num_args(0..=1),
             Takes::Pattern(value) => with_value(arg, value).allow_hyphen_values(true),
             Takes::Patterns(short, value) => with_values(arg, short, value),
@@ -551,6 +434,16 @@ pub fn check_partners(matches: &ArgMatches<'_>) -> Result<(), WordsError> {
                 let name = option.name;
                 return Err(WordsError::NoPartner { name, partners });
             }
+        }
+    }
+    Ok(())
+}
+
+/// Returns `Err` if a value that clap takes is none for its option: the number 0, or an empty key.
+pub fn check_values(matches: &ArgMatches<'_>) -> Result<(), WordsError> {
+    for (_, options) in HEADINGS {
+        for option in options {
+            option.check_value(matches)?;
         }
     }
     Ok(())

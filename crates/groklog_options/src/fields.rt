@@ -1,18 +1,21 @@
 //! The keys of patterns that are written: those of `--fields`, or in records all of them.
-ghost use Rattle.std.specs.Prelude.{◌≡◌, IfErr, IfOk, List, ℕ, None, Some, false, option_map};
+ghost use Rattle.std.specs.Prelude.{◌≡◌, IfErr, IfOk, List, ℕ, None, Some, false, option_map, true};
+ghost use Rattle.groklog_options.specs.AllKeys.{all_keys, texts_of};
 ghost use Rattle.groklog_options.specs.OptionFaults.{IsOptionFault};
 ghost use Rattle.groklog_options.specs.Tasks.{fields_of, has_records};
 ghost use denote.Ref.{Bor};
 
 use crate::keys::{check_list, key_set};
 use crate::task::Task;
-use grok::Pattern;
-use groklog_input::{Fault, Report};
+use groklog_answers::NamedPattern;
+use groklog_reports::{Fault, Report};
 use std::alloc::{AllocError, Global};
 
-fn all_keys<'p>(alloc: Global, patterns: &'p [Pattern]) -> Result<Vec<&'p str>, AllocError> {
+fn all_keys<'p>(alloc: Global, patterns: &[NamedPattern<'p>]) -> Result<Vec<&'p str>, AllocError>
+    ensures { IfOk result (λ keys. texts_of keys.items ≡ all_keys patterns.now) }
+{
     let mut all = Vec::new(alloc);
-    for key in key_set(alloc, patterns)?.keys() {
+    'keys: for key in &key_set(alloc, patterns)? {
         all.push(*key)?;
     }
     Ok(all)
@@ -27,12 +30,14 @@ fn all_keys<'p>(alloc: Global, patterns: &'p [Pattern]) -> Result<Vec<&'p str>, 
 pub fn chosen_fields<'p>(
     alloc: Global,
     task: &Task<'p>,
-    patterns: &'p [Pattern],
+    patterns: &[NamedPattern<'p>],
 ) -> Result<Option<Vec<&'p str>>, Fault>
     ensures fault { IfErr result IsOptionFault }
     ensures named { IfOk result (λ chosen. (keys : List (Bor (List ℕ))) → fields_of task.now ≡ Some keys
         → option_map (λ names. names.items) chosen ≡ Some keys) }
     ensures all { IfOk result (λ chosen. fields_of task.now ≡ None → has_records task.now ≡ false → chosen ≡ None) }
+    ensures columns { IfOk result (λ chosen. fields_of task.now ≡ None → has_records task.now ≡ true
+        → option_map (λ names. texts_of names.items) chosen ≡ Some (all_keys patterns.now)) }
 {
     if let Some(fields) = task.fields() {
         check_list(alloc, patterns, "--fields", fields)?;

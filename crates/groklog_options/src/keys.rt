@@ -1,14 +1,16 @@
 //! Checks the keys that options such as `--tag` and `--count` name.
-ghost use Rattle.std.specs.Prelude.{IfOk, IfErr};
+ghost use Rattle.std.specs.Prelude.{◌≡◌, IfOk, IfErr, OnOk, false};
+ghost use Rattle.groklog_options.specs.AllKeys.{all_keys, own_keys, set_texts, with_key, with_keys};
+ghost use Rattle.groklog_options.specs.Keys.{added_by_task, has_key, has_taken_key, some_has_key};
 ghost use Rattle.groklog_options.specs.OptionFaults.{IsOptionFault};
 
 use crate::additions::option_of;
+use crate::nearest::nearest;
 use crate::task::{AnswerOptions, Task};
-use grok::Pattern;
-use groklog_answers::{Added, Plan};
-use groklog_input::{Fault, Report};
+use groklog_answers::{Added, NamedPattern};
+use groklog_reports::{Fault, Report};
 use std::alloc::{AllocError, Global};
-use std::collections::BTreeMap;
+use std::collections::BTreeSet;
 
 /// Returns the option that adds something under this key, or `None` if none of these does.
 fn option_of_key(added: &[Added<'_>], key: &str) -> Option<&'static str> {
@@ -20,23 +22,19 @@ fn option_of_key(added: &[Added<'_>], key: &str) -> Option<&'static str> {
     None
 }
 
-/// Returns the fault that reports that two options name the same key.
-fn repeated_key(alloc: Global, first: &str, second: &str, key: &str) -> Result<Fault, AllocError>
+/// Returns the fault that reports what is wrong with a key of an option.
+fn key_fault(alloc: Global, what: String, advice: &str) -> Result<Fault, AllocError>
     ensures { IfOk result IsOptionFault }
 {
-    let what = format!(in alloc; "--{first} and --{second} have the same key {key}")?;
-    let advice = "name another key after one of them";
     Ok(Fault::Usage(Report::new(alloc, what.as_str(), advice)?))
 }
 
-/// Returns the fault that reports that an option names the key of Logstash's tags.
-fn key_of_tags(alloc: Global, option: &str) -> Result<Fault, AllocError>
+/// Returns the fault that reports that something else has the key that an option names.
+fn taken_key(alloc: Global, what: String, option: &str) -> Result<Fault, AllocError>
     ensures { IfOk result IsOptionFault }
 {
-    let what = format!(in alloc; "--logstash and --{option} have the same key tags")?;
     let advice = format!(in alloc; "name another key after --{option}")?;
-    let report = Report::new(alloc, what.as_str(), advice.as_str())?;
-    Ok(Fault::Usage(report))
+    key_fault(alloc, what, advice.as_str())
 }
 
 /// Checks that no two options name the same key.
@@ -47,71 +45,117 @@ fn check_repeated(alloc: Global, answers: &AnswerOptions<'_>) -> Result<(), Faul
     if answers.tags_failures
         && let Some(option) = option_of_key(added, "tags")
     {
-        return Err(key_of_tags(alloc, option)?);
+        let what = format!(in alloc; "--logstash and --{option} have the same key tags")?;
+        return Err(taken_key(alloc, what, option)?);
     }
     for (i, one) in added.iter().enumerate() {
         let earlier = added.get(..i).unwrap_or(&[]);
         if let Some(first) = option_of_key(earlier, one.key) {
-            return Err(repeated_key(alloc, first, option_of(one.what), one.key)?);
+            let (second, key) = (option_of(one.what), one.key);
+            let what = format!(in alloc; "--{first} and --{second} have the same key {key}")?;
+            return Err(key_fault(alloc, what, "name another key after one of them")?);
         }
     }
     Ok(())
 }
 
-fn has_key(pattern: &Pattern, key: &str) -> bool {
-    pattern.group_of(key).is_some()
+fn has_key(named: &NamedPattern<'_>, key: &str) -> bool
+    ensures { result ≡ has_key named.now key.now }
+{
+    named.pattern.group_of(key).is_some()
 }
 
-/// Returns the fault that reports that a pattern has the key that an option names.
-fn taken_key(alloc: Global, option: &str, key: &str) -> Result<Fault, AllocError>
-    ensures { IfOk result IsOptionFault }
+fn some_has_key(patterns: &[NamedPattern<'_>], key: &str) -> bool
+    ensures { result ≡ some_has_key patterns.now key.now }
 {
-    let what = format!(in alloc; "--{option} has the key {key}, which a pattern has too")?;
-    let advice = format!(in alloc; "name another key after --{option}")?;
-    let report = Report::new(alloc, what.as_str(), advice.as_str())?;
-    Ok(Fault::Usage(report))
+    patterns.iter().any(|named| has_key(named, key))
+}
+
+/// Returns whether a key is a member of the object that the plan of a pattern describes.
+fn is_member(named: &NamedPattern<'_>, key: &str) -> bool {
+    named.plan.is_some_and(|plan| plan.has_member(key))
 }
 
 /// Checks that the key of what is added is neither a key of a pattern nor of the object that a plan
 /// describes.
-fn check_free(
-    alloc: Global,
-    patterns: &[Pattern],
-    plans: &[Plan<'_>],
-    added: &Added<'_>,
-) -> Result<(), Fault>
-    ensures { IfErr result IsOptionFault }
+fn check_free(alloc: Global, patterns: &[NamedPattern<'_>], added: &Added<'_>) -> Result<(), Fault>
+    ensures fault { IfErr result IsOptionFault }
+    ensures free { OnOk result (some_has_key patterns.now added.now.key.now ≡ false) }
 {
-    let key = added.key;
-    if patterns.iter().any(|pattern| has_key(pattern, key))
-        || plans.iter().any(|plan| plan.has_member(key))
-    {
-        return Err(taken_key(alloc, option_of(added.what), key)?);
+    let (option, key) = (option_of(added.what), added.key);
+    if some_has_key(patterns, key) || patterns.iter().any(|named| is_member(named, key)) {
+        let what = format!(in alloc; "--{option} has the key {key}, which a pattern has too")?;
+        return Err(taken_key(alloc, what, option)?);
     }
     Ok(())
 }
 
-/// Returns the fault that reports a key that no pattern has.
-pub fn unknown_key(alloc: Global, option: &str, key: &str) -> Result<Fault, AllocError>
-    ensures { IfOk result IsOptionFault }
+/// Checks the same of the keys of all that is added.
+fn check_all_free(
+    alloc: Global,
+    patterns: &[NamedPattern<'_>],
+    added: &[Added<'_>],
+) -> Result<(), Fault>
+    ensures fault { IfErr result IsOptionFault }
+    ensures free { OnOk result (has_taken_key patterns.now added.now ≡ false) }
 {
-    let what = format!(in alloc; "{option} has the key {key}, which no pattern has")?;
-    let advice = "write a key of a pattern; --explain shows them";
-    Ok(Fault::Usage(Report::new(alloc, what.as_str(), advice)?))
+    'added: for one in added {
+        check_free(alloc, patterns, one)?;
+    }
+    Ok(())
 }
 
-/// Some keys of patterns, each once.
-pub type KeySet<'p> = BTreeMap<&'p str, ()>;
+#[tactic(auto, using(crate::proofs::TextsOfSets::one_more_key))]
+fn add_key<'p>(keys: &mut BTreeSet<&'p str>, key: &'p str) -> Result<(), AllocError>
+    ensures { OnOk result (set_texts keys.new ≡ with_key (set_texts keys.old) key.now) }
+{
+    keys.insert(key)?;
+    Ok(())
+}
+
+fn add_keys<'p>(keys: &mut BTreeSet<&'p str>, named: &NamedPattern<'p>) -> Result<(), AllocError>
+    ensures { OnOk result (set_texts keys.new ≡ with_keys (set_texts keys.old) (own_keys named.now)) }
+{
+    'keys: for key in named.pattern.capture_names() {
+        add_key(keys, key)?;
+    }
+    Ok(())
+}
 
 /// Returns all keys of the patterns.
-pub fn key_set<'p>(alloc: Global, patterns: &'p [Pattern]) -> Result<KeySet<'p>, AllocError> {
-    let mut keys = BTreeMap::new(alloc);
-    for pattern in patterns {
-        for key in pattern.capture_names() {
-            keys.insert(key, ())?;
-        }
+pub fn key_set<'p>(
+    alloc: Global,
+    patterns: &[NamedPattern<'p>],
+) -> Result<BTreeSet<&'p str>, AllocError>
+    ensures { IfOk result (λ keys. set_texts keys ≡ all_keys patterns.now) }
+{
+    let mut keys = BTreeSet::new(alloc);
+    'patterns: for named in patterns {
+        add_keys(&mut keys, named)?;
     }
     Ok(keys)
+}
+
+/// How many keys of patterns a report lists.
+const LISTED: usize = 20;
+
+/// Returns the advice for a key that none of these patterns has, whose keys are `known`.
+fn advice_for_key(alloc: Global, known: &BTreeSet<&str>, key: &str) -> Result<String, AllocError> {
+    if known.is_empty() {
+        return String::from_str(alloc, "give a placeholder an alias, as in %{NAME:key}");
+    }
+    let mut advice = match nearest(alloc, known, key)? {
+        Some(near) => format!(in alloc; "write {near} if you mean that; keys of patterns: ")?,
+        None => String::from_str(alloc, "write a key of a pattern: ")?,
+    };
+    for (i, key) in known.iter().take(LISTED).enumerate() {
+        advice.push_str(if i > 0 { ", " } else { "" })?;
+        advice.push_str(key)?;
+    }
+    if known.len() > LISTED {
+        advice.push_str(", and others that --explain shows")?;
+    }
+    Ok(advice)
 }
 
 /// Checks that each of the keys that an option names is a key of a pattern, and is named once.
@@ -119,24 +163,25 @@ pub fn key_set<'p>(alloc: Global, patterns: &'p [Pattern]) -> Result<KeySet<'p>,
 /// # Errors
 ///
 /// Returns a fault if no pattern has one of them, or if it is named twice, or an error if an allocation fails.
-pub fn check_list(
+pub fn check_list<'p>(
     alloc: Global,
-    patterns: &[Pattern],
+    patterns: &[NamedPattern<'p>],
     option: &str,
-    keys: &[&str],
+    keys: &[&'p str],
 ) -> Result<(), Fault>
     ensures { IfErr result IsOptionFault }
 {
     let known = key_set(alloc, patterns)?;
-    let mut named = BTreeMap::new(alloc);
+    let mut named = BTreeSet::new(alloc);
     for key in keys {
-        if !known.contains_key(key) {
-            return Err(unknown_key(alloc, option, key)?);
+        if !known.contains(key) {
+            let what = format!(in alloc; "{option} has the key {key}, which no pattern has")?;
+            let advice = advice_for_key(alloc, &known, key)?;
+            return Err(key_fault(alloc, what, advice.as_str())?);
         }
-        if named.insert(*key, ())?.is_some() {
+        if !named.insert(*key)? {
             let what = format!(in alloc; "{option} has the key {key} twice")?;
-            let advice = "name each key once";
-            return Err(Fault::Usage(Report::new(alloc, what.as_str(), advice)?));
+            return Err(key_fault(alloc, what, "name each key once")?);
         }
     }
     Ok(())
@@ -151,18 +196,15 @@ pub fn check_list(
 pub fn check_keys(
     alloc: Global,
     task: &Task<'_>,
-    patterns: &[Pattern],
-    plans: &[Plan<'_>],
+    patterns: &[NamedPattern<'_>],
 ) -> Result<(), Fault>
-    ensures { IfErr result IsOptionFault }
+    ensures fault { IfErr result IsOptionFault }
+    ensures free { OnOk result (has_taken_key patterns.now (added_by_task task.now) ≡ false) }
 {
     match task {
         Task::Answers(answers) => {
             check_repeated(alloc, answers)?;
-            for added in &answers.added {
-                check_free(alloc, patterns, plans, added)?;
-            }
-            Ok(())
+            check_all_free(alloc, patterns, &answers.added)
         }
         Task::Counts(counts) => check_list(alloc, patterns, "--count", &counts.keys),
         Task::Shown(_) | Task::Page(_) | Task::Reasons(_) => Ok(()),

@@ -2,27 +2,8 @@
 ghost use Rattle.std.specs.Prelude.{◌≡◌, ◌≤◌, drop, length, take};
 ghost use Rattle.groklog_options.specs.Additions.{count_before, is_line};
 
-use crate::options::GivenPattern;
 use crate::task::AnswerOptions;
-use grok::Pattern;
-use groklog_answers::{Added, Addition, Layout, NamedPattern, Plan};
-use std::alloc::{AllocError, Global};
-
-/// Pairs each pattern with its tag, which is its name or else its text, and with its plan if there are
-/// plans.
-pub fn with_tags<'p>(
-    alloc: Global,
-    given: &[GivenPattern<'p>],
-    patterns: &'p [Pattern],
-    plans: &'p [Plan<'p>],
-) -> Result<Vec<NamedPattern<'p>>, AllocError> {
-    let mut named = Vec::new(alloc);
-    for (i, (given, pattern)) in given.iter().zip(patterns).enumerate() {
-        let (tag, plan) = (given.tag(), plans.get(i));
-        named.push(NamedPattern { tag, pattern, plan })?;
-    }
-    Ok(named)
-}
+use groklog_answers::{Added, Addition, Layout};
 
 fn is_line(added: &Added<'_>) -> bool
     ensures { result ≡ is_line added.now }

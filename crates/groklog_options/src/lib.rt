@@ -20,13 +20,14 @@ mod command_line;
 mod fields;
 mod keys;
 mod layouts;
+mod nearest;
 mod options;
 mod task;
 mod words_error;
 
 pub use fields::chosen_fields;
 pub use keys::check_keys;
-pub use layouts::{layout_of, with_tags};
+pub use layouts::layout_of;
 pub use options::{
     EVENT_LINES, EXPANSION, EventOptions, GivenDefinitions, GivenPattern, Options, is_answer,
     read_options, usage_fault,

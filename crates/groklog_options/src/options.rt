@@ -1,6 +1,6 @@
 //! Reads the options of the program.
 ghost use Rattle.std.specs.Prelude.{◌≡◌, ◌<◌, ◌⊎◌, ◌↔◌, IfOk, IsTrue, is_some, length, true, map, codes, unwrap_or, if◌then◌else◌};
-ghost use Rattle.groklog_input.specs.declared.unit.Unit.{Unit};
+ghost use Rattle.groklog_reports.specs.declared.unit.Unit.{Unit};
 ghost use Rattle.groklog_options.specs.OptionFaults.{IsOptionFault};
 ghost use Rattle.groklog_answers.specs.Layouts.{added_pair};
 ghost use Rattle.groklog_options.specs.Additions.{added_in};
@@ -9,7 +9,8 @@ ghost use Rattle.clap.specs.Matches.{found_of};
 ghost use Rattle.clap.specs.Values.{kind_of};
 
 use crate::additions::added_of;
-use crate::command_line::{check_partners, describe, is_given};
+use crate::command_line::{check_partners, check_values, describe, is_given};
+use crate::nearest::is_near;
 use crate::task::{
     AnswerOptions, Colours, CountOptions, PageOptions, PlanOptions, ShownOptions, Task,
 };
@@ -17,13 +18,14 @@ use crate::words_error::WordsError;
 use clap::error::ErrorKind;
 use clap::{ArgMatches, Error};
 use groklog_answers::{Lines, OutputFormat};
-use groklog_input::{Fault, LineForm, Report, Unit};
+use groklog_input::LineForm;
+use groklog_reports::{Fault, Report, Unit};
 use oniguruma_syntax::Wish;
 use std::alloc::{AllocError, Global};
 use std::collections::BTreeMap;
 use std::num::NonZeroU64;
 
-/// How many different values `--count` counts, unless `--max` says how many.
+/// How many different values `--count` counts.
 const VALUES: usize = 100_000;
 
 /// How many bytes the expanded text of a pattern has at most, unless `--max-expansion` says how many. The engine
@@ -277,7 +279,8 @@ fn count_options<'a>(
 ) -> Result<CountOptions<'a>, AllocError> {
     Ok(CountOptions {
         keys: split_keys(alloc, value_of(matches, "count"))?,
-        most: matches.get_one("max").unwrap_or(VALUES),
+        most: VALUES,
+        top: matches.get_one("top").unwrap_or(usize::MAX),
         format: chosen_format(matches),
     })
 }
@@ -336,7 +339,7 @@ fn events_of<'a>(matches: &ArgMatches<'a>) -> Result<Option<EventOptions<'a>>, W
     let most: u64 = matches.get_one("max-lines").unwrap_or(EVENT_LINES);
     match NonZeroU64::new(most) {
         Some(most_lines) => Ok(Some(EventOptions { start, most_lines })),
-        None => Err(WordsError::NoLine),
+        None => Err(WordsError::Zero { name: "max-lines" }),
     }
 }
 
@@ -366,6 +369,7 @@ fn options_of<'a>(alloc: Global, matches: &ArgMatches<'a>) -> Result<Options<'a>
     ensures { IfOk result (λ options. has_patterns options.task ≡ true → 0 < length options.patterns.items) }
 {
     check_partners(matches)?;
+    check_values(matches)?;
     let GivenWords { patterns, files } = given_words(alloc, matches)?;
     let task = task_of(alloc, matches)?;
     if patterns.is_empty() && task.has_patterns() {
@@ -429,6 +433,28 @@ fn in_one_line(alloc: Global, lines: &str) -> Result<String, AllocError> {
     Ok(line)
 }
 
+/// Returns the name between quotation marks in a message of clap.
+fn quoted(message: &str) -> &str {
+    message.split('\'').nth(1).unwrap_or("")
+}
+
+/// Returns the advice for what clap reports, from the lines that come after that.
+fn advice_of<'t>(alloc: Global, what: &str, rest: &'t str) -> Result<&'t str, AllocError> {
+    let Some(tip) = rest.trim_start().strip_prefix("tip: ") else {
+        return Ok("groklog --help");
+    };
+    // Clap's own advice for an option that it doesn't know is how to pass it as a value.
+    if tip.starts_with("to pass ") {
+        return Ok(UNKNOWN_OPTION);
+    }
+    let tip = tip.split('\n').next().unwrap_or(tip);
+    // For clap, --output is similar to --count.
+    if tip.starts_with("a similar ") && !is_near(alloc, quoted(what), quoted(tip))? {
+        return Ok(UNKNOWN_OPTION);
+    }
+    Ok(tip)
+}
+
 /// Returns the fault that reports why clap refuses the words.
 pub fn usage_fault(alloc: Global, error: &Error) -> Result<Fault, AllocError>
     ensures { IfOk result IsOptionFault }
@@ -443,12 +469,7 @@ pub fn usage_fault(alloc: Global, error: &Error) -> Result<Fault, AllocError>
         .strip_prefix("error: ")
         .unwrap_or(text.as_str());
     let (what, rest) = text.split_once("\n\n").unwrap_or((text, ""));
-    let advice = match rest.trim_start().strip_prefix("tip: ") {
-        // Clap's own advice for an option that it doesn't know is how to pass it as a value.
-        Some(tip) if tip.starts_with("to pass ") => UNKNOWN_OPTION,
-        Some(tip) => tip.split('\n').next().unwrap_or(tip),
-        None => "groklog --help",
-    };
+    let advice = advice_of(alloc, what, rest)?;
     let what = in_one_line(alloc, what)?;
     Ok(Fault::Usage(Report::new(alloc, what.as_str(), advice)?))
 }

@@ -77,6 +77,8 @@ pub struct CountOptions<'a> {
     pub keys: Vec<&'a str>,
     /// How many different values are counted at most.
     pub most: usize,
+    /// How many of those that come most often are written at most.
+    pub top: usize,
     pub format: OutputFormat,
 }
 
@@ -104,7 +106,7 @@ pub struct PageOptions<'a> {
 }
 
 impl<'a> Task<'a> {
-    /// Returns where values are written, which only answers say.
+    /// Returns whether answers are nested and merged objects. Tasks without answers have neither.
     pub fn plan(&self) -> PlanOptions
         ensures { result ≡ plan_of self.now }
     {

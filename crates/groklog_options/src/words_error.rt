@@ -18,8 +18,14 @@ pub enum WordsError {
     NoName,
     /// There is no pattern, and the task needs one.
     NoPattern,
-    /// An event would have no line.
-    NoLine,
+    /// The number of this option is 0.
+    Zero {
+        name: &'static str,
+    },
+    /// A key that this option names is empty.
+    EmptyKey {
+        name: &'static str,
+    },
 }
 
 impl From<AllocError> for WordsError {
@@ -70,9 +76,13 @@ impl WordsError {
                 wrong(command, why)
             }
             WordsError::NoPattern => wrong(command, "there is no pattern"),
-            WordsError::NoLine => {
-                let why = "--max-lines is 0, but an event has a line at least";
-                wrong(command, why)
+            WordsError::Zero { name } => {
+                let why = format!(in alloc; "--{name} has to be at least 1")?;
+                wrong(command, why.as_str())
+            }
+            WordsError::EmptyKey { name } => {
+                let why = format!(in alloc; "--{name} has an empty key")?;
+                wrong(command, why.as_str())
             }
         }
     }

@@ -1,20 +1,19 @@
 -- The fault that reports a refusal is that of a pattern that is refused.
-use Rattle.std.proofs.Common.{◌≢◌, ◌⊎◌, inl, inr, List, refl}
-use Rattle.std.specs.Prelude.{Any}
-use Rattle.groklog_definitions.specs.declared.compiled.Refusal.{Refusal}
-use Rattle.groklog_definitions.specs.declared.compiled.Refusal.TheVariants as refusals
-use Rattle.groklog_definitions.specs.declared.compiled.Refusal.TheVariants.{TooLarge, Invalid}
+use Rattle.std.proofs.Common.{◌≢◌, ◌⊎◌, inl, inr, refl}
+use Rattle.groklog_definitions.specs.declared.compiled.CompileRefusal.{CompileRefusal}
+use Rattle.groklog_definitions.specs.declared.compiled.CompileRefusal.TheVariants as refusals
+use Rattle.groklog_definitions.specs.declared.compiled.CompileRefusal.TheVariants.{TooLarge, Invalid}
 use Rattle.groklog_definitions.specs.Compiled.{IsRefusal}
-use Rattle.groklog_input.specs.declared.fault.Fault.{Fault}
-use Rattle.groklog_input.specs.declared.fault.Fault.TheVariants.{Pattern, Usage, Memory, Read, Write}
+use Rattle.groklog_reports.specs.declared.fault.Fault.{Fault}
+use Rattle.groklog_reports.specs.declared.fault.Fault.TheVariants.{Pattern, Usage, Memory, Read, Write}
 use Rattle.groklog_patterns.specs.Compiled.{IsCompileFault}
 
-one_of : (P Q : Type 0) → (refusal : Refusal) → IsRefusal P Q refusal → refusal ≢ refusals.Memory → Q ⊎ P
-one_of P Q (TooLarge pattern) large other = inr large
-one_of P Q (Invalid pattern) refused other = inl refused
+one_of : (P Q : Type 0) → (refusal : CompileRefusal) → IsRefusal P Q refusal → refusal ≢ refusals.Memory → Q ⊎ P
+one_of P Q TooLarge large other = inr large
+one_of P Q Invalid refused other = inl refused
 one_of P Q refusals.Memory is other = absurd (other refl)
 
-pub fault_of_refusal : (P Q : Type 0) → (refusal : Refusal) → (fault : Fault) → IsRefusal P Q refusal
+pub fault_of_refusal : (P Q : Type 0) → (refusal : CompileRefusal) → (fault : Fault) → IsRefusal P Q refusal
     → IsCompileFault (refusal ≢ refusals.Memory) fault → IsCompileFault (Q ⊎ P) fault
 fault_of_refusal P Q refusal (Pattern report) is other = one_of P Q refusal is other
 fault_of_refusal P Q refusal (Usage report) is other = other
@@ -22,17 +21,12 @@ fault_of_refusal P Q refusal Memory is other = other
 fault_of_refusal P Q refusal (Read report) is other = other
 fault_of_refusal P Q refusal (Write report) is other = other
 
-either : {X : Type 0} → (P Q : X → Type 0) → (xs : List X) → Any Q xs ⊎ Any P xs → Any (λ x. Q x ⊎ P x) xs
-either P Q xs (inl (i, x, lt, is, holds)) = (i, x, lt, is, inl holds)
-either P Q xs (inr (i, x, lt, is, holds)) = (i, x, lt, is, inr holds)
+-- What is reported of a fault follows from a stronger reason for it.
+pub fault_if : (P Q : Type 0) → (P → Q) → (fault : Fault) → IsCompileFault P fault → IsCompileFault Q fault
+fault_if P Q so (Pattern report) is = so is
+fault_if P Q so (Usage report) is = is
+fault_if P Q so Memory is = is
+fault_if P Q so (Read report) is = is
+fault_if P Q so (Write report) is = is
 
-pub fault_of_refusals : {X : Type 0} → (P Q : X → Type 0) → (xs : List X) → (refusal : Refusal) → (fault : Fault)
-    → IsRefusal (Any P xs) (Any Q xs) refusal → IsCompileFault (refusal ≢ refusals.Memory) fault
-    → IsCompileFault (Any (λ x. Q x ⊎ P x) xs) fault
-fault_of_refusals P Q xs refusal (Pattern report) is other = either P Q xs (one_of (Any P xs) (Any Q xs) refusal is other)
-fault_of_refusals P Q xs refusal (Usage report) is other = other
-fault_of_refusals P Q xs refusal Memory is other = other
-fault_of_refusals P Q xs refusal (Read report) is other = other
-fault_of_refusals P Q xs refusal (Write report) is other = other
-
-pub ruleset faults = (fault_of_refusal, fault_of_refusals)
+pub ruleset faults = (fault_of_refusal)

@@ -1,1 +1,2 @@
 pub mod FaultsOfPatterns
+pub mod PlaceByPlace

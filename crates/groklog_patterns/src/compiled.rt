@@ -1,80 +1,70 @@
 //! Compiles the patterns of a run, and reports what is wrong with one.
-ghost use Rattle.std.specs.Prelude.{◌≢◌, Any, IfOk, IfErr, OnOk};
+ghost use Rattle.std.specs.Prelude.{◌≢◌, Any, IfOk, IfErr};
 ghost use Rattle.std.specs.List.{AllZip};
-ghost use Rattle.groklog_definitions.specs.Compiled.{IsCompiledFrom, IsTooLarge};
-ghost use Rattle.groklog_patterns.specs.Compiled.{IsRefused, IsCompileFault};
+ghost use Rattle.groklog_patterns.specs.Compiled.{IsRunPattern, IsRefused, IsCompileFault};
 
 use crate::diagnosis::report_of;
 use crate::expansions::too_large_report;
 use grok::Pattern;
-use groklog_definitions::{Library, PatternText, Refusal};
-use groklog_input::Fault;
+use groklog_definitions::{CompileRefusal, Library, PatternText, compile};
+use groklog_reports::Fault;
 use std::alloc::{AllocError, Global};
+
+/// A pattern of a run, with the text that it was compiled from.
+#[derive(Drop)]
+pub struct RunPattern {
+    pub text: PatternText,
+    pub pattern: Pattern,
+}
 
 fn fault_of(
     alloc: Global,
     library: &Library<'_>,
-    refusal: Refusal<'_>,
-    with_alias_only: bool,
+    text: &PatternText,
+    refusal: CompileRefusal,
 ) -> Result<Fault, AllocError>
-    ensures { IfOk result (IsCompileFault (refusal.entry ≢ Refusal.Memory)) }
+    ensures { IfOk result (IsCompileFault (refusal ≢ CompileRefusal.Memory)) }
 {
     Ok(match refusal {
-        Refusal::TooLarge(pattern) => {
-            Fault::Pattern(too_large_report(alloc, library, pattern, with_alias_only)?)
-        }
-        Refusal::Invalid(pattern) => {
-            Fault::Pattern(report_of(alloc, library, pattern, with_alias_only)?)
-        }
+        CompileRefusal::TooLarge => Fault::Pattern(too_large_report(alloc, library, text)?),
+        CompileRefusal::Invalid => Fault::Pattern(report_of(alloc, library, text)?),
         // own error: compiling reported that an allocation failed.
-        Refusal::Memory => Fault::Memory,
+        CompileRefusal::Memory => Fault::Memory,
     })
 }
 
-/// Compiles one pattern, unless its expanded text is larger than the library takes. That is known before any
-/// of the text is written.
-///
-/// # Errors
-///
-/// Returns its fault if it can't be compiled or is too large, or an error if an allocation fails.
 #[tactic(auto, using(crate::proofs::FaultsOfPatterns::faults))]
-pub fn compile(
+fn compile_text(
     alloc: Global,
     library: &Library<'_>,
-    pattern: &PatternText,
-    with_alias_only: bool,
-) -> Result<Pattern, Fault>
-    ensures pattern { IfOk result (IsCompiledFrom library.now.grok with_alias_only pattern.now) }
-    ensures limit { OnOk result (IsTooLarge library.now.grok with_alias_only library.now.limit pattern.now → ⊥) }
-    ensures fault { IfErr result (IsCompileFault
-        (IsRefused library.now.grok with_alias_only library.now.limit pattern.now)) }
+    text: PatternText,
+) -> Result<RunPattern, Fault>
+    ensures pattern { IfOk result (IsRunPattern library.now.grok library.now.limit text) }
+    ensures fault { IfErr result (IsCompileFault (IsRefused library.now.grok library.now.limit text)) }
 {
-    match groklog_definitions::compile(library, pattern, with_alias_only) {
-        Ok(compiled) => Ok(compiled),
-        Err(refusal) => Err(fault_of(alloc, library, refusal, with_alias_only)?),
+    match compile(library, text.text.as_str(), text.with_alias_only) {
+        Ok(pattern) => Ok(RunPattern { text, pattern }),
+        Err(refusal) => Err(fault_of(alloc, library, &text, refusal)?),
     }
 }
 
-/// Compiles the patterns, in their order.
+/// Compiles the patterns, in their order, unless their expanded texts are larger than the library takes.
 ///
 /// # Errors
 ///
 /// Returns the fault of the first pattern that can't be compiled, or an error if an allocation
 /// fails.
-#[tactic(auto, using(crate::proofs::FaultsOfPatterns::faults))]
 pub fn compile_all(
     alloc: Global,
     library: &Library<'_>,
-    patterns: &[PatternText],
-    with_alias_only: bool,
-) -> Result<Vec<Pattern>, Fault>
-    ensures patterns { IfOk result (λ all. AllZip (IsCompiledFrom library.now.grok with_alias_only)
-        patterns.now all.items) }
-    ensures fault { IfErr result (IsCompileFault
-        (Any (IsRefused library.now.grok with_alias_only library.now.limit) patterns.now)) }
+    texts: Vec<PatternText>,
+) -> Result<Vec<RunPattern>, Fault>
+    ensures patterns { IfOk result (λ all. AllZip (IsRunPattern library.now.grok library.now.limit) texts.items all.items) }
+    ensures fault { IfErr result (IsCompileFault (Any (IsRefused library.now.grok library.now.limit) texts.items)) }
 {
-    match groklog_definitions::compile_all(alloc, library, patterns, with_alias_only) {
-        Ok(all) => Ok(all),
-        Err(refusal) => Err(fault_of(alloc, library, refusal, with_alias_only)?),
+    let mut all = Vec::new(alloc);
+    'texts: for text in texts {
+        all.push(compile_text(alloc, library, text)?)?;
     }
+    Ok(all)
 }

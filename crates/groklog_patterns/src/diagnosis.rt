@@ -5,7 +5,7 @@ use grok::{
     Refused,
 };
 use groklog_definitions::{Library, PatternText, ordinal};
-use groklog_input::{Report, add_excerpt};
+use groklog_reports::{Report, add_excerpt};
 use oniguruma_syntax::has_own_forms;
 use regex_syntax::ErrorKind;
 use std::alloc::{AllocError, Global};
@@ -385,9 +385,9 @@ fn first_in_class<'a>(
     None
 }
 
-/// Returns the report of a definition whose placeholder is inside a character class. There its text means
-/// single characters, and the engine refuses these for this reason. `steps` are the placeholders that lead
-/// to what it refuses. Returns `None` if none of them is in a class.
+/// Returns the report that a placeholder is inside a character class, where the engine reads the text of its
+/// definition as single characters, and refuses that for the reason `kind`. `steps` are the placeholders that
+/// lead to what it refuses. Returns `None` if none of them is in a class.
 fn class_report(
     alloc: Global,
     library: &Library<'_>,
@@ -480,11 +480,10 @@ pub fn report_of(
     alloc: Global,
     library: &Library<'_>,
     pattern: &PatternText,
-    with_alias_only: bool,
 ) -> Result<Report, AllocError> {
     let diagnosis = library
         .grok
-        .diagnose(pattern.text.as_str(), with_alias_only)?;
+        .diagnose(pattern.text.as_str(), pattern.with_alias_only)?;
     let (mut report, location) = match diagnosis {
         // own error: nothing is wrong with this pattern, so compiling it failed because an
         // allocation did.

@@ -2,13 +2,12 @@
 //! stand for more text than any memory holds.
 
 use crate::diagnosis::describe_location;
-use grok::parser::{GrokComponent, grok_split};
+use grok::parser::{Use, uses_in};
 use grok::{Grok, Measure};
 use groklog_definitions::{Library, PatternText};
-use groklog_input::{Report, add_excerpt};
+use groklog_reports::{Report, add_excerpt};
 use std::alloc::{AllocError, Global};
 use std::collections::BTreeMap;
-use std::ops::Range;
 
 /// Which number of an expanded text is too great.
 #[derive(Clone, Copy, PartialEq, Eq)]
@@ -17,92 +16,24 @@ enum Excess {
     Groups,
 }
 
-/// How large an expanded text is.
-#[derive(Clone, Copy)]
-struct Size {
-    /// If the text is longer than any memory, this is the greatest number.
-    bytes: usize,
-    groups: usize,
-}
-
-/// A placeholder for a stored definition.
-#[derive(Clone, Copy)]
-struct Use<'a> {
-    name: &'a str,
-    /// Whether it becomes a group of its own.
-    is_capturing: bool,
-    /// The byte of its text where it begins, and the one after it.
-    start: usize,
-    end: usize,
-}
-
-impl Size {
-    fn of(measure: &Measure<'_>) -> Size {
-        match measure {
-            Measure::Size { length, groups, .. } => Size {
-                bytes: *length,
-                groups: *groups,
-            },
-            _ => Size {
-                bytes: usize::MAX,
-                groups: 0,
-            },
+impl Excess {
+    /// Returns this number of an expanded text. A text that is longer than any memory has the greatest number of bytes.
+    fn of(self, measure: &Measure<'_>) -> u128 {
+        match (self, measure) {
+            (Excess::Bytes, Measure::Size { length, .. }) => *length as u128,
+            (Excess::Groups, Measure::Size { groups, .. }) => *groups as u128,
+            (Excess::Bytes, _) => usize::MAX as u128,
+            (Excess::Groups, _) => 0,
         }
     }
-}
-
-impl Use<'_> {
-    /// Returns how many bytes or groups, whichever are too many, the placeholder adds if its definition has
-    /// this size.
-    fn share(&self, excess: Excess, definition: Size) -> u128 {
-        match excess {
-            Excess::Bytes => definition.bytes as u128,
-            Excess::Groups => (definition.groups as u128).saturating_add(self.is_capturing as u128),
-        }
-    }
-}
-
-/// Returns the placeholders of a text that stand for stored definitions.
-fn uses_in<'a>(
-    alloc: Global,
-    text: &'a str,
-    with_alias_only: bool,
-) -> Result<Vec<Use<'a>>, AllocError> {
-    let mut uses = Vec::new(alloc);
-    for piece in grok_split(text) {
-        if let GrokComponent::GrokPattern {
-            range,
-            name,
-            alias,
-            definition,
-            ..
-        } = piece
-            && definition.is_empty()
-        {
-            let Range { start, end } = range;
-            uses.push(Use {
-                name,
-                is_capturing: !with_alias_only || !alias.is_empty(),
-                start,
-                end,
-            })?;
-        }
-    }
-    Ok(uses)
-}
-
-fn push_all<'a>(all: &mut Vec<Use<'a>>, uses: &[Use<'a>]) -> Result<(), AllocError> {
-    for each in uses {
-        all.push(*each)?;
-    }
-    Ok(())
 }
 
 /// A definition that a pattern uses, and how far its uses are counted.
 #[derive(Clone, Copy)]
 struct Used<'a> {
     text: &'a str,
-    size: Size,
+    /// How many bytes or groups its expanded text has, whichever are too many.
+    size: u128,
     /// How many placeholders for it there are whose uses aren't counted yet.
     waiting: usize,
     /// How often it is used in the whole pattern, as far as that is counted.
@@ -114,47 +45,43 @@ struct Used<'a> {
 struct UsedDefinitions<'a> {
     alloc: Global,
     with_alias_only: bool,
+    excess: Excess,
     by_name: BTreeMap<&'a str, Used<'a>>,
 }
 
 impl<'a> UsedDefinitions<'a> {
-    /// Finds the definitions that a pattern without a structural fault uses. Their uses aren't counted yet.
-    fn of(
-        alloc: Global,
-        grok: &'a Grok,
-        pattern: &'a str,
-        with_alias_only: bool,
-    ) -> Result<UsedDefinitions<'a>, AllocError> {
-        let mut by_name = BTreeMap::new(alloc);
-        let mut left = uses_in(alloc, pattern, with_alias_only)?;
-        for _ in 0..u64::MAX {
-            let Some(Use { name, .. }) = left.pop() else {
-                break;
-            };
+    /// Adds the definitions that a text uses. Returns the texts of those that are new.
+    fn add_uses(&mut self, grok: &'a Grok, text: &'a str) -> Result<Vec<&'a str>, AllocError> {
+        let mut texts = Vec::new(self.alloc);
+        for Use { name, .. } in uses_in(text) {
+            if let Some(used) = self.by_name.get_mut(name) {
+                used.waiting = used.waiting.saturating_add(1);
+                continue;
+            }
             let text = grok.definition(name).unwrap_or("");
-            let waiting = match by_name.get(name) {
-                Some(Used { waiting, .. }) => *waiting,
-                None => {
-                    push_all(&mut left, &uses_in(alloc, text, with_alias_only)?)?;
-                    0
-                }
-            };
+            let (size, waiting, count) = (0, 1, 0);
             let used = Used {
                 text,
-                size: Size {
-                    bytes: 0,
-                    groups: 0,
-                },
-                waiting: waiting.saturating_add(1),
-                count: 0,
+                size,
+                waiting,
+                count,
             };
-            by_name.insert(name, used)?;
+            self.by_name.insert(name, used)?;
+            texts.push(text)?;
         }
-        Ok(UsedDefinitions {
-            alloc,
-            with_alias_only,
-            by_name,
-        })
+        Ok(texts)
+    }
+
+    /// Adds the definitions that a pattern without a structural fault uses. Their uses aren't counted yet.
+    fn add_all(&mut self, grok: &'a Grok, pattern: &'a str) -> Result<(), AllocError> {
+        let mut left = self.add_uses(grok, pattern)?;
+        for _ in 0..u64::MAX {
+            let Some(text) = left.pop() else {
+                break;
+            };
+            left.extend_from_slice(&self.add_uses(grok, text)?)?;
+        }
+        Ok(())
     }
 
     /// Measures the expanded text of each definition. Each definition is read once for that.
@@ -165,7 +92,7 @@ impl<'a> UsedDefinitions<'a> {
         }
         let measures = grok.measure_all(&texts, self.with_alias_only)?;
         for (used, measure) in self.by_name.values_mut().zip(&measures) {
-            used.size = Size::of(measure);
+            used.size = self.excess.of(measure);
         }
         Ok(())
     }
@@ -179,8 +106,8 @@ impl<'a> UsedDefinitions<'a> {
             let Some((text, times)) = left.pop() else {
                 break;
             };
-            for Use { name, .. } in &uses_in(self.alloc, text, self.with_alias_only)? {
-                if let Some(used) = self.by_name.get_mut(*name) {
+            for Use { name, .. } in uses_in(text) {
+                if let Some(used) = self.by_name.get_mut(name) {
                     used.count = used.count.saturating_add(times);
                     used.waiting = used.waiting.saturating_sub(1);
                     if used.waiting == 0 {
@@ -191,34 +118,25 @@ impl<'a> UsedDefinitions<'a> {
         }
         Ok(())
     }
+
+    /// Returns how many bytes or groups, whichever are too many, a placeholder adds.
+    fn share(&self, each: &Use<'_>) -> u128 {
+        let is_capturing = !self.with_alias_only || !each.alias.is_empty();
+        let own = is_capturing && self.excess == Excess::Groups;
+        let size = self.by_name.get(each.name).map_or(0, |used| used.size);
+        size.saturating_add(own as u128)
+    }
 }
 
 /// A definition that a text uses, and how much of the expanded text comes from it.
-#[derive(Clone, Copy)]
+#[derive(Drop)]
 struct Part<'a> {
     /// Its first placeholder in the text.
     first: Use<'a>,
-    /// How many placeholders for it the text has.
-    times: u128,
+    /// Whether the text has several placeholders for it.
+    is_several: bool,
     /// How many bytes or groups they become together.
     share: u128,
-}
-
-impl<'a> Part<'a> {
-    /// Adds a placeholder to the placeholders of the same name that were found in the text before.
-    fn with(part: Option<&Part<'a>>, each: &Use<'a>, share: u128) -> Part<'a> {
-        let before = Part {
-            first: *each,
-            times: 0,
-            share: 0,
-        };
-        let before = part.copied().unwrap_or(before);
-        Part {
-            first: before.first,
-            times: before.times.saturating_add(1),
-            share: before.share.saturating_add(share),
-        }
-    }
 }
 
 /// Returns the definition from which most of the bytes or groups of a text come, among those that the text
@@ -226,18 +144,23 @@ impl<'a> Part<'a> {
 fn greatest_part<'a>(
     used: &UsedDefinitions<'a>,
     text: &'a str,
-    excess: Excess,
 ) -> Result<Option<Part<'a>>, AllocError> {
-    let mut parts = BTreeMap::new(used.alloc);
-    for each in &uses_in(used.alloc, text, used.with_alias_only)? {
-        let share = match used.by_name.get(each.name) {
-            Some(found) => each.share(excess, found.size),
-            None => 0,
+    let mut parts: BTreeMap<&'a str, Part<'a>> = BTreeMap::new(used.alloc);
+    for each in uses_in(text) {
+        let share = used.share(&each);
+        if let Some(part) = parts.get_mut(each.name) {
+            part.is_several = true;
+            part.share = part.share.saturating_add(share);
+            continue;
+        }
+        let part = Part {
+            first: each,
+            is_several: false,
+            share,
         };
-        let part = Part::with(parts.get(each.name), each, share);
-        parts.insert(each.name, part)?;
+        parts.insert(part.first.name, part)?;
     }
-    Ok(parts.values().max_by_key(|part| part.share).copied())
+    Ok(parts.into_values().max_by_key(|part| part.share))
 }
 
 /// Where a text becomes large.
@@ -247,18 +170,14 @@ struct Growth<'a> {
     names: Vec<&'a str>,
     /// The text that uses a definition several times, or else the innermost text.
     text: &'a str,
-    /// The definition that it uses.
+    /// The definition from which most of that text comes, or `None` if it uses no definition.
     part: Option<Part<'a>>,
 }
 
 /// Goes from the pattern to the definition from which most of it comes, from there to the one from which
 /// most of that comes, and so on. Returns the innermost text on this way that uses the next definition
 /// several times.
-fn growth_of<'a>(
-    used: &UsedDefinitions<'a>,
-    pattern: &'a str,
-    excess: Excess,
-) -> Result<Growth<'a>, AllocError> {
+fn growth_of<'a>(used: &UsedDefinitions<'a>, pattern: &'a str) -> Result<Growth<'a>, AllocError> {
     let alloc = used.alloc;
     let mut names = Vec::new(alloc);
     let mut found = Growth {
@@ -269,31 +188,28 @@ fn growth_of<'a>(
     let mut text = pattern;
     let mut is_several = false;
     for _ in 0..u64::MAX {
-        let Some(part) = greatest_part(used, text, excess)? else {
+        let Some(part) = greatest_part(used, text)? else {
             break;
         };
-        if part.times > 1 || !is_several {
-            is_several = part.times > 1;
+        let name = part.first.name;
+        if part.is_several || !is_several {
+            is_several = part.is_several;
             let names = Vec::from_slice(alloc, names.as_slice())?;
             let part = Some(part);
             found = Growth { names, text, part };
         }
-        names.push(part.first.name)?;
-        text = used
-            .by_name
-            .get(part.first.name)
-            .map_or("", |next| next.text);
+        names.push(name)?;
+        text = used.by_name.get(name).map_or("", |next| next.text);
     }
     Ok(found)
 }
 
 fn advice_for_size(
     used: &UsedDefinitions<'_>,
-    part: Option<Part<'_>>,
-    excess: Excess,
+    part: Option<&Part<'_>>,
 ) -> Result<String, AllocError> {
     let alloc = used.alloc;
-    let raise = match excess {
+    let raise = match used.excess {
         Excess::Bytes => "raise the limit by --max-expansion BYTES",
         Excess::Groups => "raise the limit by --max-expansion BYTES, a group for each 250 bytes",
     };
@@ -321,29 +237,27 @@ fn excess_of(
     measure: Measure<'_>,
 ) -> Result<(String, Excess), AllocError> {
     let (words, limit) = (pattern.words.as_str(), library.limit);
-    match measure {
+    let (text, excess) = match measure {
         Measure::Size { length, .. } if length > limit.bytes => {
-            let most = limit.bytes;
-            let what = format!(in alloc;
-                "{words} stands for a text of {length} bytes, and the limit is {most}"
-            )?;
-            Ok((what, Excess::Bytes))
+            (format!(in alloc; "of {length} bytes")?, Excess::Bytes)
         }
         Measure::Size { groups, .. } => {
-            let most = limit.groups;
-            let what = format!(in alloc;
-                "{words} stands for a text with {groups} groups of placeholders, and the limit is {most}"
-            )?;
-            Ok((what, Excess::Groups))
+            (
+                format!(in alloc; "with {groups} groups of placeholders")?,
+                Excess::Groups,
+            )
         }
         _ => {
-            let most = limit.bytes;
-            let what = format!(in alloc;
-                "{words} stands for a text of more than 2^64 bytes, which no memory holds, and the limit is {most}"
-            )?;
-            Ok((what, Excess::Bytes))
+            let text = String::from_str(alloc, "of more than 2^64 bytes, which no memory holds")?;
+            (text, Excess::Bytes)
         }
-    }
+    };
+    let most = match excess {
+        Excess::Bytes => limit.bytes,
+        Excess::Groups => limit.groups,
+    };
+    let what = format!(in alloc; "{words} stands for a text {text}, and the limit is {most}")?;
+    Ok((what, excess))
 }
 
 /// Returns the report that the expanded text of a pattern would be too large: how large, and where it becomes
@@ -352,22 +266,28 @@ pub fn too_large_report(
     alloc: Global,
     library: &Library<'_>,
     pattern: &PatternText,
-    with_alias_only: bool,
 ) -> Result<Report, AllocError> {
     let (grok, text) = (&library.grok, pattern.text.as_str());
+    let with_alias_only = pattern.with_alias_only;
     let measure = grok.measure(text, with_alias_only)?;
     let (what, excess) = excess_of(alloc, library, pattern, measure)?;
-    let mut used = UsedDefinitions::of(alloc, grok, text, with_alias_only)?;
+    let mut used = UsedDefinitions {
+        alloc,
+        with_alias_only,
+        excess,
+        by_name: BTreeMap::new(alloc),
+    };
+    used.add_all(grok, text)?;
     used.measure(grok)?;
     used.count(text)?;
-    let growth = growth_of(&used, text, excess)?;
-    let advice = advice_for_size(&used, growth.part, excess)?;
+    let Growth { names, text, part } = growth_of(&used, text)?;
+    let advice = advice_for_size(&used, part.as_ref())?;
     let mut report = Report::new(alloc, what.as_str(), advice.as_str())?;
-    let range = match growth.part {
-        Some(Part { first, .. }) => first.start..first.end,
-        None => 0..growth.text.len(),
+    let range = match part {
+        Some(Part { first, .. }) => first.range,
+        None => 0..text.len(),
     };
-    let location = describe_location(alloc, library, pattern, growth.names.as_slice())?;
-    add_excerpt(alloc, &mut report, location.as_str(), growth.text, range)?;
+    let location = describe_location(alloc, library, pattern, &names)?;
+    add_excerpt(alloc, &mut report, location.as_str(), text, range)?;
     Ok(report)
 }

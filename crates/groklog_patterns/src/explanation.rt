@@ -1,8 +1,9 @@
 //! Explains patterns for `--explain`, without reading lines.
 
+use crate::compiled::RunPattern;
 use grok::{Measure, Pattern};
-use groklog_definitions::Library;
-use groklog_input::visible;
+use groklog_definitions::{Library, PatternText};
+use groklog_reports::visible;
 use std::alloc::{AllocError, Global};
 
 fn push_line(alloc: Global, lines: &mut String, line: &str) -> Result<(), AllocError> {
@@ -35,10 +36,10 @@ fn push_keys(alloc: Global, lines: &mut String, pattern: &Pattern) -> Result<(),
 fn size_line(
     alloc: Global,
     library: &Library<'_>,
-    text: &str,
-    with_alias_only: bool,
+    pattern: &PatternText,
 ) -> Result<String, AllocError> {
-    match library.grok.measure(text, with_alias_only)? {
+    let (grok, text) = (&library.grok, pattern.text.as_str());
+    match grok.measure(text, pattern.with_alias_only)? {
         Measure::Size {
             length,
             groups,
@@ -53,17 +54,16 @@ fn size_line(
 pub fn explain(
     alloc: Global,
     library: &Library<'_>,
-    text: &str,
-    pattern: &Pattern,
-    with_alias_only: bool,
+    run_pattern: &RunPattern,
 ) -> Result<String, AllocError> {
+    let RunPattern { text, pattern } = run_pattern;
     let expanded = pattern.text();
     let mut lines = String::new(alloc);
-    let pattern_line = format!(in alloc; "pattern: {text}")?;
+    let pattern_line = format!(in alloc; "pattern: {}", text.text)?;
     push_line(alloc, &mut lines, pattern_line.as_str())?;
     let expanded_line = format!(in alloc; "expands to: {expanded}")?;
     push_line(alloc, &mut lines, expanded_line.as_str())?;
-    let size = size_line(alloc, library, text, with_alias_only)?;
+    let size = size_line(alloc, library, text)?;
     lines.push_str(size.as_str())?;
     lines.push_str("keys:\n")?;
     push_keys(alloc, &mut lines, pattern)?;

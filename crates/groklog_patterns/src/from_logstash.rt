@@ -1,35 +1,19 @@
 //! Rewrites what was made for Logstash: the patterns, and the definitions that they use.
 
 use grok::Measure;
-use grok::parser::{GrokComponent, grok_split};
-use groklog_definitions::{Library, Origin, PatternText, RunTexts, Source, common_definition};
-use groklog_input::{Fault, Report, add_excerpt};
+use grok::parser::uses_in;
+use groklog_definitions::{DefinitionSource, Library, Origin, PatternText, common_definition};
+use groklog_reports::{Fault, Report, add_excerpt};
 use oniguruma_syntax::{Outcome, Reason, Refused, Rewritten, Wish, rewrite};
 use std::alloc::{AllocError, Global};
-use std::collections::BTreeMap;
+use std::collections::BTreeSet;
 
 /// The patterns as they are compiled, and notes on what was changed in them and in the definitions
 /// that they use, ready to be shown.
 #[derive(Drop)]
 pub struct Adapted {
-    pub texts: RunTexts,
+    pub texts: Vec<PatternText>,
     pub notes: Vec<String>,
-}
-
-/// Appends the names of the stored definitions that a text uses.
-fn push_names<'t>(names: &mut Vec<&'t str>, text: &'t str) -> Result<(), AllocError> {
-    for piece in grok_split(text) {
-        if let GrokComponent::GrokPattern {
-            name,
-            definition,
-            ..
-        } = piece
-            && definition.is_empty()
-        {
-            names.push(name)?;
-        }
-    }
-    Ok(())
 }
 
 /// Returns the user's definitions that patterns use, themselves or through other definitions. Each comes
@@ -37,26 +21,26 @@ fn push_names<'t>(names: &mut Vec<&'t str>, text: &'t str) -> Result<(), AllocEr
 fn used_sources<'a>(
     alloc: Global,
     library: &Library<'a>,
-    patterns: &[&str],
-) -> Result<Vec<Source<'a>>, AllocError> {
+    patterns: &[PatternText],
+) -> Result<Vec<DefinitionSource<'a>>, AllocError> {
     let mut found = Vec::new(alloc);
-    let mut seen = BTreeMap::new(alloc);
+    let mut seen = BTreeSet::new(alloc);
     let mut left = Vec::new(alloc);
     for pattern in patterns {
-        push_names(&mut left, pattern)?;
+        left.extend(uses_in(pattern.text.as_str()).map(|each| each.name))?;
     }
     for _ in 0..u64::MAX {
         let Some(name) = left.pop() else {
             break;
         };
-        if seen.insert(name, true)?.is_some() {
+        if !seen.insert(name)? {
             continue;
         }
         let (Some(source), Some(text)) = (library.source(name), library.grok.definition(name))
         else {
             continue;
         };
-        push_names(&mut left, text)?;
+        left.extend(uses_in(text).map(|each| each.name))?;
         if source.origin.is_own() {
             found.push(source)?;
         }
@@ -70,7 +54,7 @@ fn used_sources<'a>(
 fn can_leave_out<'a>(
     alloc: Global,
     library: &mut Library<'a>,
-    source: Source<'a>,
+    source: DefinitionSource<'a>,
 ) -> Result<bool, AllocError> {
     let Some(text) = common_definition(source.name) else {
         return Ok(false);
@@ -87,7 +71,7 @@ fn can_leave_out<'a>(
 fn advice_for<'a>(
     alloc: Global,
     library: &mut Library<'a>,
-    source: Source<'a>,
+    source: DefinitionSource<'a>,
     reason: Reason,
 ) -> Result<String, AllocError> {
     let advice = reason.advice();
@@ -136,8 +120,8 @@ fn adapt(
 }
 
 /// Returns words for a stored definition and for where it was given.
-fn location_of(alloc: Global, source: Source<'_>) -> Result<String, AllocError> {
-    let Source { name, origin } = source;
+fn location_of(alloc: Global, source: DefinitionSource<'_>) -> Result<String, AllocError> {
+    let DefinitionSource { name, origin } = source;
     format!(in alloc; "the definition {name} ({origin})")
 }
 
@@ -146,7 +130,7 @@ fn adapt_definition<'a>(
     alloc: Global,
     library: &mut Library<'a>,
     notes: &mut Vec<String>,
-    source: Source<'a>,
+    source: DefinitionSource<'a>,
     wish: Wish,
 ) -> Result<(), Fault> {
     let Some(text) = library.grok.definition(source.name) else {
@@ -179,7 +163,11 @@ fn adapt_pattern(
     match adapt(alloc, notes, text, words, whole)? {
         Ok(text) => {
             let words = String::from_str(alloc, words)?;
-            Ok(PatternText { text, words })
+            Ok(PatternText {
+                text,
+                words,
+                with_alias_only: pattern.with_alias_only,
+            })
         }
         Err(refused) => {
             let advice = refused.reason.advice();
@@ -196,29 +184,17 @@ fn adapt_pattern(
 pub fn adapt_all(
     alloc: Global,
     library: &mut Library<'_>,
-    given: &RunTexts,
+    given: &[PatternText],
     wish: Wish,
 ) -> Result<Adapted, Fault> {
-    let texts: Vec<&str> = given
-        .patterns
-        .iter()
-        .chain(given.start.iter())
-        .map(|pattern| pattern.text.as_str())
-        .collect(alloc)?;
-    let patterns = texts.as_slice();
     let mut notes = Vec::new(alloc);
-    for source in &used_sources(alloc, library, patterns)? {
+    for source in &used_sources(alloc, library, given)? {
         adapt_definition(alloc, library, &mut notes, *source, wish)?;
     }
-    let mut patterns = Vec::new(alloc);
-    for pattern in &given.patterns {
-        patterns.push(adapt_pattern(alloc, &mut notes, pattern, wish)?)?;
+    let mut texts = Vec::new(alloc);
+    for pattern in given {
+        texts.push(adapt_pattern(alloc, &mut notes, pattern, wish)?)?;
     }
-    let start = match &given.start {
-        Some(start) => Some(adapt_pattern(alloc, &mut notes, start, wish)?),
-        None => None,
-    };
-    let texts = RunTexts { patterns, start };
     Ok(Adapted { texts, notes })
 }
 
@@ -229,7 +205,7 @@ pub fn own_wholes<'a>(alloc: Global, library: &Library<'a>) -> Result<Vec<&'a st
     let mut used = Vec::new(alloc);
     for source in &own {
         if let Some(text) = library.grok.definition(source.name) {
-            push_names(&mut used, text)?;
+            used.extend(uses_in(text).map(|each| each.name))?;
         }
     }
     let mut wholes = Vec::new(alloc);

@@ -1,7 +1,9 @@
 //! Says by which placeholder the value of a key is found, and what that is defined as.
 
+use crate::compiled::RunPattern;
+use crate::stop_report::cut_text;
 use grok::{ByteLocation, Location, Pattern, WrittenByte};
-use groklog_definitions::{Library, PatternText};
+use groklog_definitions::Library;
 use std::alloc::{AllocError, Global};
 use std::collections::BTreeMap;
 
@@ -19,25 +21,17 @@ struct Key<'k> {
     name: &'k str,
 }
 
-/// A pattern with its text, and the byte positions in the expanded text where its groups begin.
+/// A pattern, and the byte positions in the expanded text where its groups begin.
 #[derive(Drop)]
-struct Source<'p> {
-    text: &'p str,
-    pattern: &'p Pattern,
+struct GroupStarts<'p> {
+    of: &'p RunPattern,
     /// Where the group of each name begins.
     starts: BTreeMap<&'p str, usize>,
 }
 
 /// Returns the text, which is cut if it is long.
 fn shortened(alloc: Global, text: &str) -> Result<String, AllocError> {
-    let mut part = String::new(alloc);
-    for c in text.chars().take(MOST_SHOWN) {
-        part.push(c)?;
-    }
-    if part.len() < text.len() {
-        part.push_str("...")?;
-    }
-    Ok(part)
+    cut_text(alloc, text, MOST_SHOWN)
 }
 
 /// Returns the byte position where the group of each name begins in an expanded text, which is read once.
@@ -56,7 +50,7 @@ fn starts_of_groups(alloc: Global, expanded: &str) -> Result<BTreeMap<&str, usiz
     Ok(starts)
 }
 
-/// Returns the location of the placeholder to whose group a byte belongs, or `None` if the byte was copied.
+/// Returns the location of the placeholder whose group has a byte, or `None` if the byte is one of regular text.
 fn placeholder_of(written: ByteLocation<'_>) -> Option<Location<'_>> {
     let ByteLocation { location, part } = written;
     match part {
@@ -65,22 +59,15 @@ fn placeholder_of(written: ByteLocation<'_>) -> Option<Location<'_>> {
     }
 }
 
-impl<'p> Source<'p> {
-    fn new(
-        alloc: Global,
-        text: &'p PatternText,
-        pattern: &'p Pattern,
-    ) -> Result<Source<'p>, AllocError> {
-        Ok(Source {
-            text: text.text.as_str(),
-            pattern,
-            starts: starts_of_groups(alloc, pattern.text())?,
-        })
+impl<'p> GroupStarts<'p> {
+    fn new(alloc: Global, of: &'p RunPattern) -> Result<GroupStarts<'p>, AllocError> {
+        let starts = starts_of_groups(alloc, of.pattern.text())?;
+        Ok(GroupStarts { of, starts })
     }
 
     fn start(&self, key: &str) -> Option<usize> {
-        let group = self.pattern.group_of(key)?;
-        let name = self.pattern.group_names().get(group)?;
+        let pattern = &self.of.pattern;
+        let name = pattern.group_names().get(pattern.group_of(key)?)?;
         let name = name.as_ref()?;
         self.starts.get(&name.as_str()).copied()
     }
@@ -92,16 +79,16 @@ impl<'p> Source<'p> {
         alloc: Global,
         library: &'p Library<'_>,
         keys: &[Key<'_>],
-        with_alias_only: bool,
     ) -> Result<Vec<Option<Location<'p>>>, AllocError> {
         let mut starts = Vec::new(alloc);
         for key in keys {
             // No text has a byte at the greatest position.
             starts.push(self.start(key.name).unwrap_or(usize::MAX))?;
         }
+        let text = &self.of.text;
         let found = library
             .grok
-            .locate_bytes(self.text, with_alias_only, &starts)?;
+            .locate_bytes(text.text.as_str(), text.with_alias_only, &starts)?;
         let mut locations = Vec::new(alloc);
         for written in found {
             let location = match written {
@@ -174,9 +161,8 @@ fn keys_of<'k>(
 pub fn titles_of(
     alloc: Global,
     library: &Library<'_>,
-    (texts, patterns): (&[PatternText], &[Pattern]),
+    patterns: &[RunPattern],
     keys: &[&str],
-    with_alias_only: bool,
 ) -> Result<Vec<String>, AllocError> {
     let (mut titles, mut rest) = (Vec::new(alloc), Vec::new(alloc));
     for (index, name) in keys.iter().enumerate() {
@@ -185,10 +171,9 @@ pub fn titles_of(
             rest.push(Key { index, name })?;
         }
     }
-    for (text, pattern) in texts.iter().zip(patterns) {
-        let (own, others) = keys_of(alloc, pattern, &rest)?;
-        let source = Source::new(alloc, text, pattern)?;
-        let locations = source.placeholders(alloc, library, &own, with_alias_only)?;
+    for pattern in patterns {
+        let (own, others) = keys_of(alloc, &pattern.pattern, &rest)?;
+        let locations = GroupStarts::new(alloc, pattern)?.placeholders(alloc, library, &own)?;
         add_placeholders(alloc, library, &mut titles, &own, &locations)?;
         rest = others;
     }

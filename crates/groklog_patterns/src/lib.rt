@@ -4,9 +4,9 @@
 //! and what to do. An [`Explainer`] says where patterns stop in a line that doesn't match:
 //!
 //! ```text
-//! let texts = patterns_of(alloc, &["%{IP:client} %{WORD:verb}"])?;
-//! let patterns = compile_all(alloc, &library, &texts, true)?;
-//! let mut explainer = Explainer::new(alloc, &library, &texts, &patterns, true)?;
+//! let texts = patterns_of(alloc, &["%{IP:client} %{WORD:verb}"], true)?;
+//! let patterns = compile_all(alloc, &library, texts)?;
+//! let mut explainer = Explainer::new(alloc, &library, &patterns)?;
 //! let report = explainer.report("line 1", "10.0.0.7 -")?; // it stops at %{WORD:verb}
 //! ```
 //!
@@ -23,7 +23,7 @@ mod stop_report;
 mod stops;
 mod written_definitions;
 
-pub use compiled::{compile, compile_all};
+pub use compiled::{RunPattern, compile_all};
 pub use diagnosis::bare_name;
 pub use explanation::explain;
 pub use from_logstash::{Adapted, adapt_all, adapt_own, own_wholes};

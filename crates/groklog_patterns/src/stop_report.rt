@@ -1,11 +1,13 @@
 //! Reports where a pattern stops in a line that doesn't match.
 
+use crate::compiled::RunPattern;
 use crate::stops::{Outermost, Searched, Stop, furthest_stop};
-use grok::{Location, Pattern};
-use groklog_definitions::{Library, PatternText};
-use groklog_input::{Excerpt, excerpt_of, visible};
+use grok::Location;
+use groklog_definitions::Library;
+use groklog_reports::{Excerpt, excerpt_of, visible};
 use regex_beginnings::{Found, Group};
 use std::alloc::{AllocError, Global};
+use std::fmt::Write;
 use std::ops::Range;
 
 /// How many characters are shown at most of a piece in a sentence, and of a value.
@@ -19,17 +21,21 @@ pub struct Explainer<'p, 'd> {
     all: Vec<Searched<'p, 'd>>,
 }
 
-/// Returns a text as messages show it, in one line and not too long.
-fn shown(alloc: Global, text: &str) -> Result<String, AllocError> {
+/// Returns the first `most` characters of a text, and three dots if it has more.
+pub(crate) fn cut_text(alloc: Global, text: &str, most: usize) -> Result<String, AllocError> {
     let mut part = String::new(alloc);
-    for c in text.chars().take(MOST_SHOWN) {
+    for c in text.chars().take(most) {
         part.push(c)?;
     }
-    let mut shown = visible(alloc, part.as_str())?;
     if part.len() < text.len() {
-        shown.push_str("...")?;
+        part.push_str("...")?;
     }
-    Ok(shown)
+    Ok(part)
+}
+
+/// Returns a text as messages show it, in one line and not too long.
+fn shown(alloc: Global, text: &str) -> Result<String, AllocError> {
+    visible(alloc, cut_text(alloc, text, MOST_SHOWN)?.as_str())
 }
 
 /// Returns words for a piece: its text without the blanks at its end, and whether it is a group. If it begins with a
@@ -55,8 +61,7 @@ fn push_excerpt(
     range: &Range<usize>,
 ) -> Result<(), AllocError> {
     let Excerpt { line, carets } = excerpt_of(alloc, text, range.start..range.end)?;
-    let lines = format!(in alloc; "  {line}\n  {carets}\n")?;
-    report.push_str(lines.as_str())
+    Ok(writeln!(report, "  {line}\n  {carets}")?)
 }
 
 /// Appends the line, with a caret where the match of a beginning ends. If the beginning is empty,
@@ -71,8 +76,7 @@ fn push_line(
         Some(found) => push_excerpt(alloc, report, line, &(found.end..found.end)),
         None => {
             let Excerpt { line, .. } = excerpt_of(alloc, line, 0..0)?;
-            let line = format!(in alloc; "  {line}\n")?;
-            report.push_str(line.as_str())
+            Ok(writeln!(report, "  {line}")?)
         }
     }
 }
@@ -94,8 +98,7 @@ fn push_fields(
             let key = visible(alloc, key)?;
             let value = shown(alloc, line.get(start..end).unwrap_or(""))?;
             report.push_str(if is_first { "  found so far: " } else { " " })?;
-            let field = format!(in alloc; "{key}={value}")?;
-            report.push_str(field.as_str())?;
+            write!(report, "{key}={value}")?;
             is_first = false;
         }
     }
@@ -157,17 +160,15 @@ fn bracket_in_line(
 }
 
 impl<'p, 'd> Explainer<'p, 'd> {
-    /// Takes the patterns of a run, with their texts.
+    /// Takes the patterns of a run.
     pub fn new(
         alloc: Global,
         library: &'p Library<'d>,
-        texts: &'p [PatternText],
-        patterns: &'p [Pattern],
-        with_alias_only: bool,
+        patterns: &'p [RunPattern],
     ) -> Result<Explainer<'p, 'd>, AllocError> {
         let mut all = Vec::new(alloc);
-        for (text, pattern) in texts.iter().zip(patterns) {
-            all.push(Searched::new(alloc, library, text, pattern, with_alias_only)?)?;
+        for pattern in patterns {
+            all.push(Searched::new(alloc, library, pattern)?)?;
         }
         Ok(Explainer {
             alloc,
@@ -250,10 +251,10 @@ fn push_advice(
     let Some(bracket) = bracket_in_line(searched, (line, stop), &groups)? else {
         return Ok(());
     };
-    let advice = format!(in alloc;
-        "  try: write \\{bracket} if you mean the {bracket} that the line has there\n"
-    )?;
-    report.push_str(advice.as_str())
+    Ok(writeln!(
+        report,
+        "  try: write \\{bracket} if you mean the {bracket} that the line has there"
+    )?)
 }
 
 /// Appends a piece in words, the line, and the pattern with carets under the piece.
@@ -284,8 +285,7 @@ fn push_inside(
         return Ok(());
     };
     let name = innermost.name;
-    let start = format!(in alloc; "  inside it, the definition {name}")?;
-    report.push_str(start.as_str())?;
+    write!(report, "  inside it, the definition {name}")?;
     if let Some(source) = library.source(name) {
         let origin = format!(in alloc; " ({})", source.origin)?;
         report.push_str(visible(alloc, origin.as_str())?.as_str())?;

@@ -1,6 +1,7 @@
 //! Finds where patterns stop in a line that doesn't match.
 
-use grok::{ByteLocation, Location, Pattern, WrittenByte};
+use crate::compiled::RunPattern;
+use grok::{ByteLocation, Location, WrittenByte};
 use groklog_definitions::{Library, PatternText};
 use regex_beginnings::{Beginnings, Found, Group, Piece};
 use std::alloc::{AllocError, Global};
@@ -11,7 +12,6 @@ use std::ops::Range;
 pub struct Searched<'p, 'd> {
     library: &'p Library<'d>,
     pub text: &'p PatternText,
-    with_alias_only: bool,
     pub beginnings: Beginnings<'p>,
     /// The keys, each after the number of its group, in the order of the groups.
     keys: Vec<(usize, &'p str)>,
@@ -33,7 +33,7 @@ pub struct Stop {
 pub struct Outermost {
     /// The byte range of the placeholder in the pattern.
     pub range: Range<usize>,
-    /// How many pieces come before it.
+    /// How many pieces come before the placeholder.
     pub count: usize,
 }
 
@@ -109,18 +109,16 @@ fn part_between<'p>(first: ByteLocation<'p>, last: &ByteLocation<'p>) -> Locatio
 }
 
 impl<'p, 'd> Searched<'p, 'd> {
-    /// Takes a pattern and its text.
+    /// Takes a pattern of a run.
     pub fn new(
         alloc: Global,
         library: &'p Library<'d>,
-        text: &'p PatternText,
-        pattern: &'p Pattern,
-        with_alias_only: bool,
+        run_pattern: &'p RunPattern,
     ) -> Result<Searched<'p, 'd>, AllocError> {
+        let RunPattern { text, pattern } = run_pattern;
         Ok(Searched {
             library,
             text,
-            with_alias_only,
             beginnings: Beginnings::new(alloc, pattern.text())?,
             keys: pattern.keys_by_group()?,
         })
@@ -192,7 +190,7 @@ impl<'p, 'd> Searched<'p, 'd> {
         let (grok, pattern) = (&self.library.grok, self.text.text.as_str());
         let ends = [part.start, part.end.saturating_sub(1)];
         let mut located = grok
-            .locate_bytes(pattern, self.with_alias_only, &ends)?
+            .locate_bytes(pattern, self.text.with_alias_only, &ends)?
             .into_iter()
             .flatten();
         let (Some(first), Some(last)) = (located.next(), located.next()) else {
@@ -211,7 +209,11 @@ impl<'p, 'd> Searched<'p, 'd> {
     pub fn outermost(&self, groups: &[Group]) -> Result<Option<Outermost>, AllocError> {
         let (grok, pattern) = (&self.library.grok, self.text.text.as_str());
         for group in groups.iter().rev() {
-            if let Some(location) = grok.locate_byte(pattern, self.with_alias_only, group.start)?
+            if let Some(location) = grok.locate_byte(
+                pattern,
+                self.text.with_alias_only,
+                group.start,
+            )?
                 && let WrittenByte::OfGroup = location.part
             {
                 return Ok(Some(Outermost {

@@ -1,20 +1,20 @@
 //! Writes the definitions of a run as the text of one file.
 
 use groklog_definitions::{read_definition, skip_blanks, without_mark};
-use groklog_input::{Fault, Report, TextFile};
+use groklog_reports::{Fault, Report, TextFile};
 use oniguruma_syntax::{Outcome, Rewritten, Wish, rewrite};
 use std::alloc::{AllocError, Global};
 
 /// The text of a file of definitions.
 #[derive(Drop)]
-struct Lines {
+struct WrittenLines {
     alloc: Global,
     text: String,
     /// How definitions are rewritten that were made for Logstash, or `None` if they stay as they are.
     wish: Option<Wish>,
 }
 
-impl Lines {
+impl WrittenLines {
     fn push(&mut self, line: &str, end: &str) -> Result<(), AllocError> {
         self.text.push_str(line)?;
         self.text.push_str(end)
@@ -107,7 +107,7 @@ pub fn definition_lines(
     wish: Option<Wish>,
 ) -> Result<String, Fault> {
     let text = String::new(alloc);
-    let mut lines = Lines { alloc, text, wish };
+    let mut lines = WrittenLines { alloc, text, wish };
     for file in files {
         lines.push_file(file.text.as_str())?;
     }

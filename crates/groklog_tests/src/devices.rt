@@ -3,9 +3,8 @@
 ghost use Rattle.std.specs.Prelude.{◌≡◌};
 
 use grok_lines::{LineAnswers, LinesError, handle_lines};
-use groklog_input::{
-    Answered, Encoding, Failure, Fault, FormedAnswers, LineForm, Watched, answer_input,
-};
+use groklog_input::{Answered, Encoding, FormedAnswers, LineForm, Watched, answer_input};
+use groklog_reports::{Fault, FileFailure};
 use std::alloc::AllocError;
 use std::io::{self, ErrorKind, Read, Write};
 use std::process::Abort;
@@ -181,7 +180,7 @@ fn words_of_the_system(rt: HostRuntime) -> Result<(), Fail> {
         (117, "the file system is damaged"),
         (121, "system error 121"),
     ] {
-        let failure = Failure::of(&io::Error::from_raw_os_error(number));
+        let failure = FileFailure::of(&io::Error::from_raw_os_error(number));
         let words = failure.to_string(rt.alloc())?;
         assert_eq!(rt; words.as_str(), expected);
     }
@@ -198,13 +197,13 @@ fn text_of_a_failed_write(rt: HostRuntime) -> Result<(), Fail> {
 }
 
 /// Answers the lines of an input with the lines as they are read in this form. Checks the answers, and what the lines show
-/// about their input: its encoding, whether its first line ends in a carriage return, and its first line that isn't UTF-8.
+/// about their input: its encoding, and its first line that isn't UTF-8.
 fn check_form(
     rt: &(impl Abort + AllocGlobal),
     form: LineForm,
     lines: &[u8],
     answers: &[u8],
-    (encoding, has_return, first_broken): (Encoding, bool, Option<u64>),
+    (encoding, first_broken): (Encoding, Option<u64>),
 ) -> Result<(), Fail> {
     let mut formed = FormedAnswers::new(rt.alloc(), Echo, form);
     let mut output = Vec::new(rt.alloc());
@@ -218,7 +217,6 @@ fn check_form(
     assert_eq!(rt; output.as_slice(), answers);
     let signs = formed.signs;
     assert!(rt; signs.encoding == encoding);
-    assert_eq!(rt; signs.has_return, has_return);
     assert_eq!(rt; signs.first_broken, first_broken);
     Ok(())
 }
@@ -236,14 +234,14 @@ fn lines_after_a_byte_order_mark(rt: HostRuntime) -> Result<(), Fail> {
         AS_IT_IS,
         b"\xef\xbb\xbf\xef\xbb\xbfp\r\n\xef\xbb\xbfq",
         b"\xef\xbb\xbfp\r\xef\xbb\xbfq",
-        (Encoding::Other, true, None),
+        (Encoding::Other, None),
     )?;
     check_form(
         &rt,
         AS_IT_IS,
         b"\xef\xbb\xbfp\xff\nq\r",
         b"p\xffq\r",
-        (Encoding::Other, false, Some(1)),
+        (Encoding::Other, Some(1)),
     )
 }
 
@@ -259,7 +257,7 @@ fn lines_without_carriage_returns(rt: HostRuntime) -> Result<(), Fail> {
         form,
         b"p\r\r\n\r\n\n\rq\n\xff\r",
         b"p\r\rq\xff",
-        (Encoding::Other, true, Some(5)),
+        (Encoding::Other, Some(5)),
     )
 }
 
@@ -271,9 +269,9 @@ fn lines_that_are_not_utf8(rt: HostRuntime) -> Result<(), Fail> {
         ..AS_IT_IS
     };
     let answers = "p\u{fffd}\u{fffd}!\r".as_bytes();
-    let signs = (Encoding::Other, false, Some(2));
+    let signs = (Encoding::Other, Some(2));
     check_form(&rt, form, b"p\n\xff\xe2\x82!\r\n", answers, signs)?;
-    let utf16 = (Encoding::Utf16, false, Some(1));
+    let utf16 = (Encoding::Utf16, Some(1));
     check_form(
         &rt,
         form,

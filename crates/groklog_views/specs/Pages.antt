@@ -1,5 +1,7 @@
 -- What a page lists, and what its shares are.
-use Rattle.std.specs.Prelude.{ℕ, ◌==◌, Bool, true, false, List, [], ◌∷◌, ◌++◌, if◌then◌else◌}
+use Rattle.std.specs.Prelude.{ℕ, ◌==◌, Bool, true, false, List, [], ◌∷◌, ◌++◌, if◌then◌else◌, codes, decimal}
+use Rattle.groklog_reports.specs.Visible.{visible}
+use Rattle.marked_lines.specs.Html.{escaped}
 use Rattle.groklog_answers.specs.Searches.{matched_in, unmatched_in, broken_in}
 use Rattle.groklog_answers.specs.declared.searches.Searches.{Searches}
 use Rattle.groklog_views.specs.declared.page.Share.{Share}
@@ -21,3 +23,12 @@ share_count share = share.count
 abbrev pub share_counts : Searches → List ℕ
 share_counts searches = matched_in searches ++ (unmatched_in searches
     ∷ (if broken_in searches == 0 then [] else broken_in searches ∷ []))
+
+-- These items of a list, and then the beginning of the item of the line or the event with this number.
+abbrev pub with_item_begin : List ℕ → ℕ → List ℕ
+with_item_begin items number = ((items ++ codes "<li value=\"") ++ escaped (visible (decimal number))) ++ codes "\">"
+
+-- These items, and then that of a line or an event that no pattern matches, if nothing is reported on it.
+abbrev pub with_unmatched : List ℕ → ℕ → List ℕ → List ℕ
+with_unmatched items number text = (((with_item_begin items number ++ codes "<code class=\"unmatched\">")
+    ++ escaped (visible text)) ++ codes "</code>") ++ codes "</li>\n"

@@ -1,6 +1,6 @@
 -- How lines are shown on a terminal.
 use Rattle.std.specs.Prelude.{◌≡◌, ℕ, Bool, List, ◌∷◌, ◌++◌, if◌then◌else◌, codes, chars, flat_map}
-use Rattle.groklog_input.specs.Visible.{visible}
+use Rattle.groklog_reports.specs.Visible.{visible}
 use Rattle.marked_lines.specs.Coloured.{coloured_run}
 use Rattle.marked_lines.specs.Runs.{keyed_bytes, run_bytes}
 use Rattle.marked_lines.specs.declared.runs.Field.{Field}

@@ -1,6 +1,7 @@
 //! What the values of a key are like, all together.
-ghost use Rattle.std.specs.Prelude.{Some, OnOk};
+ghost use Rattle.std.specs.Prelude.{◌≡◌, ◌≤◌, Some, OnOk, IfOk, IfSome, length, map};
 ghost use Rattle.groklog_answers.specs.KeyCounts.{CountsValue};
+ghost use Rattle.groklog_views.specs.Figures.{counted_value, value_at};
 
 use groklog_answers::{Counted, ValueCounts};
 use std::alloc::{AllocError, Global};
@@ -55,22 +56,30 @@ fn numbers_of<'c>(
     Ok(Some(numbers))
 }
 
-/// Returns the number that this many percent of `total` numbers don't exceed, and no smaller one does so.
-fn percentile<'c>(numbers: &[CountedNumber<'c>], total: u64, percent: u64) -> &'c str {
-    let rank = (total / 100).saturating_mul(percent);
-    let rank = rank.saturating_add((total % 100).saturating_mul(percent).div_ceil(100));
-    let mut passed = 0u64;
-    for number in numbers {
-        passed = passed.saturating_add(number.counted.count);
-        if passed >= rank {
+/// Returns the number at a rank, where the first one in order has the rank 1, and each has as many ranks as it came
+/// times.
+fn number_at<'c>(numbers: &[CountedNumber<'c>], rank: u64) -> &'c str
+    ensures { result.now ≡ value_at (map counted_value numbers.now) rank }
+{
+    let mut left = rank;
+    'numbers: for number in numbers {
+        if number.counted.count >= left {
             return number.counted.value;
         }
+        left -= number.counted.count;
     }
     ""
 }
 
-/// Returns what these values, `total` together, are like as numbers, or `None` if there are none or one of them isn't
-/// a number.
+/// Returns the least number that at least `percent` percent of the `total` numbers don't exceed.
+fn percentile<'c>(numbers: &[CountedNumber<'c>], total: u64, percent: u64) -> &'c str {
+    let rank = (total / 100).saturating_mul(percent);
+    let rank = rank.saturating_add((total % 100).saturating_mul(percent).div_ceil(100));
+    number_at(numbers, rank)
+}
+
+/// Returns the least, the median and the other figures of these values, of which there are `total`, as numbers. Returns
+/// `None` if there are none, or if one of them isn't a number.
 pub(crate) fn figures_of<'c>(
     alloc: Global,
     values: &[Counted<'c>],
@@ -103,6 +112,10 @@ fn is_hour(tens: u8, ones: u8) -> bool {
 /// Returns whether two bytes are the digits of a minute, from `00` to `59`.
 fn is_minute(tens: u8, ones: u8) -> bool {
     matches!(tens, b'0'..=b'5') && ones.is_ascii_digit()
+}
+
+fn is_hour_or_minute(tens: u8, ones: u8) -> bool {
+    is_hour(tens, ones) || is_minute(tens, ones)
 }
 
 /// Returns whether a time of day, such as `06:25`, begins at this byte. No digit stands around it, and no point
@@ -170,6 +183,8 @@ impl KeyValues {
 #[derive(Clone, Copy)]
 pub(crate) struct Stretch<'t> {
     pub(crate) beginning: &'t str,
+    /// Whether the beginning ends after the tens of the minutes or of the seconds.
+    pub(crate) is_of_tens: bool,
     pub(crate) count: u64,
 }
 
@@ -179,10 +194,13 @@ fn stretches_at<'t>(
     alloc: Global,
     times: &'t [String],
     cut: usize,
-) -> Result<Option<Vec<Stretch<'t>>>, AllocError> {
+) -> Result<Option<Vec<Stretch<'t>>>, AllocError>
+    ensures { IfOk result (λ found. IfSome found (λ stretches. length stretches.items ≤ 24)) }
+{
     let mut stretches: Vec<Stretch<'t>> = Vec::new(alloc);
-    for time in times {
+    'times: for time in times {
         let beginning = time.as_str().get(..cut).unwrap_or(time.as_str());
+        let is_of_tens = is_between_digits(time.as_str(), cut);
         if let Some(last) = stretches.last_mut()
             && last.beginning == beginning
         {
@@ -192,17 +210,38 @@ fn stretches_at<'t>(
         if stretches.len() == MOST_STRETCHES {
             return Ok(None);
         }
-        let count = 1;
-        stretches.push(Stretch { beginning, count })?;
+        stretches.push(Stretch {
+            beginning,
+            is_of_tens,
+            count: 1,
+        })?;
     }
     Ok(Some(stretches))
 }
 
-/// Returns whether a time can be cut after this many bytes: at its end, or before a byte that is neither a letter
-/// nor a digit.
+/// Returns whether the digits of a minute or a second stand around this byte position: its tens come after two digits
+/// and a colon, as in `06:2`.
+fn is_between_digits(time: &str, cut: usize) -> bool {
+    let bytes = time.as_bytes();
+    let Some([before @ .., a, b, b':', tens]) = bytes.get(..cut) else {
+        return false;
+    };
+    let is_in_time = match before.last() {
+        Some(before) => !before.is_ascii_digit(),
+        None => true,
+    };
+    let is_before_digit = match bytes.get(cut) {
+        Some(ones) => ones.is_ascii_digit(),
+        None => false,
+    };
+    is_in_time && is_hour_or_minute(*a, *b) && tens.is_ascii_digit() && is_before_digit
+}
+
+/// Returns whether a time can be cut after this many bytes: at its end, before a byte that is neither a letter nor a
+/// digit, or after the tens of its minutes or seconds.
 fn is_cut(time: &str, cut: usize) -> bool {
     match time.as_bytes().get(cut) {
-        Some(b) => !b.is_ascii_alphanumeric(),
+        Some(b) => !b.is_ascii_alphanumeric() || is_between_digits(time, cut),
         None => true,
     }
 }
@@ -212,11 +251,13 @@ fn is_cut(time: &str, cut: usize) -> bool {
 pub(crate) fn stretches_of<'t>(
     alloc: Global,
     times: &'t [String],
-) -> Result<Vec<Stretch<'t>>, AllocError> {
+) -> Result<Vec<Stretch<'t>>, AllocError>
+    ensures { IfOk result (λ stretches. length stretches.items ≤ 24) }
+{
     let Some(first) = times.first() else {
         return Ok(Vec::new(alloc));
     };
-    for cut in (1..=first.len()).rev() {
+    'cuts: for cut in (1..=first.len()).rev() {
         if is_cut(first.as_str(), cut)
             && let Some(stretches) = stretches_at(alloc, times, cut)?
         {

@@ -8,10 +8,10 @@ ghost use Rattle.groklog_answers.specs.PlanViews.{names_of};
 ghost use Rattle.groklog_views.specs.Fields.{field_text, fields_text, numbered_value, numbers_at, values_at};
 
 use grok::{MatchesRef, Pattern};
-use groklog_answers::LineMatch;
+use groklog_answers::{LineMatch, NamedPattern};
 use marked_lines::Field;
 use std::alloc::{AllocError, Global};
-use std::collections::BTreeMap;
+use std::collections::{BTreeMap, BTreeSet};
 use std::ops::Range;
 
 /// Finds where in a line the values of the keys are.
@@ -32,7 +32,7 @@ struct KeyNumbers<'p> {
     keys: Vec<&'p str>,
     numbers: BTreeMap<&'p str, usize>,
     /// The keys that count, if not all do.
-    chosen: Option<BTreeMap<&'p str, ()>>,
+    chosen: Option<BTreeSet<&'p str>>,
 }
 
 impl<'p> KeyNumbers<'p> {
@@ -40,9 +40,9 @@ impl<'p> KeyNumbers<'p> {
     fn new(alloc: Global, fields: Option<&[&'p str]>) -> Result<KeyNumbers<'p>, AllocError> {
         let mut chosen = None;
         if let Some(fields) = fields {
-            let mut named = BTreeMap::new(alloc);
+            let mut named = BTreeSet::new(alloc);
             for field in fields {
-                named.insert(*field, ())?;
+                named.insert(*field)?;
             }
             chosen = Some(named);
         }
@@ -56,7 +56,7 @@ impl<'p> KeyNumbers<'p> {
     /// Returns whether a key counts.
     fn counts(&self, key: &'p str) -> bool {
         match &self.chosen {
-            Some(chosen) => chosen.contains_key(&key),
+            Some(chosen) => chosen.contains(&key),
             None => true,
         }
     }
@@ -128,13 +128,13 @@ impl<'a> LocatedFields<'a> {
     /// Takes the patterns of a run, in their order. If `fields` is given, only these keys count.
     pub fn new(
         alloc: Global,
-        patterns: &'a [Pattern],
+        patterns: &[NamedPattern<'a>],
         fields: Option<&[&'a str]>,
     ) -> Result<LocatedFields<'a>, AllocError> {
         let mut numbers = KeyNumbers::new(alloc, fields)?;
         let mut numbers_of = Vec::new(alloc);
-        for pattern in patterns {
-            numbers_of.push(numbers.numbers_of(alloc, pattern)?)?;
+        for NamedPattern { pattern, .. } in patterns {
+            numbers_of.push(numbers.numbers_of(alloc, *pattern)?)?;
         }
         let KeyNumbers { keys, .. } = numbers;
         Ok(LocatedFields {

@@ -3,10 +3,10 @@ ghost use Rattle.std.specs.Prelude.{◌≡◌, IfOk, map};
 ghost use Rattle.groklog_answers.specs.{matched_in};
 ghost use Rattle.groklog_views.specs.Pages.{share_count, share_counts};
 
-use crate::key_figures::{KeyValues, figures_of, stretches_of};
+use crate::key_figures::{KeyValues, Stretch, figures_of, stretches_of};
 use crate::page_content::{EXPLAINED, PageContent};
 use groklog_answers::{Counted, Failure, Flow, Searches};
-use groklog_input::Unit;
+use groklog_reports::Unit;
 use marked_lines::Html;
 use std::alloc::{AllocError, Global};
 
@@ -196,26 +196,38 @@ fn push_commonest(
     push_rest(alloc, html, sorted.len())
 }
 
+/// Appends a row for the times of a stretch. Ten minutes or seconds are called by the first of them.
+fn push_stretch(
+    alloc: Global,
+    html: &mut Html,
+    stretch: Stretch<'_>,
+    greatest: u64,
+) -> Result<(), AllocError> {
+    let mut value = String::from_str(alloc, stretch.beginning)?;
+    value.push_str(if stretch.is_of_tens { "0" } else { "" })?;
+    let (value, count) = (value.as_str(), stretch.count);
+    push_count(alloc, html, Counted { value, count }, greatest)
+}
+
 /// Appends the first and the last of some times, and how many there are over time.
 fn push_times(alloc: Global, html: &mut Html, times: &[String]) -> Result<(), AllocError> {
     let (Some(first), Some(last)) = (times.first(), times.last()) else {
         return Ok(());
     };
-    let words = format!(in alloc; "from {first} to {last}")?;
+    let words = format!(in alloc; "in the order of the lines, the first {first}, the last {last}")?;
     push_paragraph(html, words.as_str())?;
     let stretches = stretches_of(alloc, times)?;
     let greatest = stretches.iter().map(|stretch| stretch.count).max();
     html.push_markup("<table>\n")?;
     for stretch in &stretches {
-        let (value, count) = (stretch.beginning, stretch.count);
-        push_count(alloc, html, Counted { value, count }, greatest.unwrap_or(0))?;
+        push_stretch(alloc, html, *stretch, greatest.unwrap_or(0))?;
     }
     html.push_markup("</table>\n")
 }
 
 /// Appends what is worth seeing of the values of a key. Times are counted over time. Of numbers the least, the
 /// median, the 95th percentile and the greatest are given. The commonest values follow if a value came twice,
-/// or if there are only a few values and not all are numbers.
+/// or if there are only a few values.
 fn push_values(
     alloc: Global,
     html: &mut Html,
@@ -225,8 +237,7 @@ fn push_values(
     if let Some(times) = &values.times {
         return push_times(alloc, html, times);
     }
-    let figures = figures_of(alloc, sorted, values.total)?;
-    if let Some(figures) = figures {
+    if let Some(figures) = figures_of(alloc, sorted, values.total)? {
         let (least, median, p95) = (figures.least, figures.median, figures.p95);
         let words = format!(in alloc;
             "least {least}, median {median}, 95th percentile {p95}, greatest {}",
@@ -235,23 +246,21 @@ fn push_values(
         push_paragraph(html, words.as_str())?;
     }
     let has_repeated = sorted.first().is_some_and(|counted| counted.count > 1);
-    if has_repeated || (figures.is_none() && sorted.len() <= MOST_VALUES) {
+    if has_repeated || sorted.len() <= MOST_VALUES {
         push_commonest(alloc, html, sorted)?;
     }
     Ok(())
 }
 
-/// Returns how many values there are, and how many different ones.
+/// Returns how many values there are, and how many different ones, of which there are several.
 fn totals_in_words(
     alloc: Global,
     total: u64,
     sorted: &[Counted<'_>],
 ) -> Result<String, AllocError> {
     let different = sorted.len();
-    match sorted {
-        [one] if one.count == 1 => String::from_str(alloc, "1 value"),
-        [_] => format!(in alloc; "{total} values, all the same"),
-        [first, ..] if first.count == 1 => format!(in alloc;
+    match sorted.first() {
+        Some(first) if first.count == 1 => format!(in alloc;
             "{total} values, all different, such as {}",
             first.value
         ),
@@ -259,23 +268,50 @@ fn totals_in_words(
     }
 }
 
-/// Appends a key with what is worth seeing of its values, of which there is one at least.
-fn push_key(
-    alloc: Global,
-    html: &mut Html,
-    (number, key): (usize, &str),
-    values: &KeyValues,
-) -> Result<(), AllocError> {
-    let sorted = values.counts.sorted()?;
-    html.push_markup("<section>\n<h3><span class=\"")?;
+fn push_key_name(html: &mut Html, (number, key): (usize, &str)) -> Result<(), AllocError> {
+    html.push_markup("<span class=\"")?;
     html.push_class(number)?;
     html.push_markup("\">")?;
     html.push_text(key)?;
-    html.push_markup("</span></h3>\n")?;
-    let totals = totals_in_words(alloc, values.total, &sorted)?;
+    html.push_markup("</span>")
+}
+
+/// Appends a key with what is worth seeing of its values, of which there are several.
+fn push_key(
+    alloc: Global,
+    html: &mut Html,
+    key: (usize, &str),
+    values: &KeyValues,
+    sorted: &[Counted<'_>],
+) -> Result<(), AllocError> {
+    html.push_markup("<section>\n<h3>")?;
+    push_key_name(html, key)?;
+    html.push_markup("</h3>\n")?;
+    let totals = totals_in_words(alloc, values.total, sorted)?;
     push_paragraph(html, totals.as_str())?;
-    push_values(alloc, html, values, &sorted)?;
+    push_values(alloc, html, values, sorted)?;
     html.push_markup("</section>\n")
+}
+
+/// Appends a key whose values are all the same to a paragraph of such keys.
+fn push_constant_key(
+    alloc: Global,
+    html: &mut Html,
+    key: (usize, &str),
+    only: Counted<'_>,
+    unit: Unit,
+) -> Result<(), AllocError> {
+    html.push_markup(if html.as_str().is_empty() {
+        "<p>Keys with one value: "
+    } else {
+        ", "
+    })?;
+    push_key_name(html, key)?;
+    html.push_markup(" <code>")?;
+    html.push_text(only.value)?;
+    html.push_markup("</code> (")?;
+    html.push_text(unit.counted(alloc, only.count)?.as_str())?;
+    html.push_markup(")")
 }
 
 /// Appends the keys that have no value, if there are any.
@@ -303,23 +339,27 @@ fn push_keys_without_value(
 }
 
 /// Appends each key with what is worth seeing of its values.
-fn push_keys(
-    alloc: Global,
-    html: &mut Html,
-    keys: &[&str],
-    all_values: &[KeyValues],
-) -> Result<(), AllocError> {
+fn push_keys(alloc: Global, html: &mut Html, content: &PageContent<'_>) -> Result<(), AllocError> {
+    let keys = content.located.keys.as_slice();
     if keys.is_empty() {
         return Ok(());
     }
+    let mut constant = Html::new(alloc);
     html.push_markup("<h2>Keys</h2>\n<div class=\"keys\">\n")?;
-    for ((number, key), values) in keys.iter().enumerate().zip(all_values) {
-        if values.total > 0 {
-            push_key(alloc, html, (number, *key), values)?;
+    for ((number, key), values) in keys.iter().enumerate().zip(&content.values) {
+        let (key, sorted) = ((number, *key), values.counts.sorted()?);
+        match sorted.as_slice() {
+            [] => {}
+            [only] => push_constant_key(alloc, &mut constant, key, *only, content.scope.unit)?,
+            several => push_key(alloc, html, key, values, several)?,
         }
     }
     html.push_markup("</div>\n")?;
-    push_keys_without_value(alloc, html, keys, all_values)
+    if !constant.as_str().is_empty() {
+        html.push_html(&constant)?;
+        html.push_markup("</p>\n")?;
+    }
+    push_keys_without_value(alloc, html, keys, &content.values)
 }
 
 /// Appends the beginning of the page, with the names of its files.
@@ -344,10 +384,16 @@ fn push_head(alloc: Global, html: &mut Html, files: &[&str]) -> Result<(), Alloc
 
 /// Returns the sentence that says which lines or events the page has.
 fn read_lines_in_words(alloc: Global, content: &PageContent<'_>) -> Result<String, AllocError> {
-    let lines = content.scope.unit.counted(alloc, content.count)?;
-    match content.flow() {
-        Flow::Enough => format!(in alloc; "The first {lines} were read: --max N reads more."),
-        Flow::More => format!(in alloc; "All {lines} were read."),
+    let unit = content.scope.unit;
+    let lines = unit.counted(alloc, content.count)?;
+    match (content.flow(), content.count) {
+        (Flow::Enough, 1) => format!(in alloc;
+            "The first {} was read: --max N reads more.",
+            unit.word(1)
+        ),
+        (Flow::Enough, _) => format!(in alloc; "The first {lines} were read: --max N reads more."),
+        (Flow::More, 1) => format!(in alloc; "The only {} was read.", unit.word(1)),
+        (Flow::More, _) => format!(in alloc; "All {lines} were read."),
     }
 }
 
@@ -386,7 +432,7 @@ pub fn page_html(
     html.push_text(words.as_str())?;
     html.push_markup("</p>\n")?;
     push_shares(alloc, &mut html, content, &shares)?;
-    push_keys(alloc, &mut html, &content.located.keys, &content.values)?;
+    push_keys(alloc, &mut html, content)?;
     push_items(alloc, &mut html, content)?;
     Ok(html)
 }

@@ -1,11 +1,11 @@
 //! What the page of `--html` shows of the first lines or events.
-ghost use Rattle.std.specs.Prelude.{◌≡◌, [], nat_lt, if◌then◌else◌, ◌<◌, ◌+◌, ◌^◌, IfOk};
-ghost use Rattle.groklog_views.specs.Pages.{lists_unmatched};
+ghost use Rattle.std.specs.Prelude.{◌≡◌, [], nat_lt, if◌then◌else◌, ◌<◌, ◌+◌, ◌^◌, IfOk, OnOk};
+ghost use Rattle.groklog_views.specs.Pages.{lists_unmatched, with_item_begin, with_unmatched};
 
 use crate::key_figures::KeyValues;
 use crate::located_fields::LocatedFields;
 use groklog_answers::{Flow, FoundLine, LineMatch, Lines};
-use groklog_input::Unit;
+use groklog_reports::Unit;
 use marked_lines::{Field, Html, runs_of};
 use std::alloc::{AllocError, Global};
 
@@ -106,6 +106,7 @@ impl<'a> PageContent<'a> {
 
     /// Begins the item of the line with this number, or of the event whose first line has it.
     fn begin_item(&mut self, number: u64) -> Result<(), AllocError>
+        ensures items { OnOk result (self.new.items ≡ with_item_begin self.old.items number) }
         ensures titles { self.new.titles ≡ self.old.titles }
         ensures scope { self.new.scope ≡ self.old.scope }
         ensures count { self.new.count ≡ self.old.count }
@@ -146,6 +147,8 @@ impl<'a> PageContent<'a> {
 
     /// Adds a line or an event that no pattern matches, with a report on it, which may be empty.
     pub fn add_unmatched(&mut self, line: FoundLine<'_>, report: &str) -> Result<(), AllocError>
+        ensures item { OnOk result (report.now ≡ [] → self.new.items
+            ≡ with_unmatched self.old.items line.entry.number line.entry.text.now) }
         ensures scope { self.new.scope ≡ self.old.scope }
         ensures count { self.new.count ≡ self.old.count }
     {

@@ -2,7 +2,7 @@
 ghost use Rattle.std.specs.Prelude.{◌≡◌, true, IfOk, string_bytes};
 ghost use Rattle.groklog_views.specs.Shown.{unmatched_shown, IsColoured};
 
-use groklog_input::visible;
+use groklog_reports::{push_visible, visible};
 use marked_lines::{Field, Run, letter_of, push_coloured, push_letters, runs_of};
 use std::alloc::{AllocError, Global};
 
@@ -19,7 +19,7 @@ pub fn legend_of(alloc: Global, keys: &[&str], is_coloured: bool) -> Result<Stri
         if is_coloured {
             let text = String::from_str(alloc, key)?;
             let key = Some(number);
-            push_coloured(alloc, &mut legend, &[Run { key, text }])?;
+            push_coloured(&mut legend, &[Run { key, text }])?;
         } else {
             let key = visible(alloc, key)?;
             legend.push(letter_of(number))?;
@@ -51,8 +51,7 @@ fn push_lettered(
     line: &str,
     runs: &[Run],
 ) -> Result<(), AllocError> {
-    let line = visible(alloc, line)?;
-    shown.push_str(line.as_str())?;
+    push_visible(shown, line)?;
     let mut row = String::new(alloc);
     push_letters(alloc, &mut row, runs)?;
     let row = row.as_str().trim_end();
@@ -76,7 +75,7 @@ pub fn shown_line(
     let runs = runs_of(alloc, line, fields)?;
     let mut shown = String::new(alloc);
     if is_coloured {
-        push_coloured(alloc, &mut shown, &runs)?;
+        push_coloured(&mut shown, &runs)?;
     } else {
         push_lettered(alloc, &mut shown, line, &runs)?;
     }

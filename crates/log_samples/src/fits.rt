@@ -5,10 +5,10 @@ ghost use Rattle.grok.specs.BorrowedMatches.{borrowed_keys, borrowed_captures};
 ghost use Rattle.log_samples.specs.Fits.{tells, fits};
 
 use crate::compiled::compile_valid;
-use crate::definitions::Definitions;
 use grok::{Matcher, MatchesRef, Pattern};
+use groklog_definitions::Library;
 use std::alloc::{AllocError, Global};
-use std::collections::BTreeMap;
+use std::collections::BTreeSet;
 
 /// How well a pattern fits some lines.
 #[derive(Clone, Copy, PartialEq, Eq)]
@@ -77,14 +77,14 @@ fn tells(matches: MatchesRef<'_>, line: &str) -> bool
 /// The keys of a pattern that have had no value yet.
 #[derive(Drop)]
 struct MissingKeys<'p> {
-    keys: BTreeMap<&'p str, ()>,
+    keys: BTreeSet<&'p str>,
 }
 
 impl<'p> MissingKeys<'p> {
     fn of(alloc: Global, pattern: &'p Pattern) -> Result<MissingKeys<'p>, AllocError> {
-        let mut keys = BTreeMap::new(alloc);
+        let mut keys = BTreeSet::new(alloc);
         for key in pattern.capture_names() {
-            keys.insert(key, ())?;
+            keys.insert(key)?;
         }
         Ok(MissingKeys { keys })
     }
@@ -176,13 +176,13 @@ impl Candidate {
     /// compiled, or fits no line.
     pub fn new(
         alloc: Global,
-        definitions: Definitions<'_>,
+        library: &Library<'_>,
         text: String,
         lines: &[&str],
     ) -> Result<Option<Candidate>, AllocError>
         ensures { IfOk result (λ found. IfSome found (λ candidate. 0 < candidate.fit.lines)) }
     {
-        let Some(pattern) = compile_valid(definitions, text.as_str())? else {
+        let Some(pattern) = compile_valid(library, text.as_str())? else {
             return Ok(None);
         };
         let FittedLines { each, fit } = fitted_lines(alloc, &pattern, lines)?;

@@ -4,7 +4,7 @@
 //! A [`Candidate`] is a pattern with the lines that it fits, and a [`Cutter`] cuts a line into tokens, of which nothing is lost:
 //!
 //! ```text
-//! let recognizer = Recognizer::new(alloc, definitions)?;
+//! let recognizer = Recognizer::new(alloc, &library)?;
 //! let mut cutter = Cutter::new(alloc, recognizer.search(alloc)?);
 //! let tokens = cutter.cut("12 user bob")?; // a number, a blank, a word, a blank, and a word
 //! ```
@@ -13,7 +13,6 @@
 #![tactic(auto)]
 
 mod compiled;
-mod definitions;
 mod events;
 mod fits;
 mod literals;
@@ -23,11 +22,10 @@ mod tokens;
 mod values;
 
 pub use compiled::compile_valid;
-pub use definitions::Definitions;
 pub use events::first_line;
 pub use fits::{Candidate, Fit, count, finds_each};
 pub use literals::literal;
 pub use log_kinds::{LogKind, kind_of_log};
 pub use recognizer::{Known, Meaning, Recognizer, RecognizerSearch, known_definition};
-pub use tokens::{Cutter, Kind, Token};
+pub use tokens::{Cutter, Kind, LineToken};
 pub use values::{separator_of, value_at, value_count};

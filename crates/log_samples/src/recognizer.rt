@@ -1,8 +1,8 @@
 //! Finds in lines what definitions recognize, such as times and addresses.
 
 use crate::compiled::compile_valid;
-use crate::definitions::Definitions;
 use grok::Grok;
+use groklog_definitions::Library;
 use regex::{CaptureLocations, Matcher, Regex};
 use std::alloc::{AllocError, Global};
 
@@ -83,8 +83,8 @@ struct Group {
 
 /// Recognizes what known definitions find, as far as a library has them: times, addresses, levels, numbers and the like.
 #[derive(Drop)]
-pub struct Recognizer<'d> {
-    pub definitions: Definitions<'d>,
+pub struct Recognizer<'r, 'd> {
+    pub library: &'r Library<'d>,
     /// The alternatives, or `None` if the library has none of the definitions.
     regex: Option<Regex>,
     groups: Vec<Group>,
@@ -122,19 +122,19 @@ fn alternatives(alloc: Global, grok: &Grok) -> Result<String, AllocError> {
     Ok(text)
 }
 
-impl<'d> Recognizer<'d> {
-    /// Makes the recognizer with these definitions. If one of them has a fault, nothing is recognized.
-    pub fn new(alloc: Global, definitions: Definitions<'d>) -> Result<Recognizer<'d>, AllocError> {
+impl<'r, 'd> Recognizer<'r, 'd> {
+    /// Makes the recognizer with the definitions of a library. If one of them has a fault, nothing is recognized.
+    pub fn new(alloc: Global, library: &'r Library<'d>) -> Result<Recognizer<'r, 'd>, AllocError> {
         let mut groups = Vec::new(alloc);
-        let text = alternatives(alloc, definitions.grok)?;
+        let text = alternatives(alloc, &library.grok)?;
         let pattern = if text.is_empty() {
             None
         } else {
-            compile_valid(definitions, text.as_str())?
+            compile_valid(library, text.as_str())?
         };
         let Some(pattern) = pattern else {
             return Ok(Recognizer {
-                definitions,
+                library,
                 regex: None,
                 groups,
             });
@@ -147,7 +147,7 @@ impl<'d> Recognizer<'d> {
         }
         match Regex::new(alloc, pattern.text()) {
             Ok(regex) => Ok(Recognizer {
-                definitions,
+                library,
                 regex: Some(regex),
                 groups,
             }),

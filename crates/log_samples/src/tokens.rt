@@ -34,7 +34,7 @@ pub enum Kind {
 
 /// A part of a line.
 #[derive(Clone, Copy)]
-pub struct Token<'l> {
+pub struct LineToken<'l> {
     pub kind: Kind,
     pub text: &'l str,
 }
@@ -144,7 +144,7 @@ impl<'r> Cutter<'r> {
     }
 
     /// Cuts a line. Nothing of it is lost: the tokens, one after another, are the line.
-    pub fn cut<'l>(&mut self, line: &'l str) -> Result<Vec<Token<'l>>, AllocError>
+    pub fn cut<'l>(&mut self, line: &'l str) -> Result<Vec<LineToken<'l>>, AllocError>
         ensures { IfOk result (λ tokens. joined tokens.items ≡ line.now) }
     {
         let part = part_looked_at(line);
@@ -163,11 +163,11 @@ impl<'r> Cutter<'r> {
             let Some((text, after)) = rest.split_at_checked(len) else {
                 break;
             };
-            tokens.push(Token { kind, text })?;
+            tokens.push(LineToken { kind, text })?;
             rest = after;
         }
         let kind = Kind::Rest;
-        tokens.push(Token { kind, text: rest })?;
+        tokens.push(LineToken { kind, text: rest })?;
         Ok(tokens)
     }
 }

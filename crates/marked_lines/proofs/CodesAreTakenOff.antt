@@ -2,7 +2,7 @@
 use Rattle.std.proofs.Common.{◌≡◌, ℕ, ◌%◌, Bool, true, false, cond, ◌==◌, ◌||◌, Option, None, Some, List, [], ◌∷◌, ◌++◌, flat_map, refl, ap, ◌∙◌, append_assoc, arith, string_bytes}
 use Rattle.std.proofs.lemmas.Str.{IsUtf8-string_bytes}
 use Rattle.std.specs.List.{list_any}
-use Rattle.groklog_input.specs.Visible.{visible}
+use Rattle.groklog_reports.specs.Visible.{visible}
 use Rattle.marked_lines.specs.Colours.{colour_digit, colour_code, digit_of_rest}
 use Rattle.marked_lines.specs.Coloured.{coloured, coloured_run, end_code, without_codes}
 use Rattle.marked_lines.specs.Runs.{runs_text}

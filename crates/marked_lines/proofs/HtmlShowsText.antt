@@ -4,7 +4,7 @@ use Rattle.std.proofs.lemmas.Bool.{eqb-true}
 use Rattle.std.proofs.lemmas.Grind.{flat_map-append}
 use Rattle.std.proofs.lemmas.List.{append-nil}
 use Rattle.std.specs.Char.{encode_utf8}
-use Rattle.groklog_input.specs.Visible.{visible}
+use Rattle.groklog_reports.specs.Visible.{visible}
 use Rattle.marked_lines.specs.Colours.{colour_digit, digit_of_rest}
 use Rattle.marked_lines.specs.Html.{InText, InTag, InReference, escaped, escaped_byte, is_markup, has_markup, html_text, marked_html, run_html, title_at}
 use Rattle.marked_lines.specs.Runs.{runs_text}

@@ -5,8 +5,8 @@ use Rattle.std.proofs.lemmas.Str.{encodes-append, chars-append, chars-nil, IsUtf
 use Rattle.std.specs.Char.{encode_utf8}
 use Rattle.std.specs.List.{list_any}
 use Rattle.std.specs.Str.{chars, encode_utf8_all, IsUtf8}
-use Rattle.groklog_input.specs.Visible.{is_raw, shown_char, visible}
-use Rattle.groklog_input.proofs.ShownTextHasNoRawCharacter.{shown_characters}
+use Rattle.groklog_reports.specs.Visible.{is_raw, shown_char, visible}
+use Rattle.groklog_reports.proofs.ShownTextHasNoRawCharacter.{shown_characters}
 use Rattle.marked_lines.specs.Runs.{runs_text}
 use Rattle.marked_lines.specs.declared.runs.Run.{Run}
 use lib.Utf8.{encode, next}

@@ -1,6 +1,6 @@
 -- Runs in colours, and the text that a terminal shows of them.
 use Rattle.std.specs.Prelude.{ℕ, ◌==◌, Bool, true, false, List, [], ◌∷◌, ◌++◌, Option, Some, None, if◌then◌else◌, string_bytes}
-use Rattle.groklog_input.specs.Visible.{visible}
+use Rattle.groklog_reports.specs.Visible.{visible}
 use Rattle.marked_lines.specs.Colours.{colour_code}
 use Rattle.marked_lines.specs.declared.runs.Run.{Run}
 

@@ -1,7 +1,7 @@
 -- The letters that stand under the columns of a field.
 use Rattle.std.specs.Prelude.{ℕ, ◌+◌, ◌%◌, ◌-◌, List, Option, Some, None, if◌then◌else◌, nat_lt, false, replicate, chars, string_bytes}
 use Rattle.unicode_width.specs.Width.{str_width}
-use Rattle.groklog_input.specs.Visible.{visible}
+use Rattle.groklog_reports.specs.Visible.{visible}
 use Rattle.marked_lines.specs.declared.runs.Run.{Run}
 
 -- The letter of a key: `a` to `z` for the first keys, then `A` to `Z`, and then `a` again.

@@ -1,9 +1,9 @@
 //! Escapes text for HTML.
 ghost use Rattle.std.specs.Prelude.{◌≡◌, ◌++◌, OnOk, string_bytes, encode_utf8};
-ghost use Rattle.groklog_input.specs.Visible.{visible};
+ghost use Rattle.groklog_reports.specs.Visible.{visible};
 ghost use Rattle.marked_lines.specs.Html.{escaped};
 
-use groklog_input::visible;
+use groklog_reports::visible;
 use std::alloc::{AllocError, Global};
 
 fn push_escaped_char(html: &mut String, c: char) -> Result<(), AllocError>

@@ -1,6 +1,6 @@
 //! Writes HTML in which foreign text is escaped.
 ghost use Rattle.std.specs.Prelude.{◌≡◌, [], ◌∷◌, ◌++◌, false, OnOk, map, flat_map, string_bytes};
-ghost use Rattle.groklog_input.specs.Visible.{visible};
+ghost use Rattle.groklog_reports.specs.Visible.{visible};
 ghost use Rattle.marked_lines.specs.Colours.{colour_digit};
 ghost use Rattle.marked_lines.specs.Html.{InText, escaped, has_markup, html_text, run_html, span_begin, title_at};
 ghost use Rattle.marked_lines.specs.Runs.{runs_text};

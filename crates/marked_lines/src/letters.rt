@@ -3,7 +3,7 @@ ghost use Rattle.std.specs.Prelude.{◌≡◌, ◌<◌, ◌++◌, OnOk, flat_map
 ghost use Rattle.marked_lines.specs.Letters.{letter_of, letter_or_blank, run_letters};
 
 use crate::runs::Run;
-use groklog_input::visible;
+use groklog_reports::push_visible;
 use std::alloc::{AllocError, Global};
 use unicode_width::UnicodeWidthStr;
 
@@ -39,10 +39,12 @@ fn push_many(row: &mut String, letter: char, count: usize) -> Result<(), AllocEr
     Ok(())
 }
 
-fn push_run_letters(alloc: Global, row: &mut String, run: &Run) -> Result<(), AllocError>
+/// Appends the letters under a run. The text of the run is shown in `shown` before.
+fn push_run_letters(row: &mut String, shown: &mut String, run: &Run) -> Result<(), AllocError>
     ensures { OnOk result (string_bytes row.new ≡ string_bytes row.old ++ run_letters run.now) }
 {
-    let shown = visible(alloc, run.text.as_str())?;
+    shown.clear();
+    push_visible(shown, run.text.as_str())?;
     let letter = letter_or_blank(run.key);
     push_many(row, letter, shown.as_str().width())
 }
@@ -54,8 +56,9 @@ pub fn push_letters(alloc: Global, row: &mut String, runs: &[Run]) -> Result<(),
     ensures { OnOk result (string_bytes row.new
         ≡ string_bytes row.old ++ flat_map run_letters runs.now) }
 {
+    let mut shown = String::new(alloc);
     'runs: for run in runs {
-        push_run_letters(alloc, row, run)?;
+        push_run_letters(row, &mut shown, run)?;
     }
     Ok(())
 }

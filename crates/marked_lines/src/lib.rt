@@ -1,13 +1,13 @@
 //! Marks the fields of a line: in colours for a terminal, and in HTML for a page.
 //!
 //! [`runs_of`] cuts a line into runs of characters with one key. [`push_coloured`] and
-//! [`Html::push_runs`] write them, and without its marks what they write is the line, as
-//! [`visible`](groklog_input::visible) shows it:
+//! [`Html::push_runs`] write them. Without the marks, what they write is the line as
+//! [`visible`](groklog_reports::visible) shows it:
 //!
 //! ```text
 //! let fields = [Field { key: 0, start: 0, end: 4 }];
 //! let runs = runs_of(alloc, "root logged in", &fields)?;
-//! push_coloured(alloc, &mut text, &runs)?; // root is coloured
+//! push_coloured(&mut text, &runs)?; // root is coloured
 //! ```
 //!
 //! Where a call has no section `# Errors`, its error is a failed allocation.

@@ -1,9 +1,8 @@
 //! Cuts a line into runs of characters that have one key.
-ghost use Rattle.std.specs.Prelude.{◌≡◌, ◌++◌, IfOk, OnOk, flat_map, chars, encode_utf8, string_bytes};
-ghost use Rattle.marked_lines.specs.Runs.{key_at, keyed_bytes, run_bytes, runs_text, with_key};
+ghost use Rattle.std.specs.Prelude.{◌≡◌, ℕ, ◌≤◌, ◌<◌, ◌++◌, IfOk, OnOk, flat_map, chars, encode_utf8, string_bytes};
+ghost use Rattle.marked_lines.specs.Runs.{has_byte, key_at, keyed_bytes, run_bytes, runs_text, with_key};
 
 use std::alloc::{AllocError, Global};
-use std::mem;
 
 /// The part of a line that is the value of a key.
 #[derive(Clone, Copy)]
@@ -34,23 +33,44 @@ fn key_at(fields: &[Field], at: usize) -> Option<usize>
     Some(field.key)
 }
 
-fn push_char(
+/// Returns where a field starts or ends next after `at`, or the greatest number if it does neither. An empty
+/// field has no bytes, so it does neither.
+fn bound_of(field: &Field, at: usize) -> usize
+    ensures { (p : ℕ) → at ≤ p → p < result → has_byte p field.now ≡ has_byte at field.now }
+{
+    if field.end <= at || field.end <= field.start {
+        usize::MAX
+    } else if at < field.start {
+        field.start
+    } else {
+        field.end
+    }
+}
+
+/// Returns the first position after `at` where a field starts or ends. Up to there the key is that at `at`.
+fn next_bound(fields: &[Field], at: usize) -> usize
+    ensures { (p : ℕ) → at ≤ p → p < result → key_at fields.now p ≡ key_at fields.now at }
+{
+    let mut bound = usize::MAX;
+    'fields: for field in fields {
+        bound = bound.min(bound_of(field, at));
+    }
+    bound
+}
+
+fn push_run(
     alloc: Global,
     runs: &mut Vec<Run>,
-    last: &mut Run,
     key: Option<usize>,
-    c: char,
+    text: &str,
 ) -> Result<(), AllocError>
-    ensures text { OnOk result (runs_text runs.new.items ++ string_bytes last.new.text
-        ≡ (runs_text runs.old.items ++ string_bytes last.old.text) ++ encode_utf8 c) }
-    ensures keys { OnOk result (flat_map run_bytes runs.new.items ++ run_bytes last.new
-        ≡ (flat_map run_bytes runs.old.items ++ run_bytes last.old) ++ with_key key (encode_utf8 c)) }
+    ensures text { OnOk result (runs_text runs.new.items ≡ runs_text runs.old.items ++ text.now) }
+    ensures keys { OnOk result (flat_map run_bytes runs.new.items
+        ≡ flat_map run_bytes runs.old.items ++ with_key key text.now) }
 {
-    if key != last.key {
-        let text = String::new(alloc);
-        runs.push(mem::replace(last, Run { key, text }))?;
-    }
-    last.text.push(c)
+    let text = String::from_str(alloc, text)?;
+    runs.push(Run { key, text })?;
+    Ok(())
 }
 
 /// Cuts a line into runs. A character that is in several fields has the key of the last of them. If
@@ -61,13 +81,17 @@ pub fn runs_of(alloc: Global, line: &str, fields: &[Field]) -> Result<Vec<Run>, 
         ≡ keyed_bytes fields.now 0 (chars line.now)) }
 {
     let mut runs = Vec::new(alloc);
-    let mut last = Run {
-        key: None,
-        text: String::new(alloc),
-    };
-    'chars: for (at, c) in line.char_indices() {
-        push_char(alloc, &mut runs, &mut last, key_at(fields, at), c)?;
+    let mut start = 0;
+    let mut key = key_at(fields, 0);
+    let mut bound = next_bound(fields, 0);
+    'chars: for (at, _) in line.char_indices() {
+        if bound <= at {
+            push_run(alloc, &mut runs, key, &line[start..at])?;
+            start = at;
+            key = key_at(fields, at);
+            bound = next_bound(fields, at);
+        }
     }
-    runs.push(last)?;
+    push_run(alloc, &mut runs, key, &line[start..])?;
     Ok(runs)
 }

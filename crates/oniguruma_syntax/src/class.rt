@@ -78,8 +78,8 @@ impl ClassWriter<'_, '_> {
         is_after_set && self.is_hyphen(index) && !self.is_end(index.saturating_add(1))
     }
 
-    /// Returns whether the token with this index is a hyphen that needs no backslash: it begins a class and no
-    /// range, or it ends a class.
+    /// Returns whether the token with this index is a hyphen that needs no backslash, because it is the last of a
+    /// class, or the first with no hyphen after it.
     fn is_plain_hyphen(&self, index: usize) -> bool {
         let after = index.saturating_add(1);
         let is_last = match self.nodes.get(after) {

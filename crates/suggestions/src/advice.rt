@@ -3,9 +3,8 @@
 use crate::proposals::{Continued, Proposal, propose, propose_after};
 use crate::starts::{events_of, start_of};
 use crate::text::whole_pattern;
-use log_samples::{
-    Candidate, Definitions, Fit, Recognizer, compile_valid, count, finds_each, separator_of,
-};
+use groklog_definitions::Library;
+use log_samples::{Candidate, Fit, Recognizer, compile_valid, count, finds_each, separator_of};
 use std::alloc::{AllocError, Global};
 use std::cmp::Reverse;
 
@@ -30,7 +29,7 @@ pub struct Suggestion {
 
 /// One of several patterns that are used together.
 #[derive(Drop)]
-pub struct Share {
+pub struct PatternShare {
     pub text: String,
     /// How many lines it fits that the patterns before it don't fit.
     pub lines: usize,
@@ -47,7 +46,7 @@ pub struct Advice {
     /// among equal ones those with most fields.
     pub alone: Vec<Suggestion>,
     /// Patterns to be used together, in this order, if no pattern alone is for all lines.
-    pub together: Vec<Share>,
+    pub together: Vec<PatternShare>,
 }
 
 /// A definition for whole lines.
@@ -93,7 +92,7 @@ fn marked_of<'l>(
 /// Returns whether three of four lines that a format fits are really of it.
 fn has_its_needs(
     alloc: Global,
-    definitions: Definitions<'_>,
+    library: &Library<'_>,
     format: Format<'_>,
     candidate: &Candidate,
     lines: &[&str],
@@ -101,7 +100,7 @@ fn has_its_needs(
     let Some(needs) = format.needs else {
         return Ok(true);
     };
-    let Some(needs) = compile_valid(definitions, needs)? else {
+    let Some(needs) = compile_valid(library, needs)? else {
         return Ok(false);
     };
     let fit = marked_of(alloc, lines, &candidate.each)?;
@@ -113,7 +112,7 @@ fn has_its_needs(
 /// Returns the definitions that fit some of the lines, and find fields in them.
 fn fitting(
     alloc: Global,
-    definitions: Definitions<'_>,
+    library: &Library<'_>,
     formats: &[Format<'_>],
     lines: &[&str],
     are_events: bool,
@@ -121,9 +120,9 @@ fn fitting(
     let mut found = Vec::new(alloc);
     for format in formats {
         let text = whole_pattern(alloc, format.name, are_events)?;
-        if let Some(candidate) = Candidate::new(alloc, definitions, text, lines)?
+        if let Some(candidate) = Candidate::new(alloc, library, text, lines)?
             && candidate.fit.fields > 0
-            && has_its_needs(alloc, definitions, *format, &candidate, lines)?
+            && has_its_needs(alloc, library, *format, &candidate, lines)?
         {
             found.push(candidate)?;
         }
@@ -140,7 +139,7 @@ fn are_few(left: usize, all: usize) -> bool {
 /// Patterns that are used together, and the lines that none of them fits.
 #[derive(Drop)]
 struct Choice<'l> {
-    patterns: Vec<Share>,
+    patterns: Vec<PatternShare>,
     left: Vec<&'l str>,
 }
 
@@ -154,7 +153,7 @@ fn count_left(candidate: &Candidate, is_left: &[bool]) -> usize {
     count
 }
 
-/// Returns the candidate that fits most of the lines that are left, and how many these are.
+/// Returns the candidate that fits most of the lines that are left, and how many of them it fits.
 fn best_of<'c>(candidates: &'c [Candidate], is_left: &[bool]) -> Option<(&'c Candidate, usize)> {
     let mut best = None;
     let mut most = 0usize;
@@ -209,7 +208,7 @@ fn cover<'l>(
         take_fit(&mut is_left, candidate);
         count = count.saturating_sub(fit);
         let text = candidate.text.clone()?;
-        patterns.push(Share { text, lines: fit })?;
+        patterns.push(PatternShare { text, lines: fit })?;
     }
     let left = marked_of(alloc, lines, &is_left)?;
     Ok(Choice { patterns, left })
@@ -218,7 +217,7 @@ fn cover<'l>(
 /// Appends the pattern for lines that begin with a definition and continue in one form.
 fn add_continued(
     alloc: Global,
-    recognizer: &Recognizer<'_>,
+    recognizer: &Recognizer<'_, '_>,
     formats: Formats<'_>,
     lines: &[&str],
     candidates: &mut Vec<Candidate>,
@@ -262,7 +261,7 @@ fn add_continued(
 /// Returns the advice for lines that these definitions for whole lines fit.
 fn advise_on(
     alloc: Global,
-    recognizer: &Recognizer<'_>,
+    recognizer: &Recognizer<'_, '_>,
     formats: Formats<'_>,
     lines: &[&str],
     candidates: Vec<Candidate>,
@@ -276,7 +275,7 @@ fn advise_on(
     if !are_few(left.len(), lines.len()) {
         for Proposal { text, fit } in propose(alloc, recognizer, &left)? {
             let lines = fit.lines;
-            together.push(Share { text, lines })?;
+            together.push(PatternShare { text, lines })?;
         }
     }
     let mut alone = Vec::new(alloc);
@@ -296,13 +295,13 @@ fn advise_on(
 /// of events.
 fn events_in(
     alloc: Global,
-    recognizer: &Recognizer<'_>,
+    recognizer: &Recognizer<'_, '_>,
     lines: &[&str],
 ) -> Result<Option<(Vec<String>, String)>, AllocError> {
     let Some(start) = start_of(alloc, recognizer, lines)? else {
         return Ok(None);
     };
-    let compiled = compile_valid(recognizer.definitions, start.as_str())?;
+    let compiled = compile_valid(recognizer.library, start.as_str())?;
     let Some(pattern) = compiled else {
         return Ok(None);
     };
@@ -313,7 +312,7 @@ fn events_in(
 /// Returns the advice for the events that the lines are parts of, or `None` if the lines aren't parts of events.
 fn advise_on_events(
     alloc: Global,
-    recognizer: &Recognizer<'_>,
+    recognizer: &Recognizer<'_, '_>,
     formats: Formats<'_>,
     lines: &[&str],
 ) -> Result<Option<Advice>, AllocError> {
@@ -324,7 +323,7 @@ fn advise_on_events(
     for event in &events {
         texts.push(event.as_str())?;
     }
-    let candidates = fitting(alloc, recognizer.definitions, formats.lines, &texts, true)?;
+    let candidates = fitting(alloc, recognizer.library, formats.lines, &texts, true)?;
     let advice = advise_on(alloc, recognizer, formats, &texts, candidates)?;
     let Advice {
         lines,
@@ -365,13 +364,13 @@ fn without_header<'s, 'l>(lines: &'s [&'l str]) -> &'s [&'l str] {
 /// is the advice for the events.
 pub fn advise(
     alloc: Global,
-    definitions: Definitions<'_>,
+    library: &Library<'_>,
     formats: Formats<'_>,
     lines: &[&str],
 ) -> Result<Advice, AllocError> {
     let lines = without_header(lines);
-    let recognizer = Recognizer::new(alloc, definitions)?;
-    let candidates = fitting(alloc, definitions, formats.lines, lines, false)?;
+    let recognizer = Recognizer::new(alloc, library)?;
+    let candidates = fitting(alloc, library, formats.lines, lines, false)?;
     let left = cover(alloc, &candidates, lines)?.left.len();
     if !are_few(left, lines.len())
         && let Some(advice) = advise_on_events(alloc, &recognizer, formats, lines)?

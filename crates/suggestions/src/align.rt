@@ -1,7 +1,8 @@
 //! Aligns lines by their tokens.
 
 use crate::columns::{Column, Content};
-use log_samples::{Kind, Token};
+use crate::counts::{Counted, count_line};
+use log_samples::{Kind, LineToken};
 use std::alloc::{AllocError, Global};
 
 /// How many columns there are at most. What comes after them is the rest.
@@ -10,7 +11,7 @@ const MOST_COLUMNS: usize = 100;
 /// The tokens of a line, and how far it is aligned.
 #[derive(Drop)]
 pub(crate) struct Row<'l> {
-    tokens: Vec<Token<'l>>,
+    tokens: Vec<LineToken<'l>>,
     /// How many of the tokens are in columns.
     at: usize,
     /// Whether the line has all columns so far.
@@ -35,21 +36,14 @@ enum Next {
     OptionalBlank,
     /// Tokens of different kinds, after which most lines agree again.
     Gap,
-    /// Nothing.
+    /// The end of the lines.
     End,
     /// Something different in each line.
     Rest,
 }
 
-/// A kind of token, or `None` for the end of a line, and how many lines have it next.
-#[derive(Clone, Copy)]
-pub(crate) struct Count {
-    pub kind: Option<Kind>,
-    pub lines: usize,
-}
-
 impl<'l> Row<'l> {
-    pub(crate) fn new(tokens: Vec<Token<'l>>) -> Row<'l> {
+    pub(crate) fn new(tokens: Vec<LineToken<'l>>) -> Row<'l> {
         Row {
             tokens,
             at: 0,
@@ -57,7 +51,7 @@ impl<'l> Row<'l> {
         }
     }
 
-    fn next(&self) -> Option<Token<'l>> {
+    fn next(&self) -> Option<LineToken<'l>> {
         self.tokens.as_slice().get(self.at).copied()
     }
 
@@ -148,17 +142,6 @@ impl<'l> Row<'l> {
     }
 }
 
-/// Counts one more line with a token of this kind.
-pub(crate) fn count_kind(counts: &mut Vec<Count>, kind: Option<Kind>) -> Result<(), AllocError> {
-    for count in counts.iter_mut() {
-        if count.kind == kind {
-            count.lines = count.lines.saturating_add(1);
-            return Ok(());
-        }
-    }
-    Ok(counts.push(Count { kind, lines: 1 })?)
-}
-
 /// Aligns lines, column by column.
 #[derive(Drop)]
 struct Aligner<'l> {
@@ -193,13 +176,13 @@ impl<'l> Aligner<'l> {
         let mut counts = Vec::new(self.alloc);
         for row in &self.rows {
             if row.is_active {
-                count_kind(&mut counts, row.kind_after_blanks())?;
+                count_line(&mut counts, row.kind_after_blanks())?;
             }
         }
         let active = self.active();
         Ok(
-            counts.iter().any(|count: &Count| {
-                count.kind.is_some() && active.saturating_sub(count.lines) <= self.spare
+            counts.iter().any(|count: &Counted<Option<Kind>>| {
+                count.what.is_some() && active.saturating_sub(count.lines) <= self.spare
             }),
         )
     }
@@ -208,14 +191,13 @@ impl<'l> Aligner<'l> {
         let mut counts = Vec::new(self.alloc);
         for row in &self.rows {
             if row.is_active {
-                let kind = row.next().map(|token| token.kind);
-                count_kind(&mut counts, kind)?;
+                count_line(&mut counts, row.next().map(|token| token.kind))?;
             }
         }
         let active = self.active();
         for count in &counts {
             if active.saturating_sub(count.lines) <= self.spare {
-                return Ok(match count.kind {
+                return Ok(match count.what {
                     None => Next::End,
                     Some(Kind::Rest) => Next::Rest,
                     Some(kind) => Next::Token(kind),

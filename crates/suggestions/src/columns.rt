@@ -19,7 +19,7 @@ pub(crate) struct Column<'l> {
     pub content: Content,
     /// The text of the first line that was added, or `None` if none was.
     pub first: Option<&'l str>,
-    /// Whether all texts are the first one.
+    /// Whether all texts are equal.
     pub are_same: bool,
     /// Whether each text has letters, digits and `_` alone, and at least one of them.
     pub are_words: bool,
@@ -27,7 +27,7 @@ pub(crate) struct Column<'l> {
     pub has_empty: bool,
     /// Whether a text has blanks.
     pub has_blanks: bool,
-    /// Whether each text has spaces alone.
+    /// Whether each text has nothing but spaces.
     pub are_spaces: bool,
     /// Whether each text is an integer that keeps its digits if it is read as a number.
     pub are_integers: bool,

@@ -2,7 +2,8 @@
 
 use crate::text::Frame;
 use grok::{MatchesRef, Pattern};
-use log_samples::{Definitions, compile_valid, first_line};
+use groklog_definitions::Library;
+use log_samples::{compile_valid, first_line};
 use std::alloc::{AllocError, Global};
 
 /// The key of what comes after a definition.
@@ -158,12 +159,12 @@ fn count_tails(tails: &[Option<&str>]) -> (usize, usize) {
 /// Looks for a definition at the beginning of each line.
 fn head_of<'a>(
     alloc: Global,
-    definitions: Definitions<'_>,
+    library: &Library<'_>,
     name: &'a str,
     lines: &[&str],
 ) -> Result<Option<Head<'a>>, AllocError> {
     let text = format!(in alloc; "^%{{{name}}}(?<{TAIL}>.*)$")?;
-    let Some(pattern) = compile_valid(definitions, text.as_str())? else {
+    let Some(pattern) = compile_valid(library, text.as_str())? else {
         return Ok(None);
     };
     let (count, left) = count_tails(&tails_after(alloc, &pattern, lines)?);
@@ -179,13 +180,13 @@ fn head_of<'a>(
 /// the lines, and among equal ones the first.
 pub(crate) fn longest_head<'a>(
     alloc: Global,
-    definitions: Definitions<'_>,
+    library: &Library<'_>,
     names: &[&'a str],
     lines: &[&str],
 ) -> Result<Option<Head<'a>>, AllocError> {
     let mut best: Option<Head<'a>> = None;
     for name in names {
-        let Some(head) = head_of(alloc, definitions, name, lines)? else {
+        let Some(head) = head_of(alloc, library, name, lines)? else {
             continue;
         };
         let others = lines.len().saturating_sub(head.lines);

@@ -7,7 +7,7 @@
 //!
 //! ```text
 //! let lines = ["12 user bob", "7 user eve"];
-//! let advice = advise(alloc, definitions, formats, &lines)?;
+//! let advice = advise(alloc, &library, formats, &lines)?;
 //! // advice.together[0].text is ^%{INT:number:int} user %{WORD:word}$, for 2 lines
 //! ```
 //!
@@ -17,10 +17,11 @@
 mod advice;
 mod align;
 mod columns;
+mod counts;
 mod heads;
 mod proposals;
 mod starts;
 mod text;
 mod values;
 
-pub use advice::{Advice, Format, Formats, Share, Suggestion, advise};
+pub use advice::{Advice, Format, Formats, PatternShare, Suggestion, advise};

@@ -1,11 +1,13 @@
 //! Proposes patterns for lines.
 ghost use Rattle.std.specs.Prelude.{◌≡◌, ◌+◌, ◌<◌, ◌≤◌, All, IfOk, IfSome, OnOk, vec_len};
 
-use crate::align::{Row, Template, align, count_kind};
+use crate::align::{Row, Template, align};
+use crate::counts::{commonest, count_line};
 use crate::heads::{LineView, longest_head};
 use crate::text::{RestForm, pattern_text};
 use crate::values::template_of_values;
-use log_samples::{Candidate, Cutter, Definitions, Fit, Kind, Recognizer, separator_of};
+use groklog_definitions::Library;
+use log_samples::{Candidate, Cutter, Fit, Kind, Recognizer, separator_of};
 use std::alloc::{AllocError, Global};
 use std::collections::BTreeMap;
 
@@ -41,7 +43,7 @@ pub(crate) struct Continued {
 /// Compiles the pattern of a template, with the rest in this form. Returns `None` if it can't be compiled, or fits no
 /// line.
 fn compile_candidate(
-    definitions: Definitions<'_>,
+    library: &Library<'_>,
     view: &LineView<'_>,
     template: &Template<'_>,
     form: RestForm,
@@ -50,25 +52,25 @@ fn compile_candidate(
     ensures { IfOk result (λ found. IfSome found (λ candidate. 0 < candidate.fit.lines)) }
 {
     let alloc = view.alloc;
-    let text = pattern_text(alloc, definitions.grok, template, form, &view.frame)?;
-    Candidate::new(alloc, definitions, text, lines)
+    let text = pattern_text(alloc, &library.grok, template, form, &view.frame)?;
+    Candidate::new(alloc, library, text, lines)
 }
 
 /// Returns the candidate of a template that fits most lines: the first of them, if there are several.
 fn best_candidate(
-    definitions: Definitions<'_>,
+    library: &Library<'_>,
     view: &LineView<'_>,
     template: &Template<'_>,
     lines: &[&str],
 ) -> Result<Option<Candidate>, AllocError>
     ensures { IfOk result (λ found. IfSome found (λ candidate. 0 < candidate.fit.lines)) }
 {
-    let mut best = compile_candidate(definitions, view, template, RestForm::AfterBlanks, lines)?;
+    let mut best = compile_candidate(library, view, template, RestForm::AfterBlanks, lines)?;
     if !template.has_rest {
         return Ok(best);
     }
     'forms: for form in [RestForm::Optional, RestForm::Joined] {
-        let next = compile_candidate(definitions, view, template, form, lines)?;
+        let next = compile_candidate(library, view, template, form, lines)?;
         let so_far = match &best {
             Some(best) => best.fit.lines,
             None => 0,
@@ -114,17 +116,9 @@ fn template_of<'l>(
 fn commonest_head(alloc: Global, rows: &[Row<'_>]) -> Result<Option<Kind>, AllocError> {
     let mut counts = Vec::new(alloc);
     for row in rows {
-        count_kind(&mut counts, row.head())?;
+        count_line(&mut counts, row.head())?;
     }
-    let mut best = None;
-    let mut most = 0usize;
-    for count in &counts {
-        if count.lines > most {
-            most = count.lines;
-            best = count.kind;
-        }
-    }
-    Ok(best)
+    Ok(commonest(&counts).and_then(|count| count.what))
 }
 
 /// Returns the lines that begin with the kind of token with which most lines begin.
@@ -191,7 +185,7 @@ pub(crate) fn aligned_of<'s, 'l>(lines: &'s [&'l str]) -> &'s [&'l str] {
 /// Returns the best candidate for all of these lines, for the lines that begin alike, or for the lines of one
 /// shape.
 fn next_candidate(
-    definitions: Definitions<'_>,
+    library: &Library<'_>,
     view: &LineView<'_>,
     cutter: &mut Cutter<'_>,
     lines: &[&str],
@@ -201,16 +195,16 @@ fn next_candidate(
     let aligned = aligned_of(lines);
     let template = template_of(view, cutter, aligned)?;
     if template.is_telling() {
-        return best_candidate(definitions, view, &template, lines);
+        return best_candidate(library, view, &template, lines);
     }
     let alike = commonest_lines(view, cutter, aligned)?;
     let template = template_of(view, cutter, &alike)?;
     if template.is_telling() {
-        return best_candidate(definitions, view, &template, lines);
+        return best_candidate(library, view, &template, lines);
     }
     let alike = lines_of_one_shape(view, cutter, aligned)?;
     let template = template_of(view, cutter, &alike)?;
-    best_candidate(definitions, view, &template, lines)
+    best_candidate(library, view, &template, lines)
 }
 
 fn push_fitting(proposals: &mut Vec<Proposal>, proposal: Proposal) -> Result<(), AllocError>
@@ -226,7 +220,7 @@ fn push_fitting(proposals: &mut Vec<Proposal>, proposal: Proposal) -> Result<(),
 /// it don't fit. There are none if the lines have nothing in common.
 pub(crate) fn propose(
     alloc: Global,
-    recognizer: &Recognizer<'_>,
+    recognizer: &Recognizer<'_, '_>,
     lines: &[&str],
 ) -> Result<Vec<Proposal>, AllocError>
     ensures most { IfOk result (λ proposals. vec_len proposals ≤ 3) }
@@ -239,7 +233,7 @@ pub(crate) fn propose(
     'patterns: while proposals.len() < MOST_PATTERNS
         && left.len() > lines.len() / LINES_FOR_ONE_LEFT
     {
-        let next = next_candidate(recognizer.definitions, &view, &mut cutter, &left)?;
+        let next = next_candidate(recognizer.library, &view, &mut cutter, &left)?;
         let Some(candidate) = next else {
             break;
         };
@@ -252,7 +246,7 @@ pub(crate) fn propose(
 
 /// Proposes a pattern for what the lines of a view have after a definition.
 fn propose_in(
-    recognizer: &Recognizer<'_>,
+    recognizer: &Recognizer<'_, '_>,
     view: &LineView<'_>,
     lines: &[&str],
 ) -> Result<Option<Continued>, AllocError>
@@ -262,7 +256,7 @@ fn propose_in(
     let mut cutter = Cutter::new(view.alloc, recognizer.search(view.alloc)?);
     let template = template_of(view, &mut cutter, &begun)?;
     let is_whole = !template.has_rest && !template.columns.is_empty();
-    let found = best_candidate(recognizer.definitions, view, &template, lines)?;
+    let found = best_candidate(recognizer.library, view, &template, lines)?;
     let Some(candidate) = found else {
         return Ok(None);
     };
@@ -277,13 +271,13 @@ fn propose_in(
 /// them. The definition and the form are found in the first lines, and the pattern is tried on all.
 pub(crate) fn propose_after(
     alloc: Global,
-    recognizer: &Recognizer<'_>,
+    recognizer: &Recognizer<'_, '_>,
     names: &[&str],
     lines: &[&str],
 ) -> Result<Option<Continued>, AllocError>
     ensures { IfOk result (λ found. IfSome found (λ continued. 0 < continued.candidate.fit.lines)) }
 {
-    let found = longest_head(alloc, recognizer.definitions, names, aligned_of(lines))?;
+    let found = longest_head(alloc, recognizer.library, names, aligned_of(lines))?;
     let Some(head) = found else {
         return Ok(None);
     };

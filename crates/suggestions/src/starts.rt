@@ -1,9 +1,10 @@
 //! Finds how events of several lines begin.
 
+use crate::counts::{Counted, commonest, count_line};
 use crate::proposals::aligned_of;
 use grok::Pattern;
 use log_samples::{
-    Cutter, Kind, Meaning, Recognizer, Token, finds_each, known_definition, literal,
+    Cutter, Kind, LineToken, Meaning, Recognizer, finds_each, known_definition, literal,
 };
 use std::alloc::{AllocError, Global};
 
@@ -22,15 +23,8 @@ struct Beginning<'l> {
     known: usize,
 }
 
-/// A beginning, and how many lines have it.
-#[derive(Clone, Copy)]
-struct Count<'l> {
-    beginning: Beginning<'l>,
-    lines: usize,
-}
-
 /// Returns the beginning of a line that has these tokens, or `None` if the line has no time.
-fn beginning_of<'l>(line: &'l str, tokens: &[Token<'l>]) -> Option<Beginning<'l>> {
+fn beginning_of<'l>(line: &'l str, tokens: &[LineToken<'l>]) -> Option<Beginning<'l>> {
     let mut len = 0usize;
     for token in tokens {
         if let Kind::Known(known) = token.kind
@@ -54,54 +48,20 @@ fn may_start(beginning: Beginning<'_>) -> bool {
             .any(|c| c.is_ascii_digit() || c == '%')
 }
 
-/// Counts one more line with this beginning.
-fn count_beginning<'l>(
-    counts: &mut Vec<Count<'l>>,
-    beginning: Beginning<'l>,
-) -> Result<(), AllocError> {
-    for count in counts.iter_mut() {
-        if count.beginning == beginning {
-            count.lines = count.lines.saturating_add(1);
-            return Ok(());
-        }
-    }
-    if may_start(beginning) {
-        counts.push(Count {
-            beginning,
-            lines: 1,
-        })?;
-    }
-    Ok(())
-}
-
-/// Returns the beginning that most lines have, with the number of these lines.
-fn commonest<'l>(counts: &[Count<'l>]) -> Option<Count<'l>> {
-    let mut best: Option<Count<'l>> = None;
-    for count in counts {
-        let most = match best {
-            Some(best) => best.lines,
-            None => 0,
-        };
-        if count.lines > most {
-            best = Some(*count);
-        }
-    }
-    best
-}
-
 /// Counts the lines with each beginning, and the lines that have no time and don't begin with a digit, as a
 /// time in another form does.
 fn count_beginnings<'l>(
     alloc: Global,
-    recognizer: &Recognizer<'_>,
+    recognizer: &Recognizer<'_, '_>,
     lines: &[&'l str],
-) -> Result<(Vec<Count<'l>>, usize), AllocError> {
+) -> Result<(Vec<Counted<Beginning<'l>>>, usize), AllocError> {
     let mut cutter = Cutter::new(alloc, recognizer.search(alloc)?);
     let mut counts = Vec::new(alloc);
     let mut without = 0usize;
     for line in lines {
         match beginning_of(line, &cutter.cut(line)?) {
-            Some(beginning) => count_beginning(&mut counts, beginning)?,
+            Some(beginning) if may_start(beginning) => count_line(&mut counts, beginning)?,
+            Some(_) => {}
             None if line.starts_with(|c: char| c.is_ascii_digit()) => {}
             None => without = without.saturating_add(1),
         }
@@ -113,7 +73,7 @@ fn count_beginnings<'l>(
 /// almost all lines have it, or if other lines have times, too, or begin with a digit, as a time in another form does.
 pub(crate) fn start_of(
     alloc: Global,
-    recognizer: &Recognizer<'_>,
+    recognizer: &Recognizer<'_, '_>,
     lines: &[&str],
 ) -> Result<Option<String>, AllocError> {
     let lines = aligned_of(lines);
@@ -129,8 +89,8 @@ pub(crate) fn start_of(
     if best.lines < 2 || without < 2 || without < share || others > share {
         return Ok(None);
     }
-    let before = literal(alloc, best.beginning.before)?;
-    let name = known_definition(best.beginning.known).name;
+    let before = literal(alloc, best.what.before)?;
+    let name = known_definition(best.what.known).name;
     Ok(Some(format!(in alloc; "^{before}%{{{name}}}")?))
 }
 

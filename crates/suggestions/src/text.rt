@@ -29,7 +29,7 @@ const MORE_LINES: &str = "(?:\\n(?<more>(?s:.*)))?";
 pub(crate) struct Frame<'a> {
     /// The definition with which the lines begin, or `None` if they begin with the first column.
     pub head: Option<&'a str>,
-    /// The keys of that definition.
+    /// The keys of the definition `head`.
     pub keys: Vec<String>,
     /// Whether the lines are the first ones of events.
     pub are_events: bool,
@@ -152,7 +152,7 @@ struct TextWriter<'g> {
     alloc: Global,
     grok: &'g Grok,
     text: String,
-    /// The keys so far. Each has the last number that was appended to it for another key, or 1.
+    /// The keys so far, each with the last number that was appended to it to make another key, or else 1.
     keys: BTreeMap<String, usize>,
 }
 
@@ -197,7 +197,7 @@ impl TextWriter<'_> {
         Ok(())
     }
 
-    /// Writes a placeholder. `extract` is empty, or `:` and the type of the value.
+    /// Writes a placeholder. `extract` is empty, or an extract with its colon, such as `:int`.
     fn push_placeholder(
         &mut self,
         value: &Value,
@@ -214,7 +214,7 @@ impl TextWriter<'_> {
         self.text.push_str(placeholder.as_str())
     }
 
-    /// Writes the placeholder of a number, with its type if that loses nothing of the numbers of the column.
+    /// Writes the placeholder of a number, with an extract if the numbers of the column lose nothing by it.
     fn push_number(&mut self, column: &Column<'_>, base: &str) -> Result<(), AllocError> {
         if column.are_integers {
             self.push_placeholder(&INTEGER, base, ":int")

@@ -1,6 +1,6 @@
 -- One more character was escaped.
 use Rattle.marked_lines.proofs.HtmlShowsText.{escaped_more}
-use Rattle.groklog_input.proofs.ShownTextHasNoRawCharacter.{read_more}
+use Rattle.groklog_reports.proofs.ShownTextHasNoRawCharacter.{read_more}
 use Rattle.marked_lines.proofs.escaped.push_escaped_chars.Goals as goal
 
 pub chars-preserved : goal.chars-preserved

@@ -1,6 +1,6 @@
 -- The parts of the beginning were appended, one after the other.
 use Rattle.std.proofs.Common.{ap, ◌∙◌, ◌++◌}
-use Rattle.groklog_input.specs.Visible.{visible}
+use Rattle.groklog_reports.specs.Visible.{visible}
 use Rattle.marked_lines.specs.Html.{escaped}
 use Rattle.marked_lines.proofs.HtmlShowsText.{five_pushed}
 use Rattle.marked_lines.proofs.html.Html.begin_span.Goals as goal

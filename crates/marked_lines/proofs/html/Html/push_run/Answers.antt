@@ -1,6 +1,6 @@
 -- The text is between the beginning and the end of its span.
 use Rattle.std.proofs.Common.{ap, ◌∙◌, ◌++◌, sym, map, string_bytes}
-use Rattle.groklog_input.specs.Visible.{visible}
+use Rattle.groklog_reports.specs.Visible.{visible}
 use Rattle.marked_lines.specs.Html.{escaped, marked_html}
 use Rattle.marked_lines.proofs.HtmlShowsText.{three_pushed}
 use Rattle.marked_lines.proofs.html.Html.push_run.Goals as goal

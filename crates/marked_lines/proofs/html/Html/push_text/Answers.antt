@@ -1,5 +1,5 @@
 -- The laws about escaped texts hold whatever the outcome is.
-use Rattle.groklog_input.specs.Visible.{visible}
+use Rattle.groklog_reports.specs.Visible.{visible}
 use Rattle.marked_lines.proofs.HtmlShowsText.{text_seen, no_markup}
 use Rattle.marked_lines.proofs.html.Html.push_text.Goals as goal
 
