@@ -9,7 +9,7 @@ use groklog_files::{STANDARD_INPUT, StandardInput, shown_name};
 use groklog_input::{Answered, FormedAnswers, Watched, answer_input};
 use groklog_options::Options;
 use groklog_patterns::RunPattern;
-use groklog_reports::{Fault, FileFailure, Unit, file_fault, visible};
+use groklog_reports::{FileFailure, RunFault, Unit, file_fault, visible};
 use std::alloc::{AllocError, Global};
 use std::fs::File;
 
@@ -109,7 +109,7 @@ fn answer_file<A: LineHandler>(
     answers: &mut FormedAnswers<A>,
     name: &str,
     shows: bool,
-) -> Result<Answered, Fault> {
+) -> Result<Answered, RunFault> {
     let rt = outlet.rt;
     let alloc = rt.alloc();
     answers.begin_input();
@@ -135,7 +135,7 @@ fn answer_files<'p, A: LogLines<'p>>(
     files: &[&'p str],
     hints: &mut Hints,
     shows: bool,
-) -> Result<RunOutcome, Fault> {
+) -> Result<RunOutcome, RunFault> {
     let rt = outlet.rt;
     let mut outcome = RunOutcome::AllRead;
     for file in files {
@@ -152,7 +152,7 @@ fn answer_files<'p, A: LogLines<'p>>(
             Ok(Answered::All) => {}
             Ok(Answered::Enough) => break,
             Err(_) if answers.answers.has_enough() => break,
-            Err(Fault::Read(report)) => {
+            Err(RunFault::Read(report)) => {
                 // The run goes on if the report can't be written.
                 let _ = eprint!(rt; "{report}");
                 outcome = RunOutcome::SomeUnread;
@@ -172,7 +172,7 @@ pub fn answer_inputs<'p, A: LogLines<'p>>(
     outlet: &Outlet<'_>,
     options: &Options<'p>,
     answers: &mut FormedAnswers<A>,
-) -> Result<RunOutcome, Fault> {
+) -> Result<RunOutcome, RunFault> {
     let rt = outlet.rt;
     let mut hints = Hints::new(answers.form, options.unit());
     let outcome = if options.files.is_empty() {
@@ -195,7 +195,7 @@ pub fn answer_each<'p, A: LogLines<'p> + SkipLines + Drop>(
     options: &Options<'p>,
     start: Option<&RunPattern>,
     lines: A,
-) -> Result<(A, RunOutcome), Fault> {
+) -> Result<(A, RunOutcome), RunFault> {
     let alloc = outlet.rt.alloc();
     let (Some(start), Some(events)) = (start, options.events) else {
         let mut lines = FormedAnswers::new(alloc, lines, options.form);

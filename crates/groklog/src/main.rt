@@ -18,7 +18,7 @@ mod why;
 
 use crate::inputs::RunOutcome;
 use groklog_options::{is_answer, read_options, usage_fault};
-use groklog_reports::{Fault, Report};
+use groklog_reports::{Report, RunFault};
 use std::env;
 use std::io::ErrorKind;
 use std::process::ExitCode;
@@ -31,12 +31,12 @@ const UNREAD: u8 = 3;
 const NOTHING_FOUND: u8 = 4;
 
 /// Reads the words of the command line. The first one is the name of the program.
-fn read_words(rt: &(impl Env + AllocGlobal)) -> Result<Vec<String>, Fault> {
+fn read_words(rt: &(impl Env + AllocGlobal)) -> Result<Vec<String>, RunFault> {
     match env::args(rt) {
         Ok(words) => Ok(words.collect(rt.alloc())?),
         // own error: the words could not be read because an allocation failed.
-        Err(error) if error.kind() == ErrorKind::OutOfMemory => Err(Fault::Memory),
-        Err(_) => Err(Fault::Usage(Report::new(
+        Err(error) if error.kind() == ErrorKind::OutOfMemory => Err(RunFault::Memory),
+        Err(_) => Err(RunFault::Usage(Report::new(
             rt.alloc(),
             "a word of the command line isn't UTF-8",
             "write patterns in UTF-8, and let standard input read a file with such a name: groklog PATTERN <FILE",
@@ -45,7 +45,7 @@ fn read_words(rt: &(impl Env + AllocGlobal)) -> Result<Vec<String>, Fault> {
 }
 
 /// Runs the program with the words of its command line.
-fn work(rt: &HostRuntime) -> Result<RunOutcome, Fault> {
+fn work(rt: &HostRuntime) -> Result<RunOutcome, RunFault> {
     let words = read_words(rt)?;
     match read_options(rt.alloc(), words.as_slice()) {
         Ok(options) => run::run(rt, &options),

@@ -1,6 +1,6 @@
 //! Writes to standard output and to standard error.
 
-use groklog_reports::{Fault, visible, write_fault};
+use groklog_reports::{RunFault, visible, write_fault};
 use std::alloc::AllocError;
 use std::cell::Cell;
 use std::io::{self, Write};
@@ -25,7 +25,7 @@ pub fn show_notes(rt: &(impl Eprint + AllocGlobal), notes: &[String]) -> Result<
 /// # Errors
 ///
 /// If the output fails. A closed pipe is no error.
-pub fn write_output(rt: &(impl Print + AllocGlobal), text: &str) -> Result<(), Fault> {
+pub fn write_output(rt: &(impl Print + AllocGlobal), text: &str) -> Result<(), RunFault> {
     write_bytes(rt, text.as_bytes())
 }
 
@@ -34,7 +34,7 @@ pub fn write_output(rt: &(impl Print + AllocGlobal), text: &str) -> Result<(), F
 /// # Errors
 ///
 /// If the output fails. A closed pipe is no error.
-pub fn write_bytes(rt: &(impl Print + AllocGlobal), bytes: &[u8]) -> Result<(), Fault> {
+pub fn write_bytes(rt: &(impl Print + AllocGlobal), bytes: &[u8]) -> Result<(), RunFault> {
     let mut output = io::writer(rt);
     if let Err(error) = output.write_all(bytes)
         && let Some(fault) = write_fault(rt.alloc(), &error)?

@@ -1,10 +1,10 @@
 //! Pairs patterns with their tags, and with the plans of where their values are written, for `--nested` and `--merge`.
 
 use grok::Pattern;
-use groklog_answers::{Clash, NamedPattern, Plan, PlanError, SharedKey};
+use groklog_answers::{NamedPattern, Plan, PlanClash, PlanError, SharedKey};
 use groklog_options::{GivenPattern, PlanOptions};
 use groklog_patterns::RunPattern;
-use groklog_reports::{Fault, Report};
+use groklog_reports::{Report, RunFault};
 use std::alloc::{AllocError, Global};
 use std::collections::BTreeSet;
 
@@ -39,9 +39,9 @@ fn clash_fault(
     alloc: Global,
     plan: PlanOptions,
     words: &str,
-    clash: Clash<'_>,
-) -> Result<Fault, AllocError> {
-    let Clash { first, second } = clash;
+    clash: PlanClash<'_>,
+) -> Result<RunFault, AllocError> {
+    let PlanClash { first, second } = clash;
     let what = format!(in alloc;
         "in {words}, the keys {first} and {second} can't be nested: both would be the same member, or one would be inside the value of the other"
     )?;
@@ -51,20 +51,20 @@ fn clash_fault(
         "give one of them another alias, or use --merge if the number at its end comes from several placeholders with one key"
     };
     let report = Report::new(alloc, what.as_str(), advice)?;
-    Ok(Fault::Usage(report))
+    Ok(RunFault::Usage(report))
 }
 
 fn plan_of<'p>(
     alloc: Global,
     plan: PlanOptions,
     pattern: &'p RunPattern,
-) -> Result<Plan<'p>, Fault> {
+) -> Result<Plan<'p>, RunFault> {
     let words = pattern.text.words.as_str();
     let keys = shared_keys(alloc, plan, &pattern.pattern)?;
     match Plan::new(alloc, &keys, plan.is_nested) {
         Ok(plan) => Ok(plan),
         // own error: an allocation failed, as the plan reported.
-        Err(PlanError::Memory) => Err(Fault::Memory),
+        Err(PlanError::Memory) => Err(RunFault::Memory),
         Err(PlanError::Clash(clash)) => Err(clash_fault(alloc, plan, words, clash)?),
     }
 }
@@ -79,7 +79,7 @@ pub fn plan_all<'p>(
     alloc: Global,
     plan: PlanOptions,
     patterns: &'p [RunPattern],
-) -> Result<Vec<Plan<'p>>, Fault> {
+) -> Result<Vec<Plan<'p>>, RunFault> {
     let mut plans = Vec::new(alloc);
     if !plan.is_planned() {
         return Ok(plans);

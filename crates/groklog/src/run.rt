@@ -13,7 +13,7 @@ use groklog_definitions::{
 use groklog_files::{ReadFiles, WholeFile, check_logs, is_same_file, read_definition_files};
 use groklog_options::{Options, Task, check_keys, chosen_fields};
 use groklog_patterns::{Adapted, RunPattern, adapt_all, adapt_own, compile_all, definition_lines};
-use groklog_reports::{Fault, Report, TextFile};
+use groklog_reports::{Report, RunFault, TextFile};
 use std::alloc::{AllocError, Global};
 use std::fs::File;
 use std::rt::Files;
@@ -29,7 +29,7 @@ fn texts_of(
     rt: &(impl Eprint + AllocGlobal),
     library: &mut Library<'_>,
     options: &Options<'_>,
-) -> Result<Vec<PatternText>, Fault> {
+) -> Result<Vec<PatternText>, RunFault> {
     let alloc = rt.alloc();
     let words: Vec<&str> = options
         .patterns
@@ -95,10 +95,10 @@ fn show_notes_of_patterns(
     Ok(())
 }
 
-fn written_twice(alloc: Global, name: &str) -> Result<Fault, AllocError> {
+fn written_twice(alloc: Global, name: &str) -> Result<RunFault, AllocError> {
     let what = format!(in alloc; "{PAGE} and {DEFINITIONS} would both write {name}")?;
     let advice = "name another file after one of them";
-    Ok(Fault::Usage(Report::new(alloc, what.as_str(), advice)?))
+    Ok(RunFault::Usage(Report::new(alloc, what.as_str(), advice)?))
 }
 
 /// Checks, before a line is read, that each file can be written that the options ask for, that it isn't one
@@ -107,7 +107,7 @@ fn check_files(
     rt: &(impl Files<File = File> + AllocGlobal),
     options: &Options<'_>,
     read: &ReadFiles,
-) -> Result<(), Fault> {
+) -> Result<(), RunFault> {
     let page = match &options.task {
         Task::Page(page) => Some(page.file),
         _ => None,
@@ -132,7 +132,7 @@ fn checked_fields<'p>(
     options: &'p Options<'p>,
     patterns: &'p [RunPattern],
     plans: &'p [Plan<'p>],
-) -> Result<Option<Vec<&'p str>>, Fault> {
+) -> Result<Option<Vec<&'p str>>, RunFault> {
     let named = with_tags(alloc, &options.patterns, patterns, plans)?;
     check_keys(alloc, &options.task, &named)?;
     chosen_fields(alloc, &options.task, &named)
@@ -145,7 +145,7 @@ fn run_task(
     library: &Library<'_>,
     texts: Vec<PatternText>,
     read: &ReadFiles,
-) -> Result<RunOutcome, Fault> {
+) -> Result<RunOutcome, RunFault> {
     let alloc = rt.alloc();
     let outlet = Outlet::new(rt);
     if let Task::Suggestions(most) = options.task {
@@ -174,9 +174,9 @@ fn run_task(
 }
 
 /// Returns the fault that reports that there are no definitions to write.
-fn nothing_to_write(alloc: Global) -> Result<Fault, AllocError> {
+fn nothing_to_write(alloc: Global) -> Result<RunFault, AllocError> {
     let what = format!(in alloc; "{DEFINITIONS} has no definitions to write")?;
-    Ok(Fault::Usage(Report::new(alloc, what.as_str(), "give them by -d FILE or -D NAME=DEF")?))
+    Ok(RunFault::Usage(Report::new(alloc, what.as_str(), "give them by -d FILE or -D NAME=DEF")?))
 }
 
 /// Checks the files of a run, and does its task. After that, writes the definitions to a file if that is wanted.
@@ -186,7 +186,7 @@ fn run_over(
     files: &[TextFile],
     library: &Library<'_>,
     texts: Vec<PatternText>,
-) -> Result<RunOutcome, Fault> {
+) -> Result<RunOutcome, RunFault> {
     let read = ReadFiles::of(rt, &options.files, files)?;
     check_files(rt, options, &read)?;
     let given = &options.definitions;
@@ -208,13 +208,13 @@ fn run_over(
 }
 
 /// Returns the fault that reports that no common definition has this text in its name.
-fn nothing_to_list(alloc: Global, text: &str) -> Result<Fault, AllocError> {
+fn nothing_to_list(alloc: Global, text: &str) -> Result<RunFault, AllocError> {
     let what = format!(in alloc; "no name of a common definition has {text} in it")?;
-    Ok(Fault::Usage(Report::new(alloc, what.as_str(), "groklog --list, which lists all")?))
+    Ok(RunFault::Usage(Report::new(alloc, what.as_str(), "groklog --list, which lists all")?))
 }
 
 /// Lists the common definitions whose names have this text.
-fn list(rt: &HostRuntime, text: &str) -> Result<RunOutcome, Fault> {
+fn list(rt: &HostRuntime, text: &str) -> Result<RunOutcome, RunFault> {
     let lines = list_common_definitions(rt.alloc(), text)?;
     if lines.is_empty() {
         return Err(nothing_to_list(rt.alloc(), text)?);
@@ -229,7 +229,7 @@ fn list(rt: &HostRuntime, text: &str) -> Result<RunOutcome, Fault> {
 ///
 /// Returns the first fault of a definition, a pattern, a key or a file that is written, before any line is
 /// read. After that, returns an error if an allocation, a file or the output fails.
-pub fn run(rt: &HostRuntime, options: &Options<'_>) -> Result<RunOutcome, Fault> {
+pub fn run(rt: &HostRuntime, options: &Options<'_>) -> Result<RunOutcome, RunFault> {
     let alloc = rt.alloc();
     if let Task::List(text) = options.task {
         return list(rt, text);

@@ -19,7 +19,7 @@ use groklog_options::{
     AnswerOptions, CountOptions, Options, PageOptions, ShownOptions, Task, layout_of,
 };
 use groklog_patterns::{Explainer, RunPattern, explain, titles_of};
-use groklog_reports::Fault;
+use groklog_reports::RunFault;
 use groklog_views::{LocatedFields, PageContent, Scope, page_html};
 use std::alloc::AllocError;
 use suggestion_reports::{Sample, report_of_sample};
@@ -54,7 +54,7 @@ impl<'r, 'a, 'd> CompiledRun<'r, 'a, 'd> {
     /// # Errors
     ///
     /// If an allocation, a file or the output fails.
-    pub fn perform(self) -> Result<RunOutcome, Fault> {
+    pub fn perform(self) -> Result<RunOutcome, RunFault> {
         let ended = match &self.options.task {
             Task::Answers(answers) => self.answer(answers)?,
             Task::Counts(counts) => self.count(counts)?,
@@ -86,7 +86,10 @@ impl<'r, 'a, 'd> CompiledRun<'r, 'a, 'd> {
     }
 
     /// Reads all lines or events. Returns what searched them, and how that ended.
-    fn read<A: LogLines<'a> + SkipLines + Drop>(self, lines: A) -> Result<(A, RunOutcome), Fault> {
+    fn read<A: LogLines<'a> + SkipLines + Drop>(
+        self,
+        lines: A,
+    ) -> Result<(A, RunOutcome), RunFault> {
         answer_each(self.outlet, self.options, self.start, lines)
     }
 
@@ -101,7 +104,7 @@ impl<'r, 'a, 'd> CompiledRun<'r, 'a, 'd> {
     }
 
     /// Writes the answers.
-    fn answer(self, answers: &'a AnswerOptions<'a>) -> Result<Ended<'a>, Fault> {
+    fn answer(self, answers: &'a AnswerOptions<'a>) -> Result<Ended<'a>, RunFault> {
         let alloc = self.rt().alloc();
         let layout = layout_of(answers, self.fields);
         if self.options.task.has_records() {
@@ -113,7 +116,7 @@ impl<'r, 'a, 'd> CompiledRun<'r, 'a, 'd> {
     }
 
     /// Counts the values of keys, and writes them with their counts.
-    fn count(self, options: &CountOptions<'a>) -> Result<Ended<'a>, Fault> {
+    fn count(self, options: &CountOptions<'a>) -> Result<Ended<'a>, RunFault> {
         let alloc = self.rt().alloc();
         let keys = Vec::from_slice(alloc, &options.keys)?;
         let counts = KeyCounts::new(alloc, keys, options.format, options.most);
@@ -129,7 +132,7 @@ impl<'r, 'a, 'd> CompiledRun<'r, 'a, 'd> {
     }
 
     /// Shows the lines or events with their fields marked.
-    fn show(self, options: &ShownOptions<'a>) -> Result<Ended<'a>, Fault> {
+    fn show(self, options: &ShownOptions<'a>) -> Result<Ended<'a>, RunFault> {
         let show = Show {
             alloc: self.rt().alloc(),
             outlet: self.outlet,
@@ -162,7 +165,7 @@ impl<'r, 'a, 'd> CompiledRun<'r, 'a, 'd> {
         options: &PageOptions<'a>,
         lines: &SearchedLines<'a, Page<'a, 'a, 'd>>,
         outcome: RunOutcome,
-    ) -> Result<(), Fault> {
+    ) -> Result<(), RunFault> {
         let alloc = self.rt().alloc();
         let tags: Vec<&str> = self.named.iter().map(|named| named.tag).collect(alloc)?;
         let html = page_html(
@@ -181,7 +184,7 @@ impl<'r, 'a, 'd> CompiledRun<'r, 'a, 'd> {
     }
 
     /// Reads the first lines or events, and writes a page about them to a file.
-    fn write_page(self, options: &PageOptions<'a>) -> Result<Ended<'a>, Fault> {
+    fn write_page(self, options: &PageOptions<'a>) -> Result<Ended<'a>, RunFault> {
         let page = Page::new(self.explainer()?, self.page_content(options)?);
         let flow = page.content.flow();
         let mut lines = self.searched(page)?;
@@ -193,7 +196,7 @@ impl<'r, 'a, 'd> CompiledRun<'r, 'a, 'd> {
     }
 
     /// Explains the first lines or events that don't match, and writes how many more there are.
-    fn explain_lines(self, most: u64) -> Result<Ended<'a>, Fault> {
+    fn explain_lines(self, most: u64) -> Result<Ended<'a>, RunFault> {
         let (alloc, unit) = (self.rt().alloc(), self.options.unit());
         let why = Why::new(alloc, self.outlet, self.explainer()?, unit, most);
         let (lines, outcome) = self.read(self.searched(why)?)?;
@@ -203,7 +206,7 @@ impl<'r, 'a, 'd> CompiledRun<'r, 'a, 'd> {
     }
 
     /// Writes the explanation of each pattern.
-    fn explain_patterns(self) -> Result<RunOutcome, Fault> {
+    fn explain_patterns(self) -> Result<RunOutcome, RunFault> {
         for pattern in self.patterns {
             let lines = explain(self.rt().alloc(), self.library, pattern)?;
             write_output(self.rt(), lines.as_str())?;
@@ -223,7 +226,7 @@ pub fn suggest(
     options: &Options<'_>,
     library: &Library<'_>,
     most: u64,
-) -> Result<RunOutcome, Fault> {
+) -> Result<RunOutcome, RunFault> {
     let alloc = outlet.rt.alloc();
     let sample = Sample::new(alloc, most);
     let flow = sample.flow();

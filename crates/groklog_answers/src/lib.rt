@@ -38,7 +38,7 @@ pub use key_counts::KeyCounts;
 pub use layout::{Added, Addition, Failure, Layout, Lines, OutputFormat};
 pub use log_answers::LogAnswers;
 pub use missed::Missed;
-pub use plan::{Clash, Plan, PlanError, SharedKey};
+pub use plan::{Plan, PlanClash, PlanError, SharedKey};
 pub use record::header_of;
 pub use searched_lines::{Flow, FoundLine, LineTask, SearchedLines};
 pub use searches::{LineMatch, NamedPattern, Searches};

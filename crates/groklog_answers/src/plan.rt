@@ -52,7 +52,7 @@ pub struct Plan<'k> {
 /// Two keys that can't both be written: they are for the same member, or the member of the first one
 /// is also the object for the second one.
 #[derive(Clone, Copy)]
-pub struct Clash<'k> {
+pub struct PlanClash<'k> {
     pub first: &'k str,
     pub second: &'k str,
 }
@@ -63,7 +63,7 @@ pub enum PlanError<'k> {
     /// An allocation failed.
     Memory,
     /// Two keys can't both be written.
-    Clash(Clash<'k>),
+    Clash(PlanClash<'k>),
 }
 
 impl From<AllocError> for PlanError<'_> {
@@ -294,7 +294,7 @@ impl<'k> Plan<'k> {
         let mut entries = entries_of(alloc, keys, is_nested)?;
         entries.sort_by(|entry, other| entry.compare(other))?;
         if let Some(index) = first_clash(&entries) {
-            return Err(PlanError::Clash(Clash {
+            return Err(PlanError::Clash(PlanClash {
                 first: base_at(&entries, index),
                 second: base_at(&entries, index.saturating_add(1)),
             }));

@@ -9,7 +9,7 @@ use crate::common::add_common_definitions;
 use crate::definition::name_of_spaced;
 use crate::definitions::{Definition, Origin, read_file, read_word};
 use grok::{Grok, Measure, patterns};
-use groklog_reports::{Fault, Report, TextFile, add_excerpt};
+use groklog_reports::{Report, RunFault, TextFile, add_excerpt};
 use std::alloc::{AllocError, Global};
 use std::collections::BTreeMap;
 
@@ -82,7 +82,7 @@ pub struct Library<'a> {
 }
 
 /// Returns the fault that reports that a line or a word isn't a definition.
-fn no_definition(alloc: Global, origin: Origin<'_>, line: &str) -> Result<Fault, AllocError> {
+fn no_definition(alloc: Global, origin: Origin<'_>, line: &str) -> Result<RunFault, AllocError> {
     let mut report = match name_of_spaced(line) {
         Some(name) => {
             let advice = format!(in alloc;
@@ -99,14 +99,14 @@ fn no_definition(alloc: Global, origin: Origin<'_>, line: &str) -> Result<Fault,
     };
     let location = format!(in alloc; "{origin}")?;
     add_excerpt(alloc, &mut report, location.as_str(), line, 0..line.len())?;
-    Ok(Fault::Pattern(report))
+    Ok(RunFault::Pattern(report))
 }
 
 fn add_file<'a>(
     alloc: Global,
     found: &mut Vec<Definition<'a>>,
     file: &'a TextFile,
-) -> Result<(), Fault> {
+) -> Result<(), RunFault> {
     match read_file(found, file.name.as_str(), file.text.as_str())? {
         None => Ok(()),
         Some((origin, line)) => Err(no_definition(alloc, origin, line)?),
@@ -117,7 +117,7 @@ fn add_word<'a>(
     alloc: Global,
     found: &mut Vec<Definition<'a>>,
     word: &'a str,
-) -> Result<(), Fault> {
+) -> Result<(), RunFault> {
     match read_word(word) {
         Some(definition) => Ok(found.push(definition)?),
         None => Err(no_definition(alloc, Origin::Word, word)?),
@@ -131,7 +131,7 @@ fn collect<'a>(
     with_common: bool,
     files: &'a [TextFile],
     words: &[&'a str],
-) -> Result<Vec<Definition<'a>>, Fault> {
+) -> Result<Vec<Definition<'a>>, RunFault> {
     let mut found = Vec::new(alloc);
     if with_common {
         add_common_definitions(&mut found)?;
@@ -180,7 +180,7 @@ impl<'a> Library<'a> {
         files: &'a [TextFile],
         words: &[&'a str],
         most_bytes: usize,
-    ) -> Result<Library<'a>, Fault> {
+    ) -> Result<Library<'a>, RunFault> {
         let mut library = Library::with_default_definitions(alloc, with_common, most_bytes)?;
         for definition in &collect(alloc, with_common, files, words)? {
             let Definition { name, text, origin } = *definition;

@@ -1,14 +1,14 @@
 //! Reads the files and folders of definitions that are named after `-d`.
 
 use crate::read_files::is_link;
-use groklog_reports::{Fault, FileFailure, Report, TextFile, file_fault};
+use groklog_reports::{FileFailure, Report, RunFault, TextFile, file_fault};
 use std::alloc::{AllocError, Global};
 use std::fs::{self, Metadata};
 use std::io::{self, ErrorKind};
 use std::rt::Files;
 
 /// Returns the result of an operation on this file or folder, or the fault that reports its error.
-fn or_file_fault<T>(alloc: Global, name: &str, outcome: io::Result<T>) -> Result<T, Fault> {
+fn or_file_fault<T>(alloc: Global, name: &str, outcome: io::Result<T>) -> Result<T, RunFault> {
     match outcome {
         Ok(value) => Ok(value),
         Err(error) => Err(file_fault(alloc, name, FileFailure::of(&error))?),
@@ -17,13 +17,13 @@ fn or_file_fault<T>(alloc: Global, name: &str, outcome: io::Result<T>) -> Result
 
 /// Returns the entry of a folder, or the fault that reports why it can't be read. The system can't say
 /// the name of a file if it isn't UTF-8.
-fn or_entry_fault<T>(alloc: Global, folder: &str, entry: io::Result<T>) -> Result<T, Fault> {
+fn or_entry_fault<T>(alloc: Global, folder: &str, entry: io::Result<T>) -> Result<T, RunFault> {
     match entry {
         Err(error) if error.kind() == ErrorKind::InvalidFilename => {
             let what = format!(in alloc; "a file in {folder} has a name that isn't UTF-8")?;
             let advice = "look for it by ls -b, and give it another name";
             // own error: the folder was read, and the name of an entry isn't UTF-8.
-            Err(Fault::Read(Report::new(alloc, what.as_str(), advice)?))
+            Err(RunFault::Read(Report::new(alloc, what.as_str(), advice)?))
         }
         entry => or_file_fault(alloc, folder, entry),
     }
@@ -52,14 +52,14 @@ fn is_left_out(name: &str) -> bool {
 }
 
 /// Returns the metadata of a file or folder, or the fault that reports why there are none.
-fn metadata_of(rt: &(impl Files + AllocGlobal), name: &str) -> Result<Metadata, Fault> {
+fn metadata_of(rt: &(impl Files + AllocGlobal), name: &str) -> Result<Metadata, RunFault> {
     let alloc = rt.alloc();
     match fs::metadata(rt, name) {
         Err(error) if error.kind() == ErrorKind::NotFound && is_link(rt, name) => {
             let what = format!(in alloc; "{name} is a link to a file that isn't there")?;
             let advice = "remove the link, or make the file that it leads to";
             // own error: the system knows the link, and not the file that it leads to.
-            Err(Fault::Read(Report::new(alloc, what.as_str(), advice)?))
+            Err(RunFault::Read(Report::new(alloc, what.as_str(), advice)?))
         }
         found => or_file_fault(alloc, name, found),
     }
@@ -70,7 +70,7 @@ fn metadata_of(rt: &(impl Files + AllocGlobal), name: &str) -> Result<Metadata, 
 fn files_in(
     rt: &(impl Files + AllocGlobal + Clone + Drop),
     folder: &str,
-) -> Result<Vec<String>, Fault> {
+) -> Result<Vec<String>, RunFault> {
     let alloc = rt.alloc();
     let mut paths = Vec::new(alloc);
     for entry in or_file_fault(alloc, folder, fs::read_dir(rt, folder))? {
@@ -89,7 +89,7 @@ fn files_in(
 
 /// Returns the fault that reports that a file of definitions isn't UTF-8 after its first `valid`
 /// bytes.
-fn not_utf8(alloc: Global, name: &str, bytes: &[u8], valid: usize) -> Result<Fault, AllocError> {
+fn not_utf8(alloc: Global, name: &str, bytes: &[u8], valid: usize) -> Result<RunFault, AllocError> {
     let before = bytes.get(..valid).unwrap_or(bytes);
     let number = before
         .iter()
@@ -99,14 +99,14 @@ fn not_utf8(alloc: Global, name: &str, bytes: &[u8], valid: usize) -> Result<Fau
     let what = format!(in alloc; "{name}:{number} isn't UTF-8")?;
     let advice = "save the file as UTF-8, for instance by iconv -f LATIN1 -t UTF-8";
     // own error: the file was read, and what it holds isn't UTF-8.
-    Ok(Fault::Read(Report::new(alloc, what.as_str(), advice)?))
+    Ok(RunFault::Read(Report::new(alloc, what.as_str(), advice)?))
 }
 
 fn add_file(
     rt: &(impl Files + AllocGlobal),
     files: &mut Vec<TextFile>,
     name: &str,
-) -> Result<(), Fault> {
+) -> Result<(), RunFault> {
     let alloc = rt.alloc();
     let bytes = or_file_fault(alloc, name, fs::read(rt, name))?;
     match str::from_utf8(&bytes) {
@@ -129,7 +129,7 @@ fn add_file(
 pub fn read_definition_files(
     rt: &(impl Files + AllocGlobal + Clone + Drop),
     names: &[&str],
-) -> Result<Vec<TextFile>, Fault> {
+) -> Result<Vec<TextFile>, RunFault> {
     let mut files = Vec::new(rt.alloc());
     for name in names {
         if metadata_of(rt, name)?.is_dir() {

@@ -1,7 +1,7 @@
 //! The files that a run reads, and those that its output goes to. It never writes over them.
 
 use crate::standard_input::{INPUT, STANDARD_INPUT, shown_name};
-use groklog_reports::{Fault, FileFailure, Report, TextFile, file_fault};
+use groklog_reports::{FileFailure, Report, RunFault, TextFile, file_fault};
 use std::alloc::{AllocError, Global};
 use std::fs::{self, File, Metadata};
 use std::io::{self, ErrorKind};
@@ -107,7 +107,7 @@ fn try_open(rt: &impl Files, name: &str) -> io::Result<()> {
 /// # Errors
 ///
 /// If a log can't be opened, or if an allocation fails.
-pub fn check_logs(rt: &(impl Files + AllocGlobal), logs: &[&str]) -> Result<(), Fault> {
+pub fn check_logs(rt: &(impl Files + AllocGlobal), logs: &[&str]) -> Result<(), RunFault> {
     for name in logs {
         if *name != "-"
             && let Err(error) = try_open(rt, name)
@@ -124,7 +124,7 @@ fn would_overwrite(
     option: &str,
     name: &str,
     file: &UsedFile,
-) -> Result<Fault, AllocError> {
+) -> Result<RunFault, AllocError> {
     let shown = file.shown.as_str();
     let also = match file.how {
         Use::Output => String::from_str(alloc, shown)?,
@@ -133,7 +133,7 @@ fn would_overwrite(
     };
     let what = format!(in alloc; "{option} would write over {name}, which is also {also}")?;
     let advice = format!(in alloc; "name another file after {option}")?;
-    Ok(Fault::Usage(Report::new(alloc, what.as_str(), advice.as_str())?))
+    Ok(RunFault::Usage(Report::new(alloc, what.as_str(), advice.as_str())?))
 }
 
 impl ReadFiles {
@@ -195,7 +195,7 @@ impl ReadFiles {
         rt: &(impl Files + AllocGlobal),
         option: &str,
         name: &str,
-    ) -> Result<(), Fault> {
+    ) -> Result<(), RunFault> {
         let path = if name == "-" { OUTPUT } else { name };
         // What is not there, or can't be asked about, isn't read either.
         let Ok(metadata) = fs::metadata(rt, path) else {

@@ -2,7 +2,7 @@
 //! takes its place, so that whatever fails, even the system, the old file is as it was.
 
 use crate::read_files::{ReadFiles, folder_and_name, is_link, is_open_file};
-use groklog_reports::{Fault, FileFailure, Report};
+use groklog_reports::{FileFailure, Report, RunFault};
 use std::alloc::{AllocError, Global};
 use std::fs::{self, File, Metadata, OpenOptions};
 use std::io::{self, ErrorKind, Write};
@@ -238,19 +238,19 @@ impl WholeFile<'_> {
         }
     }
 
-    fn unwritten(&self, alloc: Global, why: &str, advice: &str) -> Result<Fault, AllocError> {
+    fn unwritten(&self, alloc: Global, why: &str, advice: &str) -> Result<RunFault, AllocError> {
         let what = format!(in alloc; "can't write {}: {why}", self.shown_name())?;
         // own error: the system reported that the file can't be written, or what a new one would lose.
-        Ok(Fault::Write(Report::new(alloc, what.as_str(), advice)?))
+        Ok(RunFault::Write(Report::new(alloc, what.as_str(), advice)?))
     }
 
     /// Returns the fault that reports this error of the system, or `Ok` if the reader of the file closed the pipe.
-    fn outcome_of_error(&self, alloc: Global, error: &io::Error) -> Result<(), Fault> {
+    fn outcome_of_error(&self, alloc: Global, error: &io::Error) -> Result<(), RunFault> {
         let failure = FileFailure::of(error);
         match failure.kind {
             ErrorKind::BrokenPipe => Ok(()),
             // own error: the system reported that an allocation failed.
-            ErrorKind::OutOfMemory => Err(Fault::Memory),
+            ErrorKind::OutOfMemory => Err(RunFault::Memory),
             kind => {
                 let why = format!(in alloc; "{failure}")?;
                 Err(self.unwritten(alloc, why.as_str(), advice_for_unwritable(kind))?)
@@ -260,7 +260,7 @@ impl WholeFile<'_> {
 
     /// Returns the fault that reports why the file couldn't be written. Returns `Ok` if it was written, or if its
     /// reader closed the pipe.
-    fn outcome(&self, alloc: Global, written: Result<(), Refusal>) -> Result<(), Fault> {
+    fn outcome(&self, alloc: Global, written: Result<(), Refusal>) -> Result<(), RunFault> {
         let (why, advice) = match written {
             Ok(()) => return Ok(()),
             Err(Refusal::System(error)) => return self.outcome_of_error(alloc, &error),
@@ -276,10 +276,10 @@ impl WholeFile<'_> {
         Err(self.unwritten(alloc, why, advice)?)
     }
 
-    fn no_name(&self, alloc: Global) -> Result<Fault, AllocError> {
+    fn no_name(&self, alloc: Global) -> Result<RunFault, AllocError> {
         let what = format!(in alloc; "the name after {} is empty", self.option)?;
         let advice = "name a file, or - for standard output";
-        Ok(Fault::Usage(Report::new(alloc, what.as_str(), advice)?))
+        Ok(RunFault::Usage(Report::new(alloc, what.as_str(), advice)?))
     }
 
     /// Checks that the file isn't one that the run uses, and that it can be written. It is not written yet.
@@ -287,7 +287,7 @@ impl WholeFile<'_> {
     /// # Errors
     ///
     /// If the name is empty, or if the file is used or can't be written.
-    pub fn check(&self, rt: &(impl Files<File = File> + AllocGlobal)) -> Result<(), Fault> {
+    pub fn check(&self, rt: &(impl Files<File = File> + AllocGlobal)) -> Result<(), RunFault> {
         if self.name.is_empty() {
             return Err(self.no_name(rt.alloc())?);
         }
@@ -306,10 +306,10 @@ impl WholeFile<'_> {
         rt: &(impl Files<File = File> + Print + AllocGlobal),
         is_all_read: bool,
         text: &str,
-    ) -> Result<(), Fault> {
+    ) -> Result<(), RunFault> {
         if !is_all_read {
             // own error: a log couldn't be read, which was reported.
-            return Err(Fault::Read(self.unread_report(rt.alloc())?));
+            return Err(RunFault::Read(self.unread_report(rt.alloc())?));
         }
         self.read.check(rt, self.option, self.name)?;
         self.outcome(rt.alloc(), write_text(rt, self.name, text))

@@ -7,7 +7,7 @@ ghost use Rattle.groklog_reports.specs.Faults.{IsReadFault, IsDeviceFault};
 
 use crate::watched::Watched;
 use grok_lines::{LineHandler, LinesError, handle_lines};
-use groklog_reports::{Fault, FileFailure, file_fault, write_fault};
+use groklog_reports::{FileFailure, RunFault, file_fault, write_fault};
 use std::alloc::{AllocError, Global};
 use std::io::{ErrorKind, Read, Write};
 
@@ -26,12 +26,12 @@ fn lines_fault(
     name: &str,
     failure: Option<FileFailure>,
     error: &LinesError,
-) -> Result<Option<Fault>, AllocError>
+) -> Result<Option<RunFault>, AllocError>
     ensures { IfOk result (IsFaultOfLines failure error.now) }
 {
     match error {
         // own error: `grok_lines` reported that an allocation failed.
-        LinesError::Memory => Ok(Some(Fault::Memory)),
+        LinesError::Memory => Ok(Some(RunFault::Memory)),
         LinesError::Read => {
             let failure = failure.unwrap_or(FileFailure {
                 // own error: reading ended without a reason, which no run does.
@@ -56,7 +56,7 @@ pub fn answer_input<A: LineHandler, R: Read, W: Write>(
     input: &mut Watched<'_, R>,
     output: &mut W,
     name: &str,
-) -> Result<Answered, Fault>
+) -> Result<Answered, RunFault>
     ensures all { IfOk result (λ answered. answered ≡ Answered.All
         → HasAnsweredInputAnd (A.answers answers.old) (λ lines. A.is_next answers.old lines answers.new)
         (traffic (R.remaining input.old.input) (R.remaining input.new.input)

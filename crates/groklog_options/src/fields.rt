@@ -8,7 +8,7 @@ ghost use denote.Ref.{Bor};
 use crate::keys::{check_list, key_set};
 use crate::task::Task;
 use groklog_answers::NamedPattern;
-use groklog_reports::{Fault, Report};
+use groklog_reports::{Report, RunFault};
 use std::alloc::{AllocError, Global};
 
 fn all_keys<'p>(alloc: Global, patterns: &[NamedPattern<'p>]) -> Result<Vec<&'p str>, AllocError>
@@ -31,7 +31,7 @@ pub fn chosen_fields<'p>(
     alloc: Global,
     task: &Task<'p>,
     patterns: &[NamedPattern<'p>],
-) -> Result<Option<Vec<&'p str>>, Fault>
+) -> Result<Option<Vec<&'p str>>, RunFault>
     ensures fault { IfErr result IsOptionFault }
     ensures named { IfOk result (λ chosen. (keys : List (Bor (List ℕ))) → fields_of task.now ≡ Some keys
         → option_map (λ names. names.items) chosen ≡ Some keys) }
@@ -50,7 +50,7 @@ pub fn chosen_fields<'p>(
     if keys.is_empty() && !task.has_additions() {
         let what = "--csv has no columns, since the pattern has no key";
         let advice = "give a placeholder an alias, as in %{NAME:key}";
-        return Err(Fault::Usage(Report::new(alloc, what, advice)?));
+        return Err(RunFault::Usage(Report::new(alloc, what, advice)?));
     }
     Ok(Some(keys))
 }

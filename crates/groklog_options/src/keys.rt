@@ -8,7 +8,7 @@ use crate::additions::option_of;
 use crate::nearest::nearest;
 use crate::task::{AnswerOptions, Task};
 use groklog_answers::{Added, NamedPattern};
-use groklog_reports::{Fault, Report};
+use groklog_reports::{Report, RunFault};
 use std::alloc::{AllocError, Global};
 use std::collections::BTreeSet;
 
@@ -23,14 +23,14 @@ fn option_of_key(added: &[Added<'_>], key: &str) -> Option<&'static str> {
 }
 
 /// Returns the fault that reports what is wrong with a key of an option.
-fn key_fault(alloc: Global, what: String, advice: &str) -> Result<Fault, AllocError>
+fn key_fault(alloc: Global, what: String, advice: &str) -> Result<RunFault, AllocError>
     ensures { IfOk result IsOptionFault }
 {
-    Ok(Fault::Usage(Report::new(alloc, what.as_str(), advice)?))
+    Ok(RunFault::Usage(Report::new(alloc, what.as_str(), advice)?))
 }
 
 /// Returns the fault that reports that something else has the key that an option names.
-fn taken_key(alloc: Global, what: String, option: &str) -> Result<Fault, AllocError>
+fn taken_key(alloc: Global, what: String, option: &str) -> Result<RunFault, AllocError>
     ensures { IfOk result IsOptionFault }
 {
     let advice = format!(in alloc; "name another key after --{option}")?;
@@ -38,7 +38,7 @@ fn taken_key(alloc: Global, what: String, option: &str) -> Result<Fault, AllocEr
 }
 
 /// Checks that no two options name the same key.
-fn check_repeated(alloc: Global, answers: &AnswerOptions<'_>) -> Result<(), Fault>
+fn check_repeated(alloc: Global, answers: &AnswerOptions<'_>) -> Result<(), RunFault>
     ensures { IfErr result IsOptionFault }
 {
     let added = &answers.added;
@@ -78,7 +78,11 @@ fn is_member(named: &NamedPattern<'_>, key: &str) -> bool {
 
 /// Checks that the key of what is added is neither a key of a pattern nor of the object that a plan
 /// describes.
-fn check_free(alloc: Global, patterns: &[NamedPattern<'_>], added: &Added<'_>) -> Result<(), Fault>
+fn check_free(
+    alloc: Global,
+    patterns: &[NamedPattern<'_>],
+    added: &Added<'_>,
+) -> Result<(), RunFault>
     ensures fault { IfErr result IsOptionFault }
     ensures free { OnOk result (some_has_key patterns.now added.now.key.now ≡ false) }
 {
@@ -95,7 +99,7 @@ fn check_all_free(
     alloc: Global,
     patterns: &[NamedPattern<'_>],
     added: &[Added<'_>],
-) -> Result<(), Fault>
+) -> Result<(), RunFault>
     ensures fault { IfErr result IsOptionFault }
     ensures free { OnOk result (has_taken_key patterns.now added.now ≡ false) }
 {
@@ -168,7 +172,7 @@ pub fn check_list<'p>(
     patterns: &[NamedPattern<'p>],
     option: &str,
     keys: &[&'p str],
-) -> Result<(), Fault>
+) -> Result<(), RunFault>
     ensures { IfErr result IsOptionFault }
 {
     let known = key_set(alloc, patterns)?;
@@ -197,7 +201,7 @@ pub fn check_keys(
     alloc: Global,
     task: &Task<'_>,
     patterns: &[NamedPattern<'_>],
-) -> Result<(), Fault>
+) -> Result<(), RunFault>
     ensures fault { IfErr result IsOptionFault }
     ensures free { OnOk result (has_taken_key patterns.now (added_by_task task.now) ≡ false) }
 {

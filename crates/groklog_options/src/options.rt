@@ -19,7 +19,7 @@ use clap::error::ErrorKind;
 use clap::{ArgMatches, Error};
 use groklog_answers::{Lines, OutputFormat};
 use groklog_input::LineForm;
-use groklog_reports::{Fault, Report, Unit};
+use groklog_reports::{Report, RunFault, Unit};
 use oniguruma_syntax::Wish;
 use std::alloc::{AllocError, Global};
 use std::collections::BTreeMap;
@@ -456,12 +456,12 @@ fn advice_of<'t>(alloc: Global, what: &str, rest: &'t str) -> Result<&'t str, Al
 }
 
 /// Returns the fault that reports why clap refuses the words.
-pub fn usage_fault(alloc: Global, error: &Error) -> Result<Fault, AllocError>
+pub fn usage_fault(alloc: Global, error: &Error) -> Result<RunFault, AllocError>
     ensures { IfOk result IsOptionFault }
 {
     if error.kind() == ErrorKind::OutOfMemory {
         // own error: clap reported that an allocation failed.
-        return Ok(Fault::Memory);
+        return Ok(RunFault::Memory);
     }
     let text = error.to_string(alloc)?;
     let text = text
@@ -471,5 +471,5 @@ pub fn usage_fault(alloc: Global, error: &Error) -> Result<Fault, AllocError>
     let (what, rest) = text.split_once("\n\n").unwrap_or((text, ""));
     let advice = advice_of(alloc, what, rest)?;
     let what = in_one_line(alloc, what)?;
-    Ok(Fault::Usage(Report::new(alloc, what.as_str(), advice)?))
+    Ok(RunFault::Usage(Report::new(alloc, what.as_str(), advice)?))
 }

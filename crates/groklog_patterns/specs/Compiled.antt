@@ -1,8 +1,8 @@
 -- The patterns of a run, and what is reported of one that isn't compiled.
 use Rattle.std.specs.Prelude.{◌≡◌, ◌⊎◌, string_bytes}
 use Rattle.grok.specs.Maps.{Texts}
-use Rattle.groklog_reports.specs.declared.fault.Fault.{Fault}
-use Rattle.groklog_reports.specs.declared.fault.Fault.TheVariants.{Pattern, Usage, Memory, Read, Write}
+use Rattle.groklog_reports.specs.declared.fault.RunFault.{RunFault}
+use Rattle.groklog_reports.specs.declared.fault.RunFault.TheVariants.{Pattern, Usage, Memory, Read, Write}
 use Rattle.groklog_definitions.specs.Compiled.{IsCompiledFrom, IsRefusedText, IsTooLarge}
 use Rattle.groklog_definitions.specs.declared.library.Limit.{Limit}
 use Rattle.groklog_definitions.specs.declared.pattern_text.PatternText.{PatternText}
@@ -20,8 +20,8 @@ abbrev pub IsRefused : Texts → Limit → PatternText → Type 0
 IsRefused definitions limit text = IsRefusedText definitions text.with_alias_only (string_bytes text.text)
     ⊎ IsTooLarge definitions text.with_alias_only limit (string_bytes text.text)
 
--- The `Fault` is that of a pattern, and `is_refused` holds, or an allocation failed.
-abbrev pub IsCompileFault : Type 0 → Fault → Type 0
+-- The `RunFault` is that of a pattern, and `is_refused` holds, or an allocation failed.
+abbrev pub IsCompileFault : Type 0 → RunFault → Type 0
 IsCompileFault is_refused (Pattern report) = is_refused
 IsCompileFault is_refused (Usage report) = ⊥
 IsCompileFault is_refused Memory = Unit {0}

@@ -7,7 +7,7 @@ use crate::diagnosis::report_of;
 use crate::expansions::too_large_report;
 use grok::Pattern;
 use groklog_definitions::{CompileRefusal, Library, PatternText, compile};
-use groklog_reports::Fault;
+use groklog_reports::RunFault;
 use std::alloc::{AllocError, Global};
 
 /// A pattern of a run, with the text that it was compiled from.
@@ -22,14 +22,14 @@ fn fault_of(
     library: &Library<'_>,
     text: &PatternText,
     refusal: CompileRefusal,
-) -> Result<Fault, AllocError>
+) -> Result<RunFault, AllocError>
     ensures { IfOk result (IsCompileFault (refusal ≢ CompileRefusal.Memory)) }
 {
     Ok(match refusal {
-        CompileRefusal::TooLarge => Fault::Pattern(too_large_report(alloc, library, text)?),
-        CompileRefusal::Invalid => Fault::Pattern(report_of(alloc, library, text)?),
+        CompileRefusal::TooLarge => RunFault::Pattern(too_large_report(alloc, library, text)?),
+        CompileRefusal::Invalid => RunFault::Pattern(report_of(alloc, library, text)?),
         // own error: compiling reported that an allocation failed.
-        CompileRefusal::Memory => Fault::Memory,
+        CompileRefusal::Memory => RunFault::Memory,
     })
 }
 
@@ -38,7 +38,7 @@ fn compile_text(
     alloc: Global,
     library: &Library<'_>,
     text: PatternText,
-) -> Result<RunPattern, Fault>
+) -> Result<RunPattern, RunFault>
     ensures pattern { IfOk result (IsRunPattern library.now.grok library.now.limit text) }
     ensures fault { IfErr result (IsCompileFault (IsRefused library.now.grok library.now.limit text)) }
 {
@@ -58,7 +58,7 @@ pub fn compile_all(
     alloc: Global,
     library: &Library<'_>,
     texts: Vec<PatternText>,
-) -> Result<Vec<RunPattern>, Fault>
+) -> Result<Vec<RunPattern>, RunFault>
     ensures patterns { IfOk result (λ all. AllZip (IsRunPattern library.now.grok library.now.limit) texts.items all.items) }
     ensures fault { IfErr result (IsCompileFault (Any (IsRefused library.now.grok library.now.limit) texts.items)) }
 {

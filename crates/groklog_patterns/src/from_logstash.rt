@@ -3,8 +3,8 @@
 use grok::Measure;
 use grok::parser::uses_in;
 use groklog_definitions::{DefinitionSource, Library, Origin, PatternText, common_definition};
-use groklog_reports::{Fault, Report, add_excerpt};
-use oniguruma_syntax::{Outcome, Reason, Refused, Rewritten, Wish, rewrite};
+use groklog_reports::{Report, RunFault, add_excerpt};
+use oniguruma_syntax::{Outcome, Reason, RefusedPart, Rewritten, Wish, rewrite};
 use std::alloc::{AllocError, Global};
 use std::collections::BTreeSet;
 
@@ -89,14 +89,14 @@ fn refusal(
     alloc: Global,
     text: &str,
     location: &str,
-    refused: Refused,
+    refused: RefusedPart,
     advice: &str,
-) -> Result<Fault, AllocError> {
-    let Refused { reason, range } = refused;
+) -> Result<RunFault, AllocError> {
+    let RefusedPart { reason, range } = refused;
     let what = format!(in alloc; "--from-logstash can't rewrite this: {reason}")?;
     let mut report = Report::new(alloc, what.as_str(), advice)?;
     add_excerpt(alloc, &mut report, location, text, range)?;
-    Ok(Fault::Pattern(report))
+    Ok(RunFault::Pattern(report))
 }
 
 /// Rewrites a text, and appends a note for each change.
@@ -106,7 +106,7 @@ fn adapt(
     text: &str,
     location: &str,
     wish: Wish,
-) -> Result<Result<String, Refused>, AllocError> {
+) -> Result<Result<String, RefusedPart>, AllocError> {
     match rewrite(alloc, text, wish)? {
         Outcome::Refused(refused) => Ok(Err(refused)),
         Outcome::Kept => Ok(Ok(String::from_str(alloc, text)?)),
@@ -132,7 +132,7 @@ fn adapt_definition<'a>(
     notes: &mut Vec<String>,
     source: DefinitionSource<'a>,
     wish: Wish,
-) -> Result<(), Fault> {
+) -> Result<(), RunFault> {
     let Some(text) = library.grok.definition(source.name) else {
         return Ok(());
     };
@@ -154,7 +154,7 @@ fn adapt_pattern(
     notes: &mut Vec<String>,
     pattern: &PatternText,
     wish: Wish,
-) -> Result<PatternText, Fault> {
+) -> Result<PatternText, RunFault> {
     let (text, words) = (pattern.text.as_str(), pattern.words.as_str());
     let whole = Wish {
         is_whole: true,
@@ -186,7 +186,7 @@ pub fn adapt_all(
     library: &mut Library<'_>,
     given: &[PatternText],
     wish: Wish,
-) -> Result<Adapted, Fault> {
+) -> Result<Adapted, RunFault> {
     let mut notes = Vec::new(alloc);
     for source in &used_sources(alloc, library, given)? {
         adapt_definition(alloc, library, &mut notes, *source, wish)?;

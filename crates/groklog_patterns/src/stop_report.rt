@@ -206,7 +206,7 @@ fn push_stop(
     searched: &Searched<'_, '_>,
     (line, stop): (&str, &Stop),
 ) -> Result<(), AllocError> {
-    let groups = searched.groups_around(alloc, stop.count)?;
+    let groups = searched.groups_around(stop.count)?;
     let inner = searched.written(alloc, searched.piece_at(stop.count))?;
     match searched.outermost(&groups)? {
         None => push_part(
@@ -247,7 +247,7 @@ fn push_advice(
     searched: &Searched<'_, '_>,
     (line, stop): (&str, &Stop),
 ) -> Result<(), AllocError> {
-    let groups = searched.groups_around(alloc, stop.count)?;
+    let groups = searched.groups_around(stop.count)?;
     let Some(bracket) = bracket_in_line(searched, (line, stop), &groups)? else {
         return Ok(());
     };

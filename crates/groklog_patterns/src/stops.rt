@@ -166,22 +166,9 @@ impl<'p, 'd> Searched<'p, 'd> {
         }
     }
 
-    /// Returns the groups around the piece at this index, innermost first.
-    pub fn groups_around(&self, alloc: Global, index: usize) -> Result<Vec<Group>, AllocError> {
-        let mut around = Vec::new(alloc);
-        let Some(piece) = self.beginnings.pieces().get(index) else {
-            return Ok(around);
-        };
-        let groups = self.beginnings.groups();
-        let mut next = piece.around;
-        for _ in 0..piece.depth {
-            let Some(group) = next.and_then(|number| groups.get(number)) else {
-                break;
-            };
-            around.push(*group)?;
-            next = group.around;
-        }
-        Ok(around)
+    /// Returns the groups around the piece at this index, outermost first.
+    pub fn groups_around(&self, index: usize) -> Result<Vec<Group>, AllocError> {
+        self.beginnings.groups_around(index)
     }
 
     /// Returns where a part of the expanded text was written. `part` has the start and the end of the
@@ -205,10 +192,10 @@ impl<'p, 'd> Searched<'p, 'd> {
     }
 
     /// Returns the placeholder of the pattern in whose definition these groups are. They are around
-    /// one piece, innermost first. Returns `None` if they are written in the pattern itself.
+    /// one piece, outermost first. Returns `None` if they are written in the pattern itself.
     pub fn outermost(&self, groups: &[Group]) -> Result<Option<Outermost>, AllocError> {
         let (grok, pattern) = (&self.library.grok, self.text.text.as_str());
-        for group in groups.iter().rev() {
+        for group in groups {
             if let Some(location) = grok.locate_byte(
                 pattern,
                 self.text.with_alias_only,

@@ -1,7 +1,7 @@
 //! Writes the definitions of a run as the text of one file.
 
 use groklog_definitions::{read_definition, skip_blanks, without_mark};
-use groklog_reports::{Fault, Report, TextFile};
+use groklog_reports::{Report, RunFault, TextFile};
 use oniguruma_syntax::{Outcome, Rewritten, Wish, rewrite};
 use std::alloc::{AllocError, Global};
 
@@ -84,13 +84,13 @@ impl WrittenLines {
 }
 
 /// Returns the fault that reports that a definition doesn't fit into a line.
-fn several_lines(alloc: Global, word: &str) -> Result<Fault, AllocError> {
+fn several_lines(alloc: Global, word: &str) -> Result<RunFault, AllocError> {
     let (name, _) = read_definition(word).unwrap_or(("", ""));
     let what = format!(in alloc;
         "--write-definitions can't write {name}, whose definition has a line feed"
     )?;
     let advice = "write \\n for the line feed";
-    Ok(Fault::Pattern(Report::new(alloc, what.as_str(), advice)?))
+    Ok(RunFault::Pattern(Report::new(alloc, what.as_str(), advice)?))
 }
 
 /// Returns the text of a file that defines what these files and words after `-D` do, in this order. With `wish`,
@@ -105,7 +105,7 @@ pub fn definition_lines(
     files: &[TextFile],
     words: &[&str],
     wish: Option<Wish>,
-) -> Result<String, Fault> {
+) -> Result<String, RunFault> {
     let text = String::new(alloc);
     let mut lines = WrittenLines { alloc, text, wish };
     for file in files {

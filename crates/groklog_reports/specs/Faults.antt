@@ -9,8 +9,8 @@ use Rattle.groklog_reports.specs.Visible.{visible}
 use Rattle.groklog_reports.specs.declared.file_failure.FileFailure.{FileFailure}
 use Rattle.groklog_reports.specs.declared.fault.FaultyPart.{FaultyPart}
 use Rattle.groklog_reports.specs.declared.fault.Report.{Report}
-use Rattle.groklog_reports.specs.declared.fault.Fault.{Fault}
-use Rattle.groklog_reports.specs.declared.fault.Fault.TheVariants.{Pattern, Usage, Memory, Read, Write}
+use Rattle.groklog_reports.specs.declared.fault.RunFault.{RunFault}
+use Rattle.groklog_reports.specs.declared.fault.RunFault.TheVariants.{Pattern, Usage, Memory, Read, Write}
 
 -- Two lines: a part of a text with some of the text around it, and the carets under the part.
 abbrev pub excerpt_text : List ℕ → List ℕ → List ℕ
@@ -22,7 +22,7 @@ part_texts part = (string_bytes part.location, string_bytes part.excerpt)
 
 -- The exit status is 1 for a fault of a pattern or a definition, 2 for wrong options, and 3 if an
 -- allocation, reading or writing failed.
-abbrev pub fault_status : Fault → ℕ
+abbrev pub fault_status : RunFault → ℕ
 fault_status (Pattern report) = 1
 fault_status (Usage report) = 2
 fault_status Memory = 3
@@ -51,7 +51,7 @@ report_text report = codes "groklog: " ++ string_bytes report.what ++ codes "\n"
     ++ parts_text report.parts.items ++ advice_text (string_bytes report.advice)
 
 -- The text that Display shows.
-abbrev pub fault_text : Fault → List ℕ
+abbrev pub fault_text : RunFault → List ℕ
 fault_text (Pattern report) = report_text report
 fault_text (Usage report) = report_text report
 fault_text Memory = codes "groklog: out of memory\n"
@@ -61,7 +61,7 @@ fault_text (Write report) = report_text report
 -- ---- which fault reports which failure
 
 -- The fault reports that a file can't be read.
-abbrev pub IsReadFault : Fault → Type 0
+abbrev pub IsReadFault : RunFault → Type 0
 IsReadFault (Pattern report) = ⊥
 IsReadFault (Usage report) = ⊥
 IsReadFault Memory = ⊥
@@ -69,7 +69,7 @@ IsReadFault (Read report) = Unit {0}
 IsReadFault (Write report) = ⊥
 
 -- The fault reports that the output can't be written.
-abbrev pub IsWriteFault : Fault → Type 0
+abbrev pub IsWriteFault : RunFault → Type 0
 IsWriteFault (Pattern report) = ⊥
 IsWriteFault (Usage report) = ⊥
 IsWriteFault Memory = ⊥
@@ -77,7 +77,7 @@ IsWriteFault (Read report) = ⊥
 IsWriteFault (Write report) = Unit {0}
 
 -- The fault reports that an allocation, reading or writing failed.
-abbrev pub IsDeviceFault : Fault → Type 0
+abbrev pub IsDeviceFault : RunFault → Type 0
 IsDeviceFault (Pattern report) = ⊥
 IsDeviceFault (Usage report) = ⊥
 IsDeviceFault Memory = Unit {0}
@@ -89,11 +89,11 @@ abbrev pub failure_of : Error → FileFailure
 failure_of error = record { kind = error_kind error; number = raw_os_error error }
 
 -- The fault reports that a file couldn't be opened or read: `Memory` if an allocation failed, and otherwise `Read`.
-abbrev pub IsFaultOfFile : ErrorKind → Fault → Type 0
+abbrev pub IsFaultOfFile : ErrorKind → RunFault → Type 0
 IsFaultOfFile kind fault = (kind ≡ OutOfMemory → fault ≡ Memory) × (kind ≢ OutOfMemory → IsReadFault fault)
 
 -- `found` reports that writing failed with `error`. If the reader of the output closed the pipe, there is nothing to
 -- report.
-abbrev pub IsFaultOfWrite : Error → Option Fault → Type 0
+abbrev pub IsFaultOfWrite : Error → Option RunFault → Type 0
 IsFaultOfWrite error found = (error_kind error ≡ BrokenPipe → found ≡ None)
     × (error_kind error ≢ BrokenPipe → MatchOption found ⊥ IsWriteFault)

@@ -4,7 +4,7 @@ ghost use Rattle.std.specs.Prelude.{◌≡◌, [], ◌∷◌, ◌++◌, map, Som
 ghost use Rattle.std.specs.Fmt.{WritesOnOk};
 ghost use Rattle.groklog_reports.specs.Faults.{excerpt_text, part_texts, fault_status, part_text, parts_text, advice_text, report_text, fault_text};
 ghost use Rattle.groklog_reports.specs.Visible.{visible};
-ghost use Rattle.groklog_reports.specs.declared.fault.Fault.TheVariants.{Memory};
+ghost use Rattle.groklog_reports.specs.declared.fault.RunFault.TheVariants.{Memory};
 
 use crate::visible_text::visible;
 use std::alloc::{AllocError, AllocFailed, Global};
@@ -33,7 +33,7 @@ pub struct Report {
 
 /// Why the program ends early.
 #[derive(Debug, Drop)]
-pub enum Fault {
+pub enum RunFault {
     /// A pattern or a definition has a fault.
     Pattern(Report),
     /// The words of the command line are wrong.
@@ -92,17 +92,17 @@ impl Report {
     }
 }
 
-impl Fault {
+impl RunFault {
     /// Returns the exit status: 1 for a fault of a pattern or a definition, 2 for wrong options,
     /// and 3 if an allocation, reading or writing failed.
     pub fn status(&self) -> u8
         ensures { result ≡ fault_status self.now }
     {
         match self {
-            Fault::Pattern(_) => 1,
-            Fault::Usage(_) => 2,
-            Fault::Memory => 3,
-            Fault::Read(_) | Fault::Write(_) => 3,
+            RunFault::Pattern(_) => 1,
+            RunFault::Usage(_) => 2,
+            RunFault::Memory => 3,
+            RunFault::Read(_) | RunFault::Write(_) => 3,
         }
     }
 }
@@ -148,34 +148,34 @@ impl fmt::Display for Report {
     }
 }
 
-impl fmt::Display for Fault {
+impl fmt::Display for RunFault {
     ghost output = { λ fault. Some (fault_text fault) };
 
     fn fmt<W: fmt::Write>(&self, f: &mut fmt::Formatter<W>) -> fmt::Result {
         match self {
-            Fault::Pattern(report)
-            | Fault::Usage(report)
-            | Fault::Read(report)
-            | Fault::Write(report) => { write!(f, "{report}") }
-            Fault::Memory => writeln!(f, "groklog: out of memory"),
+            RunFault::Pattern(report)
+            | RunFault::Usage(report)
+            | RunFault::Read(report)
+            | RunFault::Write(report) => { write!(f, "{report}") }
+            RunFault::Memory => writeln!(f, "groklog: out of memory"),
         }
     }
 }
 
-impl From<AllocError> for Fault {
+impl From<AllocError> for RunFault {
     ghost from_gives = { λ _ fault. fault ≡ Memory };
 
-    fn from(_error: AllocError) -> Fault {
+    fn from(_error: AllocError) -> RunFault {
         // own error: an allocation failed.
-        Fault::Memory
+        RunFault::Memory
     }
 }
 
-impl<T: Drop> From<AllocFailed<T>> for Fault {
+impl<T: Drop> From<AllocFailed<T>> for RunFault {
     ghost from_gives = { λ _ fault. fault ≡ Memory };
 
-    fn from(_error: AllocFailed<T>) -> Fault {
+    fn from(_error: AllocFailed<T>) -> RunFault {
         // own error: an allocation failed.
-        Fault::Memory
+        RunFault::Memory
     }
 }

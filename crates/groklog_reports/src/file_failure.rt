@@ -3,7 +3,7 @@ ghost use Rattle.std.specs.Prelude.{◌≡◌, IfOk};
 ghost use Rattle.std.specs.IoError.{error_kind, raw_os_error};
 ghost use Rattle.groklog_reports.specs.Faults.{failure_of, IsFaultOfFile, IsFaultOfWrite};
 
-use crate::fault::{Fault, Report};
+use crate::fault::{Report, RunFault};
 use std::alloc::{AllocError, Global};
 use std::fmt;
 use std::io::{self, ErrorKind};
@@ -63,12 +63,12 @@ fn advice_for_unreadable(kind: ErrorKind) -> &'static str {
 }
 
 /// Returns the fault that reports that a file can't be opened or read.
-pub fn file_fault(alloc: Global, file: &str, failure: FileFailure) -> Result<Fault, AllocError>
+pub fn file_fault(alloc: Global, file: &str, failure: FileFailure) -> Result<RunFault, AllocError>
     ensures { IfOk result (IsFaultOfFile failure.kind) }
 {
     let (what, advice) = match failure.kind {
         // own error: the file could not be read because an allocation failed.
-        ErrorKind::OutOfMemory => return Ok(Fault::Memory),
+        ErrorKind::OutOfMemory => return Ok(RunFault::Memory),
         ErrorKind::NotFound => (
             format!(in alloc; "there is no file {file}")?,
             "check its name, and the folder that you are in",
@@ -80,12 +80,12 @@ pub fn file_fault(alloc: Global, file: &str, failure: FileFailure) -> Result<Fau
         ),
     };
     // own error: opening or reading the file failed, and no allocation did.
-    Ok(Fault::Read(Report::new(alloc, what.as_str(), advice)?))
+    Ok(RunFault::Read(Report::new(alloc, what.as_str(), advice)?))
 }
 
 /// Returns the fault that reports that the output can't be written, or `None` if its reader closed
 /// the pipe.
-pub fn write_fault(alloc: Global, error: &io::Error) -> Result<Option<Fault>, AllocError>
+pub fn write_fault(alloc: Global, error: &io::Error) -> Result<Option<RunFault>, AllocError>
     ensures { IfOk result (IsFaultOfWrite error.now) }
 {
     if error.kind() == ErrorKind::BrokenPipe {
@@ -104,5 +104,5 @@ pub fn write_fault(alloc: Global, error: &io::Error) -> Result<Option<Fault>, Al
         _ => "check where standard output goes",
     };
     // own error: the writer reported an error, and its reader didn't close the pipe.
-    Ok(Some(Fault::Write(Report::new(alloc, what.as_str(), advice)?)))
+    Ok(Some(RunFault::Write(Report::new(alloc, what.as_str(), advice)?)))
 }

@@ -4,7 +4,7 @@ ghost use Rattle.std.specs.Prelude.{◌≡◌};
 
 use grok_lines::{LineAnswers, LinesError, handle_lines};
 use groklog_input::{Answered, Encoding, FormedAnswers, LineForm, Watched, answer_input};
-use groklog_reports::{Fault, FileFailure};
+use groklog_reports::{FileFailure, RunFault};
 use std::alloc::AllocError;
 use std::io::{self, ErrorKind, Read, Write};
 use std::process::Abort;
@@ -80,7 +80,10 @@ impl Write for Output {
 }
 
 /// How answering ended: it was all answered, its reader has enough, or there was a fault with this text.
-fn ending(rt: &impl AllocGlobal, answered: Result<Answered, Fault>) -> Result<String, AllocError> {
+fn ending(
+    rt: &impl AllocGlobal,
+    answered: Result<Answered, RunFault>,
+) -> Result<String, AllocError> {
     match answered {
         Ok(Answered::All) => String::from_str(rt.alloc(), "all"),
         Ok(Answered::Enough) => String::from_str(rt.alloc(), "enough"),

@@ -1,17 +1,20 @@
 //! Finds where in a line the values of keys are.
-ghost use Rattle.std.specs.Prelude.{◌≡◌, IfOk, map, option_map};
-ghost use Rattle.std.specs.List.{filter_map};
+ghost use Rattle.std.specs.Prelude.{◌≡◌, IfOk, OnOk, Some, map, option_map, slice_get};
+ghost use Rattle.std.specs.List.{AllZip, IsDistinct, filter_map};
+ghost use Rattle.std.specs.Str.{bytes_eq};
 ghost use Rattle.grok.specs.Answers.{value_of};
 ghost use Rattle.grok.specs.BorrowedMatches.{borrowed_line, borrowed_keys, borrowed_captures};
 ghost use Rattle.groklog_answers.specs.{found_text_of};
 ghost use Rattle.groklog_answers.specs.PlanViews.{names_of};
+ghost use Rattle.groklog_views.specs.KeyNumbers.{counts, AreNumbers, AreNumbersOf};
+ghost use Rattle.groklog_views.specs.steps.MoreKeys.{HasMore};
 ghost use Rattle.groklog_views.specs.Fields.{field_text, fields_text, numbered_value, numbers_at, values_at};
 
-use grok::{MatchesRef, Pattern};
+use grok::MatchesRef;
 use groklog_answers::{LineMatch, NamedPattern};
+use indexmap::IndexSet;
 use marked_lines::Field;
 use std::alloc::{AllocError, Global};
-use std::collections::{BTreeMap, BTreeSet};
 use std::ops::Range;
 
 /// Finds where in a line the values of the keys are.
@@ -26,66 +29,42 @@ pub struct LocatedFields<'a> {
     numbers_of: Vec<Vec<usize>>,
 }
 
-/// Numbers the keys of patterns in the order in which they come.
-#[derive(Drop)]
-struct KeyNumbers<'p> {
-    keys: Vec<&'p str>,
-    numbers: BTreeMap<&'p str, usize>,
-    /// The keys that count, if not all do.
-    chosen: Option<BTreeSet<&'p str>>,
+/// Returns whether a key counts: those in `fields` do, or all if it isn't given.
+fn counts(fields: Option<&[&str]>, key: &str) -> bool
+    ensures { result ≡ counts fields.entry key.now }
+{
+    match fields {
+        Some(fields) => fields.contains(&key),
+        None => true,
+    }
 }
 
-impl<'p> KeyNumbers<'p> {
-    /// Begins with no key. If `fields` is given, only these keys count.
-    fn new(alloc: Global, fields: Option<&[&'p str]>) -> Result<KeyNumbers<'p>, AllocError> {
-        let mut chosen = None;
-        if let Some(fields) = fields {
-            let mut named = BTreeSet::new(alloc);
-            for field in fields {
-                named.insert(*field)?;
-            }
-            chosen = Some(named);
-        }
-        Ok(KeyNumbers {
-            keys: Vec::new(alloc),
-            numbers: BTreeMap::new(alloc),
-            chosen,
-        })
-    }
+/// Returns the number of a key, which it gets if it has none yet.
+fn number_of<'p>(all: &mut IndexSet<&'p str>, key: &'p str) -> Result<usize, AllocError>
+    ensures number { IfOk result (λ number. slice_get (names_of all.new.keys) number ≡ Some key.now) }
+    ensures kept { OnOk result (HasMore all.old.keys all.new.keys) }
+{
+    let (number, _) = all.insert_full(key)?;
+    Ok(number)
+}
 
-    /// Returns whether a key counts.
-    fn counts(&self, key: &'p str) -> bool {
-        match &self.chosen {
-            Some(chosen) => chosen.contains(&key),
-            None => true,
+/// Returns the numbers of the keys that count, in their order. Each that has none yet gets the next one.
+fn numbers_of<'p>(
+    alloc: Global,
+    all: &mut IndexSet<&'p str>,
+    by_group: &[(usize, &'p str)],
+    fields: Option<&[&str]>,
+) -> Result<Vec<usize>, AllocError>
+    ensures numbers { IfOk result (λ numbers. AreNumbers (counts fields.entry) (names_of all.new.keys) by_group.now numbers.items) }
+    ensures kept { OnOk result (HasMore all.old.keys all.new.keys) }
+{
+    let mut numbers = Vec::new(alloc);
+    'keys: for key in by_group {
+        if counts(fields, key.1) {
+            numbers.push(number_of(all, key.1)?)?;
         }
     }
-
-    /// Returns the number of a key, which it gets if it has none yet.
-    fn number_of(&mut self, key: &'p str) -> Result<usize, AllocError> {
-        if let Some(number) = self.numbers.get(&key) {
-            return Ok(*number);
-        }
-        let number = self.keys.len();
-        self.numbers.insert(key, number)?;
-        self.keys.push(key)?;
-        Ok(number)
-    }
-
-    /// Returns the numbers of the keys of a pattern that count.
-    fn numbers_of(
-        &mut self,
-        alloc: Global,
-        pattern: &'p Pattern,
-    ) -> Result<Vec<usize>, AllocError> {
-        let mut numbers = Vec::new(alloc);
-        for (_, key) in &pattern.keys_by_group()? {
-            if self.counts(*key) {
-                numbers.push(self.number_of(*key)?)?;
-            }
-        }
-        Ok(numbers)
-    }
+    Ok(numbers)
 }
 
 fn field_of(matches: MatchesRef<'_>, keys: &[&str], key: usize) -> Option<Field>
@@ -130,17 +109,21 @@ impl<'a> LocatedFields<'a> {
         alloc: Global,
         patterns: &[NamedPattern<'a>],
         fields: Option<&[&'a str]>,
-    ) -> Result<LocatedFields<'a>, AllocError> {
-        let mut numbers = KeyNumbers::new(alloc, fields)?;
-        let mut numbers_of = Vec::new(alloc);
-        for NamedPattern { pattern, .. } in patterns {
-            numbers_of.push(numbers.numbers_of(alloc, *pattern)?)?;
+    ) -> Result<LocatedFields<'a>, AllocError>
+        ensures once { IfOk result (λ located. IsDistinct (λ key other. bytes_eq key.now other.now) located.keys.items) }
+        ensures numbers { IfOk result (λ located. AllZip (λ named numbers. AreNumbersOf (counts fields.entry) (names_of located.keys.items) named numbers.items)
+            patterns.now located.numbers_of.items) }
+    {
+        let mut all = IndexSet::new(alloc);
+        let mut numbers_by_pattern = Vec::new(alloc);
+        'patterns: for named in patterns {
+            let by_group = named.pattern.keys_by_group()?;
+            numbers_by_pattern.push(numbers_of(alloc, &mut all, &by_group, fields)?)?;
         }
-        let KeyNumbers { keys, .. } = numbers;
         Ok(LocatedFields {
             alloc,
-            keys,
-            numbers_of,
+            keys: Vec::from_slice(alloc, all.as_slice())?,
+            numbers_of: numbers_by_pattern,
         })
     }
 

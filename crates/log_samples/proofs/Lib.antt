@@ -1,1 +1,3 @@
+mod KeysLeft
+mod MarkedLines
 pub mod CompiledIsWithin

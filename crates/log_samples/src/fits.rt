@@ -1,14 +1,14 @@
 //! Finds out which lines a pattern fits.
-ghost use Rattle.std.specs.Prelude.{◌≡◌, ◌<◌, IfOk, IfSome, count_by, map};
-ghost use Rattle.grok.specs.Answers.{walk};
+ghost use Rattle.std.specs.Prelude.{◌≡◌, ◌<◌, IfOk, OnOk, IfSome, count_by, filter, map, not};
+ghost use Rattle.std.specs.Map.{keys_of};
+ghost use Rattle.grok.specs.Answers.{value_of, walk};
 ghost use Rattle.grok.specs.BorrowedMatches.{borrowed_keys, borrowed_captures};
-ghost use Rattle.log_samples.specs.Fits.{tells, fits};
+ghost use Rattle.log_samples.specs.Fits.{texts_of, tells, fits, has_value, has_key_in, has_key, unmarked};
 
 use crate::compiled::compile_valid;
 use grok::{Matcher, MatchesRef, Pattern};
 use groklog_definitions::Library;
 use std::alloc::{AllocError, Global};
-use std::collections::BTreeSet;
 
 /// How well a pattern fits some lines.
 #[derive(Clone, Copy, PartialEq, Eq)]
@@ -74,37 +74,39 @@ fn tells(matches: MatchesRef<'_>, line: &str) -> bool
     true
 }
 
-/// The keys of a pattern that have had no value yet.
-#[derive(Drop)]
-struct MissingKeys<'p> {
-    keys: BTreeSet<&'p str>,
+/// Returns whether a match gives a key a value that isn't empty.
+fn has_value(matches: MatchesRef<'_>, key: &str) -> bool
+    ensures { result ≡ has_value (value_of (borrowed_keys matches.entry) (borrowed_captures matches.entry)) key.now }
+{
+    match matches.get(key) {
+        Some(value) => !value.is_empty(),
+        None => false,
+    }
 }
 
-impl<'p> MissingKeys<'p> {
-    fn of(alloc: Global, pattern: &'p Pattern) -> Result<MissingKeys<'p>, AllocError> {
-        let mut keys = BTreeSet::new(alloc);
-        for key in pattern.capture_names() {
-            keys.insert(key)?;
-        }
-        Ok(MissingKeys { keys })
-    }
+/// Takes out of these keys each to which a match gives a value.
+fn drop_keys(keys: &mut Vec<&str>, matches: MatchesRef<'_>)
+    ensures { keys.new.items ≡ filter (λ key. not (has_value (value_of (borrowed_keys matches.entry) (borrowed_captures matches.entry)) key.now))
+        keys.old.items }
+{
+    keys.retain(|key| !has_value(matches, *key));
+}
 
-    /// Removes the keys that have a value in a match.
-    fn note(&mut self, matches: MatchesRef<'_>) {
-        if self.keys.is_empty() {
-            return;
-        }
-        for (key, value) in matches.iter() {
-            if !value.is_empty() {
-                self.keys.remove(key);
-            }
-        }
+fn keys_of<'p>(alloc: Global, pattern: &'p Pattern) -> Result<Vec<&'p str>, AllocError>
+    ensures { IfOk result (λ keys. texts_of keys.items ≡ keys_of pattern.now.keys) }
+{
+    let mut keys = Vec::new(alloc);
+    'keys: for key in pattern.capture_names() {
+        keys.push(key)?;
     }
+    Ok(keys)
 }
 
 impl<'p> Counter<'p> {
-    fn fits(&mut self, line: &str, missing: &mut MissingKeys<'_>) -> Result<bool, AllocError>
+    /// Returns whether the pattern fits a line, and takes out of `missing` each key that has a value there.
+    fn fits(&mut self, line: &str, missing: &mut Vec<&str>) -> Result<bool, AllocError>
         ensures fits { IfOk result (λ is_fit. is_fit ≡ fits self.old.matcher line.now) }
+        ensures missing { OnOk result (missing.new.items ≡ filter (λ key. not (has_key_in self.old.matcher key.now line.now)) missing.old.items) }
         ensures same { self.new.matcher ≡ self.old.matcher }
     {
         match self.matcher.find(line)? {
@@ -112,7 +114,7 @@ impl<'p> Counter<'p> {
             Some(matches) => {
                 let is_fit = tells(matches, line);
                 if is_fit {
-                    missing.note(matches);
+                    drop_keys(missing, matches);
                 }
                 Ok(is_fit)
             }
@@ -124,9 +126,10 @@ fn fits_each(
     alloc: Global,
     pattern: &Pattern,
     lines: &[&str],
-    missing: &mut MissingKeys<'_>,
+    missing: &mut Vec<&str>,
 ) -> Result<Vec<bool>, AllocError>
-    ensures { IfOk result (λ each. each.items ≡ map (λ line. fits pattern.now line.now) lines.now) }
+    ensures each { IfOk result (λ each. each.items ≡ map (λ line. fits pattern.now line.now) lines.now) }
+    ensures missing { OnOk result (missing.new.items ≡ filter (λ key. not (has_key pattern.now (texts_of lines.now) key.now)) missing.old.items) }
 {
     let matcher = pattern.matcher()?;
     let mut counter = Counter { matcher };
@@ -159,16 +162,30 @@ pub fn fitted_lines(
 ) -> Result<FittedLines, AllocError>
     ensures each { IfOk result (λ fitted. fitted.each.items ≡ map (λ line. fits pattern.now line.now) lines.now) }
     ensures lines { IfOk result (λ fitted. fitted.fit.lines ≡ count_by (λ is_fit. is_fit) fitted.each.items) }
+    ensures fields { IfOk result (λ fitted. fitted.fit.fields ≡ count_by (has_key pattern.now (texts_of lines.now)) (keys_of pattern.now.keys)) }
 {
-    let mut missing = MissingKeys::of(alloc, pattern)?;
-    let all = missing.keys.len();
+    let mut missing = keys_of(alloc, pattern)?;
+    let all = missing.len();
     let each = fits_each(alloc, pattern, lines, &mut missing)?;
-    let fields = all.saturating_sub(missing.keys.len());
+    let fields = all.saturating_sub(missing.len());
     let lines = count(&each);
     Ok(FittedLines {
         fit: Fit { lines, fields },
         each,
     })
+}
+
+/// Returns the lines that aren't marked.
+fn unmarked<'l>(alloc: Global, lines: &[&'l str], each: &[bool]) -> Result<Vec<&'l str>, AllocError>
+    ensures { IfOk result (λ left. left.items ≡ unmarked lines.now each.now) }
+{
+    let mut left = Vec::new(alloc);
+    'lines: for (line, is_marked) in lines.iter().zip(each) {
+        if !*is_marked {
+            left.push(*line)?;
+        }
+    }
+    Ok(left)
 }
 
 impl Candidate {
@@ -197,13 +214,9 @@ impl Candidate {
         &self,
         alloc: Global,
         lines: &[&'l str],
-    ) -> Result<Vec<&'l str>, AllocError> {
-        let mut unfit = Vec::new(alloc);
-        for (line, is_fit) in lines.iter().zip(&self.each) {
-            if !*is_fit {
-                unfit.push(*line)?;
-            }
-        }
-        Ok(unfit)
+    ) -> Result<Vec<&'l str>, AllocError>
+        ensures { IfOk result (λ unfit. unfit.items ≡ unmarked lines.now self.now.each.items) }
+    {
+        unmarked(alloc, lines, &self.each)
     }
 }

@@ -8,7 +8,7 @@
 //! match rewrite(alloc, "(?>%{INT:n})\\h", wish)? {
 //!     Outcome::Kept => ..
 //!     Outcome::Rewritten(Rewritten { text, changes }) => .. // (?:%{INT:n})[0-9A-Fa-f]
-//!     Outcome::Refused(Refused { reason, range }) => ..
+//!     Outcome::Refused(RefusedPart { reason, range }) => ..
 //! }
 //! ```
 //!
@@ -36,7 +36,7 @@ mod writer;
 pub use change::{Change, ChangeKind};
 pub use forms::has_own_forms;
 pub use reader::read;
-pub use refusal::{Reason, Refused};
+pub use refusal::{Reason, RefusedPart};
 pub use rewriting::{Outcome, rewrite};
 pub use token::{Form, Greed, Mark, Node, Opening, Placeholder, Token};
 pub use writer::{Rewritten, Wish};

@@ -106,7 +106,7 @@ impl fmt::Display for Reason {
 
 /// A part of a text for which the text is refused.
 #[derive(Debug, Drop)]
-pub struct Refused {
+pub struct RefusedPart {
     pub reason: Reason,
     /// The byte range of the part.
     pub range: Range<usize>,
@@ -116,7 +116,7 @@ pub struct Refused {
 #[derive(Debug, Drop)]
 pub(crate) enum Stop {
     Memory,
-    Refused(Refused),
+    Refused(RefusedPart),
 }
 
 impl Stop {
@@ -127,7 +127,7 @@ impl Stop {
         }) }
     {
         let range = node.range();
-        Stop::Refused(Refused { reason, range })
+        Stop::Refused(RefusedPart { reason, range })
     }
 }
 

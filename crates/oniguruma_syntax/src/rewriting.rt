@@ -3,7 +3,7 @@ ghost use Rattle.std.specs.Prelude.{IfOk};
 ghost use Rattle.oniguruma_syntax.specs.Outcomes.{IsOutcomeOf, IsPartOf};
 
 use crate::reader::read;
-use crate::refusal::{Refused, Stop};
+use crate::refusal::{RefusedPart, Stop};
 use crate::structure::find_structure;
 use crate::token::{Node, Token};
 use crate::writer::{Rewritten, Source, Wish, write};
@@ -18,7 +18,7 @@ pub enum Outcome {
     /// Another text, for `regex`.
     Rewritten(Rewritten),
     /// A part of the text has no form for `regex`.
-    Refused(Refused),
+    Refused(RefusedPart),
 }
 
 /// Rewrites a text. `inlines` has the rewritten inline definitions of its placeholders.
@@ -51,9 +51,9 @@ fn moved(stop: Stop, start: usize) -> Stop {
     match stop {
         // own error: an allocation failed while the inline definition was rewritten.
         Stop::Memory => Stop::Memory,
-        Stop::Refused(Refused { reason, range }) => {
+        Stop::Refused(RefusedPart { reason, range }) => {
             let range = start.saturating_add(range.start)..start.saturating_add(range.end);
-            Stop::Refused(Refused { reason, range })
+            Stop::Refused(RefusedPart { reason, range })
         }
     }
 }
@@ -123,9 +123,9 @@ pub fn rewrite(alloc: Global, text: &str, wish: Wish) -> Result<Outcome, AllocEr
             Outcome::Rewritten(rewritten)
         }),
         Ok(None) => Ok(Outcome::Kept),
-        Err(Stop::Refused(Refused { reason, range })) => {
+        Err(Stop::Refused(RefusedPart { reason, range })) => {
             let range = range_in(text, range);
-            Ok(Outcome::Refused(Refused { reason, range }))
+            Ok(Outcome::Refused(RefusedPart { reason, range }))
         }
         // own error: an allocation failed, which `Stop::Memory` reports.
         Err(Stop::Memory) => Err(AllocError),

@@ -1,9 +1,9 @@
 //! The beginnings of a regular expression.
-ghost use Rattle.std.specs.Prelude.{◌≡◌, IfOk, MatchOption, ⊤, string_bytes};
+ghost use Rattle.std.specs.Prelude.{◌≡◌, IfOk, MatchOption, ⊤, filter, slice_get, string_bytes};
 ghost use Rattle.regex.specs.Strings.{regex_source};
 ghost use Rattle.regex_beginnings.specs.Pieces.{ArePiecesOf, beginning_text, text_upto};
 ghost use Rattle.regex_beginnings.specs.Finds.{IsAnswer, IsFirstMatchIn};
-ghost use Rattle.regex_beginnings.specs.Beginnings.{pieces_of, groups_of, IsLongestIn};
+ghost use Rattle.regex_beginnings.specs.Beginnings.{pieces_of, groups_of, is_around, groups_around, IsLongestIn};
 
 use crate::compiled::{Compiled, Found, compile};
 use crate::pieces::{Group, Piece, Pieces, cut};
@@ -37,6 +37,22 @@ impl Piece<'_> {
     }
 }
 
+fn groups_around(
+    alloc: Global,
+    groups: &[Group],
+    piece: &Piece<'_>,
+) -> Result<Vec<Group>, AllocError>
+    ensures { IfOk result (λ around. around.items ≡ filter (is_around piece.now) groups.now) }
+{
+    let mut around = Vec::new(alloc);
+    'groups: for group in groups {
+        if group.start < piece.start && piece.upto.len() <= group.end {
+            around.push(*group)?;
+        }
+    }
+    Ok(around)
+}
+
 impl<'a> Beginnings<'a> {
     /// Cuts the text of a regular expression that `regex` takes.
     pub fn new(alloc: Global, text: &'a str) -> Result<Beginnings<'a>, AllocError>
@@ -59,11 +75,14 @@ impl<'a> Beginnings<'a> {
         self.pieces.as_slice()
     }
 
-    /// Returns the groups around pieces. A group comes after those around it.
-    pub fn groups(&self) -> &[Group]
-        ensures { result.now ≡ groups_of self.now }
+    /// Returns the groups around the piece at this index, outermost first.
+    pub fn groups_around(&self, index: usize) -> Result<Vec<Group>, AllocError>
+        ensures { IfOk result (λ around. around.items ≡ groups_around (groups_of self.now) (slice_get (pieces_of self.now) index)) }
     {
-        self.groups.as_slice()
+        match self.pieces.as_slice().get(index) {
+            Some(piece) => groups_around(self.alloc, &self.groups, piece),
+            None => Ok(Vec::new(self.alloc)),
+        }
     }
 
     fn text_of(&self, count: usize) -> Result<String, AllocError>

@@ -14,8 +14,6 @@ pub struct Group {
     pub start: usize,
     /// The byte position after its `)`.
     pub end: usize,
-    /// The index of the group around it, if there is one.
-    pub around: Option<usize>,
     /// The number of the group, if it captures. Groups that capture are counted from 1.
     pub number: Option<usize>,
 }
@@ -30,8 +28,6 @@ pub struct Piece<'a> {
     pub upto: &'a str,
     /// Whether it is a single character that stands for itself.
     pub is_literal: bool,
-    /// The index of the innermost group around it, if there is one.
-    pub around: Option<usize>,
     /// How many groups are around it.
     pub depth: usize,
 }
@@ -96,11 +92,6 @@ impl<'a> Cutter<'a> {
         }
     }
 
-    /// Returns the index of the innermost group that isn't closed, if there is one.
-    fn innermost(&self) -> Option<usize> {
-        self.open.as_slice().last().map(|open| open.group)
-    }
-
     /// Adds a piece that begins at `start` and ends at `end`, or after all that is cut, if that is
     /// later. Continues after it. If no character ends there, the piece is the rest of the text.
     fn add_piece(&mut self, start: usize, end: usize, is_literal: bool) -> Result<(), AllocError>
@@ -111,7 +102,6 @@ impl<'a> Cutter<'a> {
             start: start.min(upto.len()),
             upto,
             is_literal,
-            around: self.innermost(),
             depth: self.open.len(),
         };
         self.at = upto.len();
@@ -167,11 +157,9 @@ impl<'a> Cutter<'a> {
                     pieces_before: self.pieces.len(),
                     has_alternatives: false,
                 };
-                let around = self.innermost();
                 self.groups.push(Group {
                     start,
                     end: self.text.len(),
-                    around,
                     number,
                 })?;
                 self.open.push(open)?;
