@@ -60,6 +60,8 @@ ERRORS = "11/28/2026 6:25:0{} AM {} {} disk\n"
 USERS = ["bob", "alice", "eve"]
 SIX = [word for name in "ABCDEF" for word in ("-D", f"{name}=(?<{name.lower()}>[0-9]+) x")]
 OWN = ["2f alice\n", "ab bob\n", "77 eve\n"]
+KINDS = [word for name in "ABCDEF" for word in ("-D", f"{name}=(?<{name.lower()}>[0-9]) {name.lower()}")]
+STATE = "[177285630{}] CURRENT SERVICE STATE: web{};HTTP;OK;HARD;1;HTTP OK\n"
 
 CASES = [
     Case("a time, a level and no host", "a level after a time isn't a host", FAIL2BAN, proposal(
@@ -117,6 +119,13 @@ CASES = [
          "each line has 4 values, after their names in the first line, which mlr reads:\nmlr --icsv --ojson cat log\n"),
     Case("tab-separated values with names", "mlr", "time\thost\tstatus\tms\n06:25:01\ta\t200\t4\n06:25:02\tb\t404\t9\n06:25:03\ta\t200\t1\n",
          "each line has 4 values, after their names in the first line, which mlr reads:\nmlr --itsv --ojson cat log\n"),
+    Case("tab-separated values without names", "mlr, and a pattern whose tabs are escaped for the shell", "1\t2\t3\tx\n4\t5\t6\ty\n",
+         "each line has 4 values, which mlr reads, too:\nmlr --itsv --implicit-tsv-header --ojson cat log\n"
+         + proposal(2, r"groklog $'^%{INT:number:int}\x09%{INT:number2:int}\x09%{INT:number3:int}\x09%{WORD:word}$' log")),
+    Case("values between semicolons with names", "mlr", "a;b;c;d\n1;2;3;x\n4;5;6;y\n",
+         "each line has 4 values, after their names in the first line, which mlr reads:\nmlr --icsv --ifs ';' --ojson cat log\n"),
+    Case("values between semicolons in a known format", "no other program is named", STATE.format(1, 1) + STATE.format(2, 2),
+         rows((2, 8, "groklog '^%{NAGIOSSTATELINE}$' log"), (2, 8, "groklog '^%{NAGIOSLOGLINE}$' log"))),
     Case("comma-separated values without names", "mlr, and a pattern that takes each value",
          '06:25:01,"a b",200,\n06:25:02,"c, d",404,x\n06:25:03,"e",200,\n',
          "each line has 4 values, which mlr reads, too:\nmlr --icsv --implicit-csv-header --ojson cat log\n"
@@ -150,6 +159,9 @@ CASES = [
     Case("a very long line", "it isn't looked at", "a" * 100_000 + "\n" + DOOR.format(1, 1) + DOOR.format(2, 2),
          "1 line is longer than 64 KiB, and wasn't looked at\n"
          + proposal(2, "groklog '^door %{INT:number:int} opened by card %{INT:number2:int}$' log")),
+    Case("two very long lines", "they are counted", ("a" * 100_000 + "\n") * 2 + DOOR.format(1, 1) + DOOR.format(2, 2),
+         "2 lines are longer than 64 KiB, and weren't looked at\n"
+         + proposal(2, "groklog '^door %{INT:number:int} opened by card %{INT:number2:int}$' log")),
     Case("a header", "its lines don't count", "#Version: 1.0\n#Fields: time door\n" + "".join(f"06:25:0{n} door {n}\n" for n in range(3)),
          proposal(3, "groklog '^%{TIME:timestamp} %{WORD:word} %{INT:number:int}$' log")),
     Case("a file of gzip", "the hint of a run", b"\x1f\x8b\x08\x00\xff\n", "there are no lines to suggest a pattern for\n",
@@ -176,6 +188,14 @@ CASES = [
     Case("one line without a time", "it makes no events of the others",
          "".join(f"2026-11-28 06:25:0{n} INFO {word}\n" for n, word in enumerate("abc", 1)) + "  more\n",
          proposal(4, "groklog -e '^%{TIMESTAMP_ISO8601:timestamp} %{LOGLEVEL:level} %{WORD:word}$' -e '^ +more$' log", shares=[3, 1])),
+    Case("two lines of forty without a time", "they are enough to make events of the others",
+         "".join(f"06:{n}:01 door {n}\n" for n in range(10, 48)) + "  more\n" * 2, "the lines are parts of 38 events\n" + proposal(
+             38, r"groklog --start '^%{TIME}' '^%{TIME:timestamp} %{WORD:word} %{INT:number:int}(?:\n(?<more>(?s:.*)))?$' log", unit="events")),
+    Case("two lines of sixty without a time", "they make no events of the others",
+         "".join(f"06:{n // 60:02}:{n % 60:02} door {n}\n" for n in range(10, 68)) + "  more\n" * 2,
+         proposal(58, "groklog '^%{TIME:timestamp} %{WORD:word} %{INT:number:int}$' log", of=60)),
+    Case("a digit before a time", "no event begins so", "".join(f"host7 06:25:0{n} INFO a\n  more\n" for n in range(1, 4)),
+         proposal(6, "groklog -e '^%{WORD:word} %{TIME:timestamp} %{LOGLEVEL:level} a$' -e '^ +more$' log", shares=[3, 3])),
     Case("a format that two lines of a hundred have", "one in fifty is enough for it to be in the command",
          "".join(SQUID.format(n) for n in range(10, 70)) + KLOG.format(1, 1) + KLOG.format(2, 2) + "".join(DOOR.format(n, n) for n in range(38)),
          rows((60, 12, "groklog '^%{SQUID3}$' log"), (2, 6, "groklog '^%{KLOG}$' log"))
@@ -186,6 +206,17 @@ CASES = [
          rows((5, 6, "groklog '^%{KLOG}$' log"), (1, 5, "groklog '^%{REDISLOG}$' log"))
          + "these patterns match 8 of 8 lines (5 + 2 + 1):\n"
          r"groklog -e '^%{KLOG}$' -e '^odd %{WORD:word}$' -e '^%{INT:number:int}:M %{TIMESTAMP_MONTHNAME:timestamp} \* Ready$' log" "\n"),
+    Case("six formats in one log", "five of them are in the command, and a proposal for the lines of the sixth",
+         "".join(f"{n} {letter}\n" for n in (1, 2) for letter in "abcdef"),
+         rows(*((2, 1, f"groklog --no-common {shlex.join(KINDS)} '^%{{{name}}}$' log") for name in "ABCDE"))
+         + proposal(12, f"groklog --no-common {shlex.join(KINDS)} " + " ".join(f"-e '^%{{{name}}}$'" for name in "ABCDE")
+                    + r" -e '^%{WORD:word=\w+} f$' log", shares=[2] * 6),
+         words=["--no-common", *KINDS, "log"]),
+    Case("two lines of twenty that have no time, and a known format", "nine lines of ten are known, so they make no events",
+         "".join(f"2026/03/07 04:05:{n} a{n}\n" for n in range(10, 28)) + "  more\n" * 2, rows((18, 2, "groklog '^%{GOLOG}$' log"))),
+    Case("a rest that one line of twenty lacks", "it may be missing with the blank before it",
+         "".join(f"up 06:25:{n} {'a b' if n % 2 else 'c,d'}\n" for n in range(10, 29)) + "up 06:25:29\n",
+         proposal(20, "groklog '^up %{TIME:timestamp}(?: %{GREEDYDATA:message})?$' log")),
     Case("comma-separated values that begin with a blank", "blanks after a comma are those of a sentence, and others aren't",
          " a,b,1,2\n c,d,3,4\n e,f,5,6\n",
          "each line has 4 values, which mlr reads, too:\nmlr --icsv --implicit-csv-header --ojson cat log\n"
