@@ -237,11 +237,21 @@ fn is_between_digits(time: &str, cut: usize) -> bool {
     is_in_time && is_hour_or_minute(*a, *b) && tens.is_ascii_digit() && is_before_digit
 }
 
+/// Returns whether a date ends after this many bytes, before the `T` of a time such as `2026-11-28T06:25:01`.
+fn is_end_of_date(time: &str, cut: usize) -> bool {
+    match time.as_bytes().get(cut..) {
+        Some([b'T', hour, ..]) => hour.is_ascii_digit(),
+        _ => false,
+    }
+}
+
 /// Returns whether a time can be cut after this many bytes: at its end, before a byte that is neither a letter nor a
-/// digit, or after the tens of its minutes or seconds.
+/// digit, at the end of its date, or after the tens of its minutes or seconds.
 fn is_cut(time: &str, cut: usize) -> bool {
     match time.as_bytes().get(cut) {
-        Some(b) => !b.is_ascii_alphanumeric() || is_between_digits(time, cut),
+        Some(b) => {
+            !b.is_ascii_alphanumeric() || is_end_of_date(time, cut) || is_between_digits(time, cut)
+        }
         None => true,
     }
 }

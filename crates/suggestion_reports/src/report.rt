@@ -277,7 +277,8 @@ pub fn report_of_sample(
     library: &Library<'_>,
     sample: &Sample,
 ) -> Result<Suggestions, AllocError> {
-    let drops_return = options.form.drops_return || have_returns(sample);
+    // With `--crlf`, the lines of the sample are read without one.
+    let drops_return = !options.form.drops_return && have_returns(sample);
     let lines = lines_of(sample, drops_return)?;
     let mut report = String::new(alloc);
     push_long(alloc, &mut report, sample.long)?;
@@ -307,7 +308,7 @@ pub fn report_of_sample(
         return Ok(Suggestions::without_pattern(report));
     }
     let reading = Reading {
-        drops_return,
+        drops_return: options.form.drops_return || drops_return,
         start: None,
     };
     push_advice(alloc, &mut report, options, reading, &advice)?;
