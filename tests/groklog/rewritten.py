@@ -62,6 +62,7 @@ DEFINITION = {
     r"a(?!\w)-(?<!\w)b": r"a\b{end-half}-\b{start-half}b",
     r"^(?<![0-9])a|\b(?<![0-9])b|((?<![0-9])c)|(?<n>(?<![0-9])d)":
         r"^\b{start-half}a|\b\b{start-half}b|(\b{start-half}c)|(?<n>\b{start-half}d)",
+    r"a(?![0-9])|b": r"a\b{end-half}|b",
     r"a(?![0-9])$|b(?![0-9])\b|(c(?![0-9]))": r"a\b{end-half}$|b\b{end-half}\b|(c\b{end-half})",
     "a(?!<b)c": "a lookaround that has no form for the engine at 1..4",
     "(?!_b)c": "a lookaround that has no form for the engine at 0..3",
