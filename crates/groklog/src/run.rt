@@ -214,7 +214,7 @@ fn nothing_to_list(alloc: Global, text: &str) -> Result<RunFault, AllocError> {
 }
 
 /// Lists the common definitions whose names have this text.
-fn list(rt: &HostRuntime, text: &str) -> Result<RunOutcome, RunFault> {
+fn list(rt: &(impl Print + AllocGlobal), text: &str) -> Result<RunOutcome, RunFault> {
     let lines = list_common_definitions(rt.alloc(), text)?;
     if lines.is_empty() {
         return Err(nothing_to_list(rt.alloc(), text)?);

@@ -1,7 +1,8 @@
 -- What belongs to the task of a run.
-use Rattle.std.specs.Prelude.{◌≡◌, ℕ, Bool, true, false, List, [], ◌∷◌, Option, Some, None, ⊤, codes, find, map, not, vec_len, ◌==◌, option_and_then, option_map, unwrap_or}
+use Rattle.std.specs.Prelude.{◌≡◌, ◌<◌, ◌^◌, ℕ, Bool, true, false, List, [], ◌∷◌, Option, Some, None, ⊤, codes, find, map, not, vec_len, ◌==◌, option_and_then, option_map, unwrap_or}
+use Rattle.std.specs.Str.Parse.{IsNumeral, digits_value, without_leading_plus}
 use denote.Ref.{Bor}
-use Rattle.clap.specs.Matches.{first_value, matched_of}
+use Rattle.clap.specs.Matches.{first_value, matched_of, one_text}
 use Rattle.clap.specs.declared.parser.matches.Found.{Found}
 use Rattle.clap.specs.declared.parser.matches.ValueSource.{ValueSource}
 use Rattle.clap.specs.declared.parser.matches.ValueSource.TheVariants.{DefaultValue, CommandLine}
@@ -110,13 +111,20 @@ IsAskedBy found task = option_of task ≡ find (is_given found) task_options
 abbrev pub value_in : Found → List ℕ → List ℕ
 value_in found option = unwrap_or (first_value found option) []
 
--- What the task takes from the words: what is added to answers, the file of a page, and the text of a list.
+-- Whether this is the number that an option has: that of its decimal digits, which is below 2^64.
+abbrev pub IsNumberOf : Found → List ℕ → ℕ → Type 0
+IsNumberOf found option number = (text : List ℕ) → one_text found option ≡ Some text
+    → IsNumeral 10 (without_leading_plus text) → digits_value 10 (without_leading_plus text) < 2 ^ 64
+    → number ≡ digits_value 10 (without_leading_plus text)
+
+-- What the task takes from the words: what is added to answers, the file of a page, for how many lines reasons are given or patterns
+-- suggested, and the text of a list.
 abbrev pub HasItsValue : Found → Task → Type 0
 HasItsValue found (Answers answers) = map added_pair answers.added.items ≡ added_in found
 HasItsValue found (Counts counts) = ⊤
 HasItsValue found (Shown shown) = ⊤
 HasItsValue found (Page page) = page.file.now ≡ value_in found (codes "html")
-HasItsValue found (Reasons most) = ⊤
-HasItsValue found (Suggestions most) = ⊤
+HasItsValue found (Reasons most) = IsNumberOf found (codes "why") most
+HasItsValue found (Suggestions most) = IsNumberOf found (codes "suggest") most
 HasItsValue found Explanation = ⊤
 HasItsValue found (task.List text) = text.now ≡ value_in found (codes "list")

@@ -4,7 +4,7 @@ ghost use Rattle.groklog_reports.specs.declared.unit.Unit.{Unit};
 ghost use Rattle.groklog_options.specs.OptionFaults.{IsOptionFault};
 ghost use Rattle.groklog_answers.specs.Layouts.{added_pair};
 ghost use Rattle.groklog_options.specs.Additions.{added_in};
-ghost use Rattle.groklog_options.specs.Tasks.{IsAskedBy, HasItsValue, has_patterns, value_in};
+ghost use Rattle.groklog_options.specs.Tasks.{IsAskedBy, IsNumberOf, HasItsValue, has_patterns, value_in};
 ghost use Rattle.clap.specs.Matches.{found_of};
 ghost use Rattle.clap.specs.Values.{kind_of};
 
@@ -136,7 +136,9 @@ fn value_of<'a>(matches: &ArgMatches<'a>, option: &str) -> &'a str
 }
 
 /// Returns the number that an option has. `clap` has read it.
-fn number_of(matches: &ArgMatches<'_>, option: &str) -> u64 {
+fn number_of(matches: &ArgMatches<'_>, option: &str) -> u64
+    ensures { IsNumberOf (found_of matches.now) option.now result }
+{
     matches.get_one(option).unwrap_or(0)
 }
 

@@ -1,5 +1,6 @@
 //! What the values of a key are like, all together.
-ghost use Rattle.std.specs.Prelude.{◌≡◌, ◌≤◌, Some, OnOk, IfOk, IfSome, length, map};
+ghost use Rattle.std.specs.Prelude.{◌≡◌, ◌≤◌, ◌*◌, Some, OnOk, IfOk, IfSome, length, map};
+ghost use Rattle.std.specs.Int.{div_ceil};
 ghost use Rattle.groklog_answers.specs.KeyCounts.{CountsValue};
 ghost use Rattle.groklog_views.specs.Figures.{counted_value, value_at};
 
@@ -58,24 +59,26 @@ fn numbers_of<'c>(
 
 /// Returns the number at a rank, where the first one in order has the rank 1, and each has as many ranks as it came
 /// times.
-fn number_at<'c>(numbers: &[CountedNumber<'c>], rank: u64) -> &'c str
+fn number_at<'c>(numbers: &[CountedNumber<'c>], rank: u128) -> &'c str
     ensures { result.now ≡ value_at (map counted_value numbers.now) rank }
 {
     let mut left = rank;
     'numbers: for number in numbers {
-        if number.counted.count >= left {
+        let count = u128::from(number.counted.count);
+        if count >= left {
             return number.counted.value;
         }
-        left -= number.counted.count;
+        left -= count;
     }
     ""
 }
 
 /// Returns the least number that at least `percent` percent of the `total` numbers don't exceed.
-fn percentile<'c>(numbers: &[CountedNumber<'c>], total: u64, percent: u64) -> &'c str {
-    let rank = (total / 100).saturating_mul(percent);
-    let rank = rank.saturating_add((total % 100).saturating_mul(percent).div_ceil(100));
-    number_at(numbers, rank)
+fn percentile<'c>(numbers: &[CountedNumber<'c>], total: u64, percent: u8) -> &'c str
+    ensures { result.now ≡ value_at (map counted_value numbers.now) (div_ceil (total * percent) 100) }
+{
+    let hundredths = u128::from(total) * u128::from(percent);
+    number_at(numbers, hundredths.div_ceil(100))
 }
 
 /// Returns the least, the median and the other figures of these values, of which there are `total`, as numbers. Returns
