@@ -282,9 +282,11 @@ fn name_before<'l>(columns: &[Column<'l>], index: usize) -> Option<&'l str> {
     word_at(columns, mark?.checked_sub(1))
 }
 
-/// Returns the literal word before the column at `index`, with a blank between them, if it says what the column has.
+/// Returns the literal word before the column at `index`, with a blank between them, if it says what the column has. The unit
+/// of a number, as in `12ms 3`, doesn't.
 fn word_before<'l>(columns: &[Column<'l>], index: usize) -> Option<&'l str> {
-    if !is_blank_at(columns, index.checked_sub(1)) {
+    let is_unit = at(columns, index.checked_sub(3)).is_some_and(|before| before.is_number());
+    if is_unit || !is_blank_at(columns, index.checked_sub(1)) {
         return None;
     }
     telling(word_at(columns, index.checked_sub(2)))
