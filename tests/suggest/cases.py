@@ -65,13 +65,13 @@ STATE = "[177285630{}] CURRENT SERVICE STATE: web{};HTTP;OK;HARD;1;HTTP OK\n"
 
 CASES = [
     Case("a time, a level and no host", "a level after a time isn't a host", FAIL2BAN, proposal(
-        5, r"groklog '^%{TIMESTAMP_ISO8601:timestamp} %{NOTSPACE:field} +\[%{INT:pid:int}\]: %{LOGLEVEL:level} +%{GREEDYDATA:message}$' log")),
+        5, r"groklog '^%{TIMESTAMP_ISO8601:timestamp} %{NOTSPACE:logger} +\[%{INT:pid:int}\]: %{LOGLEVEL:level} +%{GREEDYDATA:message}$' log")),
     Case("several formats in one log", "one command with a pattern for each, also for the lines of no known format",
          "".join(SQUID.format(n) for n in range(6)) + "".join(KLOG.format(n, n) for n in range(6))
          + "".join(REDIS.format(n) for n in range(5)) + "".join(DOOR.format(n, n) for n in range(3)),
          rows((6, 12, "groklog '^%{SQUID3}$' log"), (6, 6, "groklog '^%{KLOG}$' log"), (5, 5, "groklog '^%{REDISLOG}$' log"))
          + proposal(20, "groklog -e '^%{SQUID3}$' -e '^%{KLOG}$' -e '^%{REDISLOG}$' "
-                        "-e '^door %{INT:number:int} opened by card %{INT:number2:int}$' log", shares=[6, 6, 5, 3])),
+                        "-e '^door %{INT:door:int} opened by card %{INT:card:int}$' log", shares=[6, 6, 5, 3])),
     Case("a known format and a number", "the format is kept", "".join(COMBINED.format(n, n, n) + f" 0.0{n}\n" for n in range(1, 5)),
          rows((4, 12, "groklog '^%{COMBINEDAPACHELOG} %{NUMBER:number:float}$' log"))),
     Case("a known format and a word", "the format is kept",
@@ -79,32 +79,32 @@ CASES = [
          rows((4, 12, "groklog '^%{COMBINEDAPACHELOG} %{WORD:word}$' log"))),
     Case("keys and values after the head of syslog", "values take their keys",
          "".join(LOGIN.format(n, user, n * 7) for n, user in enumerate(USERS)),
-         rows((3, 6, "groklog '^%{SYSLOGBASE} user=%{WORD:user} action=login ms=%{INT:ms:int}$' log"),
-              (3, 5, "groklog '^%{SYSLOGLINE}$' log"), (3, 5, "groklog '^%{JOURNALLINE}$' log"))),
+         rows((3, 6, "groklog '^%{SYSLOGBASE} user=%{NOTSPACE:user} action=login ms=%{INT:ms:int}$' log"),
+              (3, 5, "groklog '^%{SYSLOGLINE}$' log"))),
     Case("a date with the name of a month", "no month and no host is literal",
          "".join(f"Nov 28 2026 06:25:0{n} fw1 : built connection {1000 + n}\n" for n in range(4)),
-         proposal(4, "groklog '^%{TIMESTAMP_MONTHNAME:timestamp} %{WORD:word} : built connection %{INT:number:int}$' log")),
+         proposal(4, "groklog '^%{TIMESTAMP_MONTHNAME:timestamp} %{NOTSPACE:field} : built connection %{INT:connection:int}$' log")),
     Case("a date in brackets", "no date is literal",
          "".join(f'[28/Nov/2026 06:25:0{n}] "GET /polls/{n}/ HTTP/1.1" 200 {1200 + n}\n' for n in range(4)),
-         proposal(4, r"groklog '^\[%{TIMESTAMP_MONTHNAME:timestamp}\] %{QS:quoted} %{INT:number:int} %{INT:number2:int}$' log")),
+         proposal(4, r"groklog '^\[%{TIMESTAMP_MONTHNAME:timestamp}\] %{QS:request} %{INT:status:int} %{INT:number:int}$' log")),
     Case("a time of twelve hours", "it is one time with one key",
          "".join(ERRORS.format(n, level, 40 + n) for n, level in enumerate(["Error", "Warning", "Error"])),
          proposal(3, "groklog '^%{DATESTAMP_12H:timestamp} %{LOGLEVEL:level} %{INT:number:int} disk$' log")),
     Case("six words", "they are no fields of another program's log",
          "".join(f"user {user} logged in from 10.0.0.{n}\n" for n, user in enumerate(["alice", "bob", "eve"])),
-         proposal(3, "groklog '^user %{WORD:word} logged in from %{IP:ip}$' log")),
+         proposal(3, "groklog '^user %{NOTSPACE:user} logged in from %{IP:ip}$' log")),
     Case("a % before a quote", "it is no beginning of a placeholder", 'use %"a b" 1 at 12:00:01 z\n' * 3,
          proposal(3, "groklog '^use [%]%{QS:quoted} %{INT:number:int} at %{TIME:timestamp} z$' log")),
     Case("levels of different lengths, and units", "blanks that some lines lack, and a number without its unit",
          "".join(f"[{level}] took {n * 3}ms, {n}.5MB used\n" for n, level in enumerate(["INFO ", "ERROR", "WARN "])),
-         proposal(3, r"groklog '^\[%{LOGLEVEL:level} *\] took %{INT:number:int}ms, %{NUMBER:number2:float}MB used$' log")),
+         proposal(3, r"groklog '^\[%{LOGLEVEL:level} *\] took %{INT:took:int}ms, %{NUMBER:size_mb:float}MB used$' log")),
     Case("events of several lines", "--start, and patterns for events", TRACE, "the lines are parts of 3 events\n" + proposal(
         3, r"groklog --start '^%{TIMESTAMP_ISO8601}' '^%{TIMESTAMP_ISO8601:timestamp} %{LOGLEVEL:level} %{GREEDYDATA:message}"
            r"(?:\n(?<more>(?s:.*)))?$' log", unit="events")),
     Case("events with lines that aren't UTF-8", "the command matches no event that isn't UTF-8",
          b"2026-11-30 10:00:01 a 1\n  at x\n2026-11-30 10:00:02 a 2\n  at \xff\n2026-11-30 10:00:03 a 3\n  at y\n",
          "the lines are parts of 3 events\n" + proposal(
-             2, r"groklog --start '^%{TIMESTAMP_ISO8601}' '^%{TIMESTAMP_ISO8601:timestamp} %{WORD:word} %{INT:number:int}"
+             2, r"groklog --start '^%{TIMESTAMP_ISO8601}' '^%{TIMESTAMP_ISO8601:timestamp} %{NOTSPACE:field} %{INT:number:int}"
                 r"(?:\n(?<more>(?s:.*)))?$' log", of=3, unit="events"),
          notes="groklog: line 4 of log isn't UTF-8, so it has no fields: use --lossy, or for another encoding "
                "iconv -f LATIN1 -t UTF-8 FILE | groklog ..\n"),
@@ -121,7 +121,7 @@ CASES = [
          "each line has 4 values, after their names in the first line, which mlr reads:\nmlr --itsv --ojson cat log\n"),
     Case("tab-separated values without names", "mlr, and a pattern whose tabs are escaped for the shell", "1\t2\t3\tx\n4\t5\t6\ty\n",
          "each line has 4 values, which mlr reads, too:\nmlr --itsv --implicit-tsv-header --ojson cat log\n"
-         + proposal(2, r"groklog $'^%{INT:number:int}\x09%{INT:number2:int}\x09%{INT:number3:int}\x09%{WORD:word}$' log")),
+         + proposal(2, r"groklog $'^%{INT:number:int}\x09%{INT:number2:int}\x09%{INT:number3:int}\x09%{NOTSPACE:field}$' log")),
     Case("values between semicolons with names", "mlr", "a;b;c;d\n1;2;3;x\n4;5;6;y\n",
          "each line has 4 values, after their names in the first line, which mlr reads:\nmlr --icsv --ifs ';' --ojson cat log\n"),
     Case("values between semicolons in a known format", "no other program is named", STATE.format(1, 1) + STATE.format(2, 2),
@@ -131,7 +131,7 @@ CASES = [
          "each line has 4 values, which mlr reads, too:\nmlr --icsv --implicit-csv-header --ojson cat log\n"
          + proposal(3, "groklog '^%{TIME:timestamp},%{QS:quoted},%{INT:number:int},%{CSVVALUE:field}$' log")),
     Case("lines that end in carriage returns", "--crlf", "".join(f"door {n} opened at 06:25:0{n}\r\n" for n in range(3)),
-         proposal(3, "groklog --crlf '^door %{INT:number:int} opened at %{TIME:timestamp}$' log")),
+         proposal(3, "groklog --crlf '^door %{INT:door:int} opened at %{TIME:timestamp}$' log")),
     Case("a definition with keys written by hand", "it is tried, and a part of it isn't", "".join(OWN),
          rows((3, 2, "groklog --no-common -D 'LL=%{HEX} (?<b>[a-z]+)' -D 'HEX=(?<a>[0-9a-f]+)' '^%{LL}$' log")),
          words=["--no-common", "-D", "LL=%{HEX} (?<b>[a-z]+)", "-D", "HEX=(?<a>[0-9a-f]+)", "log"]),
@@ -139,14 +139,14 @@ CASES = [
          rows((3, 2, "groklog --no-common --from-logstash --loose -D 'LL=(?<a>\\h+) (?<b>[a-z]+)(?!x)' '^%{LL}$' log")),
          words=["--no-common", "--from-logstash", "--loose", "-D", r"LL=(?<a>\h+) (?<b>[a-z]+)(?!x)", "log"]),
     Case("a file whose name begins with -", "it is no option", DOOR.format(1, 1) * 2 + DOOR.format(2, 2),
-         proposal(3, "groklog '^door %{INT:number:int} opened by card %{INT:number2:int}$' -- --html=x.log"),
+         proposal(3, "groklog '^door %{INT:door:int} opened by card %{INT:card:int}$' -- --html=x.log"),
          words=["--", "--html=x.log"]),
     Case("definitions that grow", "a definition is measured before it is expanded", DOOR.format(1, 1) * 2 + DOOR.format(2, 2),
          proposal(3, "groklog -D D0=x " + " ".join(f"-D 'D{n + 1}=%{{D{n}:k}}%{{D{n}:k}}'" for n in range(30))
-                  + " '^door %{INT:number:int} opened by card %{INT:number2:int}$' log"),
+                  + " '^door %{INT:door:int} opened by card %{INT:card:int}$' log"),
          words=[word for n in range(31) for word in ("-D", f"D{n}=" + (f"%{{D{n - 1}:k}}%{{D{n - 1}:k}}" if n else "x"))] + ["log"]),
     Case("a limit of the expanded text", "the command has it", DOOR.format(1, 1) * 2 + DOOR.format(2, 2),
-         proposal(3, "groklog --max-expansion 50000 '^door %{INT:number:int} opened by card %{INT:number2:int}$' log"),
+         proposal(3, "groklog --max-expansion 50000 '^door %{INT:door:int} opened by card %{INT:card:int}$' log"),
          words=["--max-expansion", "50000", "log"]),
     Case("a control character", "it is escaped for the shell", "a\x01b 1\na\x01b 2\n",
          proposal(2, r"groklog $'^a\x01b %{INT:number:int}$' log")),
@@ -155,15 +155,15 @@ CASES = [
          "these lines look like JSON objects, which jq reads:\n" + r"jq -c . $'a\x1b[2J\'b\\'" + "\n", words=["a\x1b[2J'b\\"]),
     Case("one line that ends in a carriage return", "neither the command nor a hint has --crlf", DOOR.format(1, 1).replace("\n", "\r\n")
          + DOOR.format(2, 2) + DOOR.format(3, 3), proposal(
-             3, "groklog '^door %{INT:number:int} opened by card %{INT:number2:int}%{GREEDYDATA:message}$' log")),
+             3, "groklog '^door %{INT:door:int} opened by card %{INT:card:int}%{GREEDYDATA:message}$' log")),
     Case("a very long line", "it isn't looked at", "a" * 100_000 + "\n" + DOOR.format(1, 1) + DOOR.format(2, 2),
          "1 line is longer than 64 KiB, and wasn't looked at\n"
-         + proposal(2, "groklog '^door %{INT:number:int} opened by card %{INT:number2:int}$' log")),
+         + proposal(2, "groklog '^door %{INT:door:int} opened by card %{INT:card:int}$' log")),
     Case("two very long lines", "they are counted", ("a" * 100_000 + "\n") * 2 + DOOR.format(1, 1) + DOOR.format(2, 2),
          "2 lines are longer than 64 KiB, and weren't looked at\n"
-         + proposal(2, "groklog '^door %{INT:number:int} opened by card %{INT:number2:int}$' log")),
+         + proposal(2, "groklog '^door %{INT:door:int} opened by card %{INT:card:int}$' log")),
     Case("a header", "its lines don't count", "#Version: 1.0\n#Fields: time door\n" + "".join(f"06:25:0{n} door {n}\n" for n in range(3)),
-         proposal(3, "groklog '^%{TIME:timestamp} %{WORD:word} %{INT:number:int}$' log")),
+         proposal(3, "groklog '^%{TIME:timestamp} %{NOTSPACE:field} %{INT:number:int}$' log")),
     Case("a file of gzip", "the hint of a run", b"\x1f\x8b\x08\x00\xff\n", "there are no lines to suggest a pattern for\n",
          notes="groklog: log looks like a file of gzip: use zcat FILE | groklog ..\n"),
     Case("a file in UTF-16", "the hint of a run", "door 1 opened\n".encode("utf-16"), "there are no lines to suggest a pattern for\n",
@@ -173,12 +173,12 @@ CASES = [
                "iconv -f LATIN1 -t UTF-8 FILE | groklog ..\n"),
     Case("a word that a definition would cut", "the definition isn't what the lines begin with",
          "".join(f'192.0.2.{n} - - [28/Nov/2026:06:25:0{n} +0000] "GET /{n} HTTP/1.1" 200 51{n}_ms\n' for n in range(4)),
-         proposal(4, r"groklog '^%{IP:ip} \- \- \[%{HTTPDATE:timestamp}\] %{QS:quoted} %{INT:number:int} %{WORD:word}$' log")),
+         proposal(4, r"groklog '^%{IP:ip} \- \- \[%{HTTPDATE:timestamp}\] %{QS:request} %{INT:status:int} %{WORD:word}$' log")),
     Case("values between semicolons without names", "the first line has values, and no names", "1;2;3;4\n5;6;7;8\n9;8;7;6\n",
          "each line has 4 values, which mlr reads, too:\nmlr --icsv --ifs ';' --implicit-csv-header --ojson cat log\n"
          + proposal(3, "groklog '^%{INT:number:int};%{INT:number2:int};%{INT:number3:int};%{INT:number4:int}$' log")),
     Case("lines that end in a blank and a carriage return", "the blank stays", "".join(f"door {n} open \r\n" for n in range(1, 4)),
-         proposal(3, "groklog --crlf '^door %{INT:number:int} open $' log")),
+         proposal(3, "groklog --crlf '^door %{INT:door:int} open $' log")),
     Case("warnings of Nagios alone", "each beginning of a line of the format counts",
          "".join(f"[177285630{n}] Warning: job {n} is late\n" for n in range(1, 5)), rows((4, 2, "groklog '^%{NAGIOSLOGLINE}$' log"))),
     Case("a journal with times in seconds", "each form of the time counts",
@@ -190,22 +190,22 @@ CASES = [
          proposal(4, "groklog -e '^%{TIMESTAMP_ISO8601:timestamp} %{LOGLEVEL:level} %{WORD:word}$' -e '^ +more$' log", shares=[3, 1])),
     Case("two lines of forty without a time", "they are enough to make events of the others",
          "".join(f"06:{n}:01 door {n}\n" for n in range(10, 48)) + "  more\n" * 2, "the lines are parts of 38 events\n" + proposal(
-             38, r"groklog --start '^%{TIME}' '^%{TIME:timestamp} %{WORD:word} %{INT:number:int}(?:\n(?<more>(?s:.*)))?$' log", unit="events")),
+             38, r"groklog --start '^%{TIME}' '^%{TIME:timestamp} %{NOTSPACE:field} %{INT:number:int}(?:\n(?<more>(?s:.*)))?$' log", unit="events")),
     Case("two lines of sixty without a time", "they make no events of the others",
          "".join(f"06:{n // 60:02}:{n % 60:02} door {n}\n" for n in range(10, 68)) + "  more\n" * 2,
-         proposal(58, "groklog '^%{TIME:timestamp} %{WORD:word} %{INT:number:int}$' log", of=60)),
+         proposal(58, "groklog '^%{TIME:timestamp} %{NOTSPACE:field} %{INT:number:int}$' log", of=60)),
     Case("a digit before a time", "no event begins so", "".join(f"host7 06:25:0{n} INFO a\n  more\n" for n in range(1, 4)),
          proposal(6, "groklog -e '^%{WORD:word} %{TIME:timestamp} %{LOGLEVEL:level} a$' -e '^ +more$' log", shares=[3, 3])),
     Case("a format that two lines of a hundred have", "one in fifty is enough for it to be in the command",
          "".join(SQUID.format(n) for n in range(10, 70)) + KLOG.format(1, 1) + KLOG.format(2, 2) + "".join(DOOR.format(n, n) for n in range(38)),
          rows((60, 12, "groklog '^%{SQUID3}$' log"), (2, 6, "groklog '^%{KLOG}$' log"))
          + "these patterns match 100 of 100 lines (60 + 2 + 38):\n"
-         "groklog -e '^%{SQUID3}$' -e '^%{KLOG}$' -e '^door %{INT:number:int} opened by card %{INT:number2:int}$' log\n"),
+         "groklog -e '^%{SQUID3}$' -e '^%{KLOG}$' -e '^door %{INT:door:int} opened by card %{INT:card:int}$' log\n"),
     Case("a format that one line has", "it is listed, and isn't in the command", "".join(KLOG.format(n, n) for n in range(1, 6))
          + "2201:M 28 Nov 2026 06:25:01.123 * Ready\nodd one\nodd two\n",
          rows((5, 6, "groklog '^%{KLOG}$' log"), (1, 5, "groklog '^%{REDISLOG}$' log"))
          + "these patterns match 8 of 8 lines (5 + 2 + 1):\n"
-         r"groklog -e '^%{KLOG}$' -e '^odd %{WORD:word}$' -e '^%{INT:number:int}:M %{TIMESTAMP_MONTHNAME:timestamp} \* Ready$' log" "\n"),
+         r"groklog -e '^%{KLOG}$' -e '^odd %{WORD:odd}$' -e '^%{INT:number:int}:M %{TIMESTAMP_MONTHNAME:timestamp} \* Ready$' log" "\n"),
     Case("six formats in one log", "five of them are in the command, and a proposal for the lines of the sixth",
          "".join(f"{n} {letter}\n" for n in (1, 2) for letter in "abcdef"),
          rows(*((2, 1, f"groklog --no-common {shlex.join(KINDS)} '^%{{{name}}}$' log") for name in "ABCDE"))
@@ -220,13 +220,13 @@ CASES = [
     Case("comma-separated values that begin with a blank", "blanks after a comma are those of a sentence, and others aren't",
          " a,b,1,2\n c,d,3,4\n e,f,5,6\n",
          "each line has 4 values, which mlr reads, too:\nmlr --icsv --implicit-csv-header --ojson cat log\n"
-         + proposal(3, "groklog '^%{CSVVALUE:field},%{WORD:word},%{INT:number:int},%{INT:number2:int}$' log")),
+         + proposal(3, "groklog '^%{CSVVALUE:field},%{CSVVALUE:field2},%{INT:number:int},%{INT:number2:int}$' log")),
     Case("names of values above two lines", "two are enough to see that the first has none", "a,b,c,d\n1,2,3,4\n5,6,7,8\n",
          "each line has 4 values, after their names in the first line, which mlr reads:\nmlr --icsv --ojson cat log\n"),
     Case("integers of eighteen digits", "they fit into 64 bits", "".join(f"door 12345678901234567{n} x\n" for n in (8, 9)),
-         proposal(2, "groklog '^door %{INT:number:int} x$' log")),
+         proposal(2, "groklog '^door %{INT:door:int} x$' log")),
     Case("integers of nineteen digits", "not all of them fit into 64 bits", "".join(f"door 123456789012345678{n} x\n" for n in (8, 9)),
-         proposal(2, "groklog '^door %{NUMBER:number} x$' log")),
+         proposal(2, "groklog '^door %{NUMBER:door} x$' log")),
     Case("sixteen characters before a time", "they may begin an event",
          "".join(f"application abc 2026-11-28 06:25:0{n} INFO a\n  more\n" for n in range(1, 4)),
          "the lines are parts of 3 events\n" + proposal(
@@ -236,19 +236,21 @@ CASES = [
          "".join(f"application abcd 2026-11-28 06:25:0{n} INFO a\n  more\n" for n in range(1, 4)),
          proposal(6, r"groklog -e '^application abcd %{TIMESTAMP_ISO8601:timestamp} %{LOGLEVEL:level} a$' -e '^ +more$' log", shares=[3, 3])),
     Case("a line of 64 KiB", "it is looked at, its first 4096 bytes token by token", "door 1 " + "x" * (65536 - 7) + "\ndoor 2 y\n",
-         proposal(2, "groklog '^door %{INT:number:int} %{GREEDYDATA:message}$' log")),
+         proposal(2, "groklog '^door %{INT:door:int} %{GREEDYDATA:message}$' log")),
     Case("a line of 64 KiB and a byte", "it isn't looked at", "door 1 " + "x" * (65537 - 7) + "\ndoor 2 y\ndoor 3 z\n",
-         "1 line is longer than 64 KiB, and wasn't looked at\n" + proposal(2, "groklog '^door %{INT:number:int} %{WORD:word}$' log")),
+         "1 line is longer than 64 KiB, and wasn't looked at\n" + proposal(2, "groklog '^door %{INT:door:int} %{WORD:word}$' log")),
     Case("nine lines of ten that begin with a definition", "the tenth may begin with something else",
          "".join(LOGIN.format(n, USERS[n % 3], n * 7) for n in range(9)) + "odd one\n",
-         rows((9, 6, "groklog '^%{SYSLOGBASE} user=%{WORD:user} action=login ms=%{INT:ms:int}$' log"),
-              (9, 5, "groklog '^%{SYSLOGLINE}$' log"), (9, 5, "groklog '^%{JOURNALLINE}$' log"))),
+         rows((9, 6, "groklog '^%{SYSLOGBASE} user=%{NOTSPACE:user} action=login ms=%{INT:ms:int}$' log"),
+              (9, 5, "groklog '^%{SYSLOGLINE}$' log"))),
     Case("eight lines of ten that begin with a definition", "too many begin with something else",
          "".join(LOGIN.format(n, USERS[n % 3], n * 7) for n in range(8)) + "7 odd one\n8 odd two\n",
-         rows((8, 5, "groklog '^%{SYSLOGLINE}$' log"), (8, 5, "groklog '^%{JOURNALLINE}$' log"))
-         + "these patterns match 10 of 10 lines (8 + 2):\ngroklog -e '^%{SYSLOGLINE}$' -e '^%{INT:number:int} odd %{WORD:word}$' log\n"),
+         rows((8, 6, "groklog '^%{SYSLOGBASE} user=%{NOTSPACE:user} action=login ms=%{INT:ms:int}$' log"),
+              (8, 5, "groklog '^%{SYSLOGLINE}$' log"))
+         + "these patterns match 10 of 10 lines (8 + 2):\ngroklog -e '^%{SYSLOGBASE} user=%{NOTSPACE:user} action=login ms=%{INT:ms:int}$' "
+           "-e '^%{INT:number:int} odd %{WORD:odd}$' log\n"),
     Case("nine lines of ten of one form", "the tenth gets no pattern of its own", "".join(DOOR.format(n, n) for n in range(1, 10)) + "lamp=7 x,y z\n",
-         proposal(9, "groklog '^door %{INT:number:int} opened by card %{INT:number2:int}$' log", of=10)),
+         proposal(9, "groklog '^door %{INT:door:int} opened by card %{INT:card:int}$' log", of=10)),
     Case("one line of twenty that has no values", "the others are values between semicolons",
          "".join(f"{n};{n + 1};{n + 2};{n + 3}\n" for n in range(1, 20)) + "20\n",
          "each line has 4 values, which mlr reads, too:\nmlr --icsv --ifs ';' --implicit-csv-header --ojson cat log\n"
@@ -258,12 +260,51 @@ CASES = [
          proposal(18, "groklog '^%{INT:number:int};%{INT:number2:int};%{INT:number3:int};%{INT:number4:int}$' log", of=19)),
     Case("names of values above one line", "one is too few to see that the first has none", "a,b,c,d\n1,2,3,4\n",
          "each line has 4 values, which mlr reads, too:\nmlr --icsv --implicit-csv-header --ojson cat log\n"
-         + proposal(2, "groklog '^%{WORD:word},%{WORD:word2},%{WORD:word3},%{WORD:word4}$' log")),
+         + proposal(2, "groklog '^%{CSVVALUE:field},%{CSVVALUE:field2},%{CSVVALUE:field3},%{CSVVALUE:field4}$' log")),
     Case("six definitions that match all lines", "five are shown", "1 x\n2 x\n",
          rows(*((2, 1, f"groklog --no-common {shlex.join(SIX)} '^%{{{name}}}$' log") for name in "ABCDE")), words=["--no-common", *SIX, "log"]),
     Case("two forms with equally many lines", "the one that comes first is the first", "[a]\n(b)\n[c]\n(d)\n",
          proposal(4, r"groklog -e '^\[%{WORD:word}\]$' -e '^\(%{WORD:word}\)$' log", shares=[2, 2])),
     Case("a missing file", "the others are read", DOOR.format(1, 1) + DOOR.format(2, 2),
-         proposal(2, "groklog '^door %{INT:number:int} opened by card %{INT:number2:int}$' nowhere log"), words=["nowhere", "log"], status=3,
+         proposal(2, "groklog '^door %{INT:door:int} opened by card %{INT:card:int}$' nowhere log"), words=["nowhere", "log"], status=3,
          notes="groklog: there is no file nowhere\n  try: check its name, and the folder that you are in\n"),
+    Case("pairs that not all lines have", "the names that all lines have, and the other pairs as they are; a name is no level",
+         'level=info t=2026-11-28T06:25:01Z user=bob msg="a b" n=1\nlevel=warn t=2026-11-28T06:25:02Z msg="c d" error="x y"\n'
+         'level=info t=2026-11-28T06:25:03Z port=80 msg="e f" n=2\n',
+         proposal(3, "groklog '^level=%{LOGLEVEL:level} t=%{TIMESTAMP_ISO8601:t} (?:%{DATA:pairs} +)?msg=%{QS:msg} %{GREEDYDATA:pairs2}$' log")),
+    Case("a name that is a level", "it is the key of its value", "".join(f'job {n} error="x {n}"\n' for n in range(1, 4)),
+         proposal(3, "groklog '^job %{INT:job:int} error=%{QS:error}$' log")),
+    Case("names after #Fields:", "they are the keys of the columns",
+         "#Version: 1.0\n#Fields: date time s-ip cs(User-Agent) sc-status\n"
+         + "".join(f"2026-11-28 06:25:0{n} 192.0.2.{n} {agent} 20{n}\n" for n, agent in enumerate(["curl/8.5.0", "-", "Mozilla/5.0"])),
+         proposal(3, "groklog '^%{DATE_ISO8601:date} %{TIME:time} %{IP:s-ip} %{NOTSPACE:cs_User-Agent} %{INT:sc-status:int}$' log")),
+    Case("a first line of names between blanks", "they are the keys of the columns",
+         "version port bytes action\n2 443 840 ACCEPT\n2 80 12 REJECT\n3 22 9 ACCEPT\n",
+         proposal(3, "groklog '^%{INT:version:int} %{INT:port:int} %{INT:bytes:int} %{NOTSPACE:action}$' log", of=4)),
+    Case("messages that begin alike after the head of syslog", "a pattern goes on in them",
+         "".join(f"Nov 28 06:25:0{n} web1 slapd[12]: conn={n} {what}\n" for n, what in enumerate(["op=2 UNBIND", "fd=14 closed", "op=0 RESULT"])),
+         rows((3, 6, "groklog '^%{SYSLOGBASE} conn=%{INT:conn:int} %{GREEDYDATA:message}$' log"), (3, 5, "groklog '^%{SYSLOGLINE}$' log"))),
+    Case("a format that finds more in some lines of another", "one command has both, the one that finds more first",
+         "".join(f"Nov 28 06:25:0{n} web1 sshd[12]: pam_unix(sshd:session): session opened for user bob(uid=1001) by (uid=0)\n" for n in (1, 2))
+         + "Nov 28 06:25:03 web1 systemd[1]: Started session 3\nNov 28 06:25:04 web1 kernel: eth0 up\n",
+         rows((4, 5, "groklog '^%{SYSLOGLINE}$' log"), (2, 10, "groklog '^%{PAMLINE}$' log"))
+         + "these patterns match 4 of 4 lines (2 + 2):\ngroklog -e '^%{PAMLINE}$' -e '^%{SYSLOGLINE}$' log\n"),
+    Case("a level after a slash", "what is before it is the thread",
+         "[06:25:01] [Server thread/INFO]: bob joined\n[06:25:02] [Worker-1/WARN]: can't keep up\n[06:25:03] [Chat Thread - #1/INFO]: hello\n",
+         proposal(3, r"groklog '^\[%{TIME:timestamp}\] \[%{DATA:thread}/%{LOGLEVEL:level}\]: %{GREEDYDATA:message}$' log")),
+    Case("a level after a dot", "what is before it is the channel",
+         "[06:25:01] app.INFO: bob joined 1\n[06:25:02] security.DEBUG: 2\n[06:25:03] php.WARNING: a b c\n",
+         proposal(3, r"groklog '^\[%{TIME:timestamp}\] %{WORD:channel}\.%{LOGLEVEL:level}: %{GREEDYDATA:message}$' log")),
+    Case("a logger, a file and a line", "they have keys of their own",
+         "".join(f"06:25:0{n} INFO [shop.{part}] {part}.py:{n * 7} - {part}\n" for n, part in enumerate(["orders", "mail", "cart"], 1)),
+         proposal(3, r"groklog '^%{TIME:timestamp} %{LOGLEVEL:level} \[%{DATA:logger}\] %{DATA:file}:%{INT:line:int} \- %{WORD:word}$' log")),
+    Case("a host and a port", "the number after the address is the port", "".join(f"from 192.0.2.{n}:80{n} x\n" for n in range(1, 4)),
+         proposal(3, "groklog '^from %{IP:ip}:%{INT:port:int} x$' log")),
+    *(Case(f"the time {time.format(1)}", "it is one time", "".join(f"{time.format(n)} * up {n}\n" for n in range(1, 4)),
+           proposal(3, rf"groklog '^%{{{name}:timestamp}} \* up %{{INT:up:int}}$' log")) for time, name in [
+        ("28-NOV-2026 06:25:0{}", "TIMESTAMP_MONTHNAME"), ("nov/28/2026 06:25:0{}", "TIMESTAMP_MONTHNAME"), ("11/28-06:25:0{}.12", "DATESTAMP_SHORT")]),
+    Case("a date, and a time of day after it", "the time of day is no timestamp", "".join(f"2026-11-28  6:25:0{n} up {n}\n" for n in range(1, 4)),
+         proposal(3, "groklog '^%{DATE_ISO8601:date} +%{TIME:time} up %{INT:up:int}$' log")),
+    Case("padding before numbers in brackets", "a longer number has none", "".join(f"load [{n:>3}] ok\n" for n in (5, 12, 99)),
+         proposal(3, r"groklog '^load \[ *%{INT:number:int}\] ok$' log")),
 ]

@@ -26,6 +26,8 @@ pub struct FittedLines {
     /// For each of the lines, whether the pattern fits it.
     pub each: Vec<bool>,
     pub fit: Fit,
+    /// The keys of the pattern that have a value which isn't empty in one of these lines, in byte order.
+    pub keys: Vec<String>,
 }
 
 /// A pattern, and which of some lines it fits.
@@ -35,6 +37,8 @@ pub struct Candidate {
     pub fit: Fit,
     /// For each of the lines, whether the pattern fits it.
     pub each: Vec<bool>,
+    /// The keys of the pattern that have a value which isn't empty in one of these lines, in byte order.
+    pub keys: Vec<String>,
 }
 
 /// A pattern that is searched for in many lines.
@@ -141,6 +145,21 @@ fn fits_each(
     Ok(each)
 }
 
+/// Returns the keys of a pattern without the missing ones, in byte order.
+fn found_keys(
+    alloc: Global,
+    pattern: &Pattern,
+    missing: &[&str],
+) -> Result<Vec<String>, AllocError> {
+    let mut keys = Vec::new(alloc);
+    for key in pattern.capture_names() {
+        if !missing.iter().any(|missing| *missing == key) {
+            keys.push(String::from_str(alloc, key)?)?;
+        }
+    }
+    Ok(keys)
+}
+
 /// Counts the lines that are marked.
 pub fn count(each: &[bool]) -> usize
     ensures { result ≡ count_by (λ is_marked. is_marked) each.now }
@@ -168,10 +187,12 @@ pub fn fitted_lines(
     let all = missing.len();
     let each = fits_each(alloc, pattern, lines, &mut missing)?;
     let fields = all.saturating_sub(missing.len());
+    let keys = found_keys(alloc, pattern, &missing)?;
     let lines = count(&each);
     Ok(FittedLines {
         fit: Fit { lines, fields },
         each,
+        keys,
     })
 }
 
@@ -202,11 +223,16 @@ impl Candidate {
         let Some(pattern) = compile_valid(library, text.as_str())? else {
             return Ok(None);
         };
-        let FittedLines { each, fit } = fitted_lines(alloc, &pattern, lines)?;
+        let FittedLines { each, fit, keys } = fitted_lines(alloc, &pattern, lines)?;
         if fit.lines == 0 {
             return Ok(None);
         }
-        Ok(Some(Candidate { text, fit, each }))
+        Ok(Some(Candidate {
+            text,
+            fit,
+            each,
+            keys,
+        }))
     }
 
     /// Returns the lines that the pattern doesn't fit.

@@ -25,7 +25,7 @@ pub use compiled::compile_valid;
 pub use events::first_line;
 pub use fits::{Candidate, Fit, count, finds_each};
 pub use literals::literal;
-pub use log_kinds::{LogKind, kind_of_log};
+pub use log_kinds::{LogKind, has_header, kind_of_log};
 pub use recognizer::{Known, Meaning, Recognizer, RecognizerSearch, known_definition};
 pub use tokens::{Cutter, Kind, LineToken};
 pub use values::{separator_of, value_at, value_count};

@@ -22,7 +22,7 @@ fn has_digits(lines: &[&str], separator: char, index: usize) -> bool {
 
 /// Returns whether the first line has the names of the values: none of its values has a digit, but in some column all other
 /// lines do.
-fn has_header(lines: &[&str], separator: char) -> bool {
+pub fn has_header(lines: &[&str], separator: char) -> bool {
     let Some((first, others)) = lines.split_first() else {
         return false;
     };

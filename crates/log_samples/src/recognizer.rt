@@ -14,6 +14,12 @@ pub enum Meaning {
     /// A level of a message.
     Level,
     Number,
+    /// A date without a time.
+    Date,
+    /// The address of a host.
+    Address,
+    /// A text in quotes.
+    Quoted,
     Other,
 }
 
@@ -45,15 +51,15 @@ static KNOWN: [(&str, &str, Meaning); 29] = [
     ("DATESTAMP", "timestamp", Meaning::Time),
     ("DATESTAMP_COMPACT", "timestamp", Meaning::Time),
     ("DATESTAMP_SHORT", "timestamp", Meaning::Time),
-    ("DATE_ISO8601", "date", Meaning::Other),
-    ("DATE", "date", Meaning::Other),
+    ("DATE_ISO8601", "date", Meaning::Date),
+    ("DATE", "date", Meaning::Date),
     ("TIME", "timestamp", Meaning::Time),
     ("UUID", "uuid", Meaning::Other),
     ("MAC", "mac", Meaning::Other),
     ("EMAILADDRESS", "email", Meaning::Other),
     ("URI", "uri", Meaning::Other),
-    ("IP", "ip", Meaning::Other),
-    ("QS", "quoted", Meaning::Other),
+    ("IP", "ip", Meaning::Address),
+    ("QS", "quoted", Meaning::Quoted),
     ("LOGLEVEL", "level", Meaning::Level),
     ("DAY", "day", Meaning::Other),
     ("MONTH", "month", Meaning::Other),

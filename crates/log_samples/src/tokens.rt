@@ -11,10 +11,10 @@ const MOST_TOKENS: usize = 200;
 /// How many bytes of a line are cut into tokens. The rest of the line is one more token.
 const MOST_BYTES: usize = 4096;
 
-/// The units that may follow a number directly, as in `12ms`.
-const UNITS: [&str; 24] = [
-    "%", "ns", "us", "µs", "ms", "s", "sec", "min", "m", "h", "d", "B", "b", "kB", "KB", "MB",
-    "GB", "TB", "KiB", "MiB", "GiB", "K", "M", "G",
+/// The units that may follow a number directly, as in `12ms`. Other letters after a digit belong to names, such as `12b`.
+const UNITS: [&str; 20] = [
+    "%", "ns", "us", "µs", "ms", "s", "sec", "min", "B", "kB", "KB", "MB", "GB", "TB", "KiB",
+    "MiB", "GiB", "K", "M", "G",
 ];
 
 /// What a token is.
@@ -89,6 +89,38 @@ fn is_unit(line: &str, at: usize) -> bool {
     UNITS.iter().any(|unit| *unit == word)
 }
 
+/// Returns whether a part of a line is a level in capitals.
+fn is_capital_level(line: &str, found: Recognized) -> bool {
+    let text = line.get(found.start..found.end).unwrap_or("");
+    known_definition(found.known).meaning == Meaning::Level
+        && text.chars().all(|c| c.is_ascii_uppercase())
+}
+
+/// Returns the mark at this byte position of a line that may stand beside a level, as in `app.INFO` and `INFO/main`.
+fn level_mark(line: &str, at: usize) -> Option<char> {
+    let rest = line.get(at..)?;
+    rest.chars().next().filter(|c| matches!(c, '.' | '/'))
+}
+
+/// Returns how many bytes of a word stand before the dot or slash after which it has only letters in capitals.
+fn len_before_capitals(word: &str) -> Option<usize> {
+    let capitals = word
+        .as_bytes()
+        .iter()
+        .rev()
+        .take_while(|b| b.is_ascii_uppercase())
+        .count();
+    let before = word.len().checked_sub(capitals)?.checked_sub(1)?;
+    (capitals > 0 && level_mark(word, before).is_some()).then_some(before)
+}
+
+/// Returns whether a part of a line is the name of a value: letters before `=`.
+fn is_name(line: &str, found: Recognized) -> bool {
+    let text = line.get(found.start..found.end).unwrap_or("");
+    let rest = line.get(found.end..).unwrap_or("");
+    rest.starts_with('=') && text.chars().all(|c| c.is_alphabetic())
+}
+
 /// Returns the part of a line that is cut into tokens.
 fn part_looked_at(line: &str) -> &str {
     for len in [MOST_BYTES, MOST_BYTES - 1, MOST_BYTES - 2, MOST_BYTES - 3] {
@@ -106,6 +138,8 @@ pub struct Cutter<'r> {
     search: RecognizerSearch<'r>,
     /// The next part of the line that a definition recognizes.
     next: Option<Recognized>,
+    /// The byte position after the last level in capitals.
+    level_end: Option<usize>,
 }
 
 impl<'r> Cutter<'r> {
@@ -115,11 +149,13 @@ impl<'r> Cutter<'r> {
             alloc,
             search,
             next: None,
+            level_end: None,
         }
     }
 
     /// Returns what a definition recognizes at this byte position of the line. It has to end where no
-    /// word goes on, or the word is the unit of a number.
+    /// word goes on, or the word is the unit of a number, or a slash follows a level. What is the name of a value
+    /// isn't recognized.
     fn recognized(&mut self, line: &str, at: usize) -> Option<Recognized> {
         if let Some(next) = self.next
             && next.start < at
@@ -127,20 +163,48 @@ impl<'r> Cutter<'r> {
             self.next = self.search.find(line, at);
         }
         let next = self.next?;
-        if next.start != at || next.end <= at {
+        if next.start != at || next.end <= at || is_name(line, next) {
             return None;
         }
         let is_number = known_definition(next.known).meaning == Meaning::Number;
-        let is_whole = !is_in_word(line, next.end) || (is_number && is_unit(line, next.end));
+        let has_slash = is_capital_level(line, next) && level_mark(line, next.end) == Some('/');
+        let has_unit = is_number && is_unit(line, next.end);
+        let is_whole = !is_in_word(line, next.end) || has_unit || has_slash;
         is_whole.then_some(next)
     }
 
     /// Returns the kind and the length in bytes of the token at this byte position of the line.
     fn token_at(&mut self, line: &str, at: usize) -> (Kind, usize) {
-        match self.recognized(line, at) {
-            Some(found) => (Kind::Known(found.known), found.end.saturating_sub(at)),
-            None => plain_token(line.get(at..).unwrap_or("")),
+        if let Some(found) = self.recognized(line, at) {
+            self.level_end = is_capital_level(line, found).then_some(found.end);
+            return (Kind::Known(found.known), found.end.saturating_sub(at));
         }
+        if self.level_end == Some(at)
+            && let Some(mark) = level_mark(line, at)
+        {
+            return (Kind::Mark(mark), 1);
+        }
+        let (kind, len) = plain_token(line.get(at..).unwrap_or(""));
+        match self.word_before_level(line, at, len) {
+            Some(token) if kind == Kind::Word => token,
+            _ => (kind, len),
+        }
+    }
+
+    /// Returns the token at this byte position of the line if the word of this length ends with a dot or a slash and
+    /// a level: the part of the word before the mark, or the mark itself.
+    fn word_before_level(&mut self, line: &str, at: usize, len: usize) -> Option<(Kind, usize)> {
+        let end = at.saturating_add(len);
+        let before = len_before_capitals(line.get(at..end)?)?;
+        let start = at.saturating_add(before).saturating_add(1);
+        let level = self.search.find(line, start)?;
+        if level.start != start || level.end != end || !is_capital_level(line, level) {
+            return None;
+        }
+        if before > 0 {
+            return Some((Kind::Word, before));
+        }
+        Some((Kind::Mark(level_mark(line, at)?), 1))
     }
 
     /// Cuts a line. Nothing of it is lost: the tokens, one after another, are the line.
@@ -149,6 +213,7 @@ impl<'r> Cutter<'r> {
     {
         let part = part_looked_at(line);
         self.next = self.search.find(part, 0);
+        self.level_end = None;
         let mut tokens = Vec::new(self.alloc);
         let mut rest = line;
         'tokens: for _ in 0..MOST_TOKENS {

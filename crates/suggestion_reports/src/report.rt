@@ -9,13 +9,26 @@ use groklog_patterns::own_wholes;
 use log_samples::{Fit, LogKind, compile_valid, count, finds_each, kind_of_log};
 use std::alloc::{AllocError, Global};
 use std::fmt::Write;
-use suggestions::{Advice, Format, Formats, PatternShare, advise};
+use suggestions::{Advice, Format, Formats, OpenFormat, PatternShare, advise};
 
 /// How many patterns are shown at most.
 const MOST_SHOWN: usize = 5;
 
-/// The definitions for the beginnings of lines after which there may be any message.
-const BEGINNINGS: [&str; 3] = ["SYSLOGBASE", "JOURNALBASE", "SYSLOG5424BASE"];
+/// The definitions for whole lines that end with any message, each with the one for what comes before it.
+static OPEN: [OpenFormat<'static>; 3] = [
+    OpenFormat {
+        name: "SYSLOGLINE",
+        beginning: "SYSLOGBASE",
+    },
+    OpenFormat {
+        name: "JOURNALLINE",
+        beginning: "JOURNALBASE",
+    },
+    OpenFormat {
+        name: "SYSLOG5424LINE",
+        beginning: "SYSLOG5424BASE",
+    },
+];
 
 /// Appends the patterns that match some of the lines alone, each with its counts and a command.
 fn push_alone(
@@ -152,17 +165,13 @@ fn formats_of<'a>(alloc: Global, library: &Library<'a>) -> Result<Vec<Format<'a>
     Ok(formats)
 }
 
-/// Returns the definitions with which lines may begin: the formats that by themselves match only lines of their program, and
-/// those for beginnings.
+/// Returns the definitions with which lines may begin: the formats that by themselves match only lines of their program.
 fn beginnings_of<'a>(alloc: Global, formats: &[Format<'a>]) -> Result<Vec<&'a str>, AllocError> {
     let mut beginnings = Vec::new(alloc);
     for format in formats {
         if format.needs.is_none() {
             beginnings.push(format.name)?;
         }
-    }
-    for name in BEGINNINGS {
-        beginnings.push(name)?;
     }
     Ok(beginnings)
 }
@@ -291,7 +300,7 @@ pub fn report_of_sample(
     let formats = Formats {
         lines: &formats,
         beginnings: &beginnings,
-        open: &BEGINNINGS,
+        open: &OPEN,
     };
     if let LogKind::Json = kind_of_log(&lines) {
         push_reader(alloc, &mut report, options, LogKind::Json)?;

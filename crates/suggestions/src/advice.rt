@@ -1,6 +1,8 @@
 //! Finds what to advise for lines: which definitions and which patterns fit them.
 
-use crate::proposals::{Continued, Proposal, propose, propose_after};
+use crate::header::{Header, header_of};
+use crate::heads::LineView;
+use crate::proposals::{Proposal, propose, propose_after, propose_each_after};
 use crate::starts::{events_of, start_of};
 use crate::text::whole_pattern;
 use groklog_definitions::Library;
@@ -63,11 +65,18 @@ pub struct Format<'a> {
 pub struct Formats<'a> {
     /// The definitions for whole lines.
     pub lines: &'a [Format<'a>],
-    /// The definitions for the beginnings of lines.
+    /// The definitions for whole lines that lines may begin with before they go on.
     pub beginnings: &'a [&'a str],
-    /// Those of `beginnings` that a definition for whole lines continues with any message. They are tried
-    /// even if such a definition fits.
-    pub open: &'a [&'a str],
+    /// The definitions for whole lines that end with any message.
+    pub open: &'a [OpenFormat<'a>],
+}
+
+/// A definition for whole lines that end with any message.
+#[derive(Clone, Copy)]
+pub struct OpenFormat<'a> {
+    pub name: &'a str,
+    /// The definition of what comes before the message.
+    pub beginning: &'a str,
 }
 
 /// Sorts patterns: those that fit most lines come first, and of these those with most fields.
@@ -128,7 +137,27 @@ fn fitting(
         }
     }
     sort(&mut found)?;
-    Ok(found)
+    without_twins(alloc, found)
+}
+
+/// Returns whether two candidates fit the same lines and find the same keys in them.
+fn are_twins(first: &Candidate, second: &Candidate) -> bool {
+    first.fit == second.fit && first.each == second.each && first.keys == second.keys
+}
+
+/// Removes each candidate that fits the same lines as the one before it and finds the same keys: it says nothing new.
+fn without_twins(alloc: Global, candidates: Vec<Candidate>) -> Result<Vec<Candidate>, AllocError> {
+    let mut kept: Vec<Candidate> = Vec::new(alloc);
+    for candidate in candidates {
+        let is_twin = match kept.as_slice().last() {
+            Some(last) => are_twins(last, &candidate),
+            None => false,
+        };
+        if !is_twin {
+            kept.push(candidate)?;
+        }
+    }
+    Ok(kept)
 }
 
 /// Returns whether no further pattern is needed: at most one line in ten is left, or one of several.
@@ -167,6 +196,40 @@ fn best_of<'c>(candidates: &'c [Candidate], is_left: &[bool]) -> Option<(&'c Can
     best
 }
 
+/// Returns whether each line that one candidate fits is fit by the other one, too.
+fn is_within(inner: &Candidate, outer: &Candidate) -> bool {
+    let mut pairs = inner.each.iter().zip(&outer.each);
+    pairs.all(|(inner, outer)| !*inner || *outer)
+}
+
+/// Returns whether so many of the lines are enough for a pattern that is used with others.
+fn are_enough(fit: usize, all: usize) -> bool {
+    (fit > 1 || all == 1) && fit >= all / LINES_FOR_ONE_USE
+}
+
+/// Returns the candidate that fits most of the lines that are left, among those that find more than this one, and fit only
+/// lines that this one fits.
+fn more_specific<'c>(
+    candidates: &'c [Candidate],
+    general: &Candidate,
+    is_left: &[bool],
+) -> Option<(&'c Candidate, usize)> {
+    let mut best = None;
+    let mut most = 0usize;
+    for candidate in candidates {
+        let count = count_left(candidate, is_left);
+        if count > most
+            && are_enough(count, is_left.len())
+            && candidate.fit.fields > general.fit.fields
+            && is_within(candidate, general)
+        {
+            most = count;
+            best = Some((candidate, count));
+        }
+    }
+    best
+}
+
 /// Marks all lines as left.
 fn all_of(alloc: Global, lines: &[&str]) -> Result<Vec<bool>, AllocError> {
     let mut is_left = Vec::new(alloc);
@@ -185,7 +248,21 @@ fn take_fit(is_left: &mut [bool], candidate: &Candidate) {
     }
 }
 
-/// Chooses candidates until they fit almost all lines, each for most of the lines that those before it don't fit.
+/// Appends a candidate to the patterns that are used together, and takes its lines from those that are left.
+fn choose(
+    patterns: &mut Vec<PatternShare>,
+    is_left: &mut [bool],
+    candidate: &Candidate,
+) -> Result<(), AllocError> {
+    let lines = count_left(candidate, is_left);
+    take_fit(is_left, candidate);
+    let text = candidate.text.clone()?;
+    Ok(patterns.push(PatternShare { text, lines })?)
+}
+
+/// Chooses candidates until they fit almost all lines, each for most of the lines that those before it don't fit. Those that
+/// find more in some of its lines come before it. It comes after them even if none of these lines is left, since other lines
+/// may have another form.
 fn cover<'l>(
     alloc: Global,
     candidates: &[Candidate],
@@ -193,69 +270,141 @@ fn cover<'l>(
 ) -> Result<Choice<'l>, AllocError> {
     let mut patterns = Vec::new(alloc);
     let mut is_left = all_of(alloc, lines)?;
-    let mut count = lines.len();
     for _ in 0..MOST_TOGETHER {
-        if are_few(count, lines.len()) {
+        if are_few(count(&is_left), lines.len()) {
             break;
         }
-        let Some((candidate, fit)) = best_of(candidates, &is_left) else {
+        let Some((general, fit)) = best_of(candidates, &is_left) else {
             break;
         };
-        let are_enough = fit > 1 || lines.len() == 1;
-        if !are_enough || fit < lines.len() / LINES_FOR_ONE_USE {
+        if !are_enough(fit, lines.len()) {
             break;
         }
-        take_fit(&mut is_left, candidate);
-        count = count.saturating_sub(fit);
-        let text = candidate.text.clone()?;
-        patterns.push(PatternShare { text, lines: fit })?;
+        choose_specific(candidates, general, &mut patterns, &mut is_left)?;
+        choose(&mut patterns, &mut is_left, general)?;
     }
     let left = marked_of(alloc, lines, &is_left)?;
     Ok(Choice { patterns, left })
+}
+
+/// Chooses the candidates that find more in some of the lines that a general one fits.
+fn choose_specific(
+    candidates: &[Candidate],
+    general: &Candidate,
+    patterns: &mut Vec<PatternShare>,
+    is_left: &mut [bool],
+) -> Result<(), AllocError> {
+    for _ in 0..MOST_TOGETHER {
+        let Some((candidate, _)) = more_specific(candidates, general, is_left) else {
+            break;
+        };
+        choose(patterns, is_left, candidate)?;
+    }
+    Ok(())
+}
+
+fn fit_of_first(candidates: &[Candidate]) -> Fit {
+    match candidates.first() {
+        Some(first) => first.fit,
+        None => Fit {
+            lines: 0,
+            fields: 0,
+        },
+    }
 }
 
 /// Appends the pattern for lines that begin with a definition and continue in one form.
 fn add_continued(
     alloc: Global,
     recognizer: &Recognizer<'_, '_>,
-    formats: Formats<'_>,
+    names: &[&str],
     lines: &[&str],
     candidates: &mut Vec<Candidate>,
 ) -> Result<(), AllocError> {
-    let best = match candidates.as_slice().first() {
-        Some(first) => first.fit,
-        None => Fit {
-            lines: 0,
-            fields: 0,
-        },
-    };
-    if separator_of(lines).is_some() {
-        return Ok(());
-    }
-    let is_known = are_few(lines.len().saturating_sub(best.lines), lines.len());
-    let names = if is_known {
-        formats.open
-    } else {
-        formats.beginnings
-    };
+    let best = fit_of_first(candidates);
     let found = propose_after(alloc, recognizer, names, lines)?;
-    let Some(
-        Continued {
-            candidate,
-            is_whole,
-        },
-    ) = found
-    else {
+    let Some(candidate) = found else {
         return Ok(());
     };
-    if (is_whole || !is_known)
-        && candidate.fit.lines >= best.lines
-        && candidate.fit.fields > best.fields
-    {
+    if candidate.fit.lines >= best.lines && candidate.fit.fields > best.fields {
         candidates.push(candidate)?;
         sort(candidates)?;
     }
     Ok(())
+}
+
+/// Returns the lines that no candidate fits which finds more than a definition that ends with any message.
+fn open_lines<'l>(
+    alloc: Global,
+    candidates: &[Candidate],
+    general: &Candidate,
+    lines: &[&'l str],
+) -> Result<Vec<&'l str>, AllocError> {
+    let mut is_left = general.each.clone()?;
+    for candidate in candidates {
+        if candidate.fit.fields > general.fit.fields
+            && are_enough(candidate.fit.lines, lines.len())
+        {
+            take_fit(&mut is_left, candidate);
+        }
+    }
+    marked_of(alloc, lines, &is_left)
+}
+
+/// Appends patterns for the messages of lines that a definition fits which ends with any message: each has the
+/// beginning of that definition, and what the messages have in common.
+fn add_messages(
+    alloc: Global,
+    recognizer: &Recognizer<'_, '_>,
+    format: OpenFormat<'_>,
+    lines: &[&str],
+    candidates: &mut Vec<Candidate>,
+) -> Result<(), AllocError> {
+    let text = whole_pattern(alloc, format.name, false)?;
+    let Some(open) = candidates
+        .iter()
+        .find(|found: &&Candidate| found.text == text)
+    else {
+        return Ok(());
+    };
+    let fields = open.fit.fields;
+    let open = open_lines(alloc, candidates, open, lines)?;
+    for proposal in propose_each_after(alloc, recognizer, format.beginning, &open)? {
+        let Proposal { text, fit } = proposal;
+        if fit.fields > fields
+            && are_enough(fit.lines, lines.len())
+            && let Some(candidate) = Candidate::new(alloc, recognizer.library, text, lines)?
+        {
+            candidates.push(candidate)?;
+        }
+    }
+    sort(candidates)
+}
+
+/// Appends patterns for lines that begin with a definition and then have more than it says.
+fn add_longer(
+    alloc: Global,
+    recognizer: &Recognizer<'_, '_>,
+    formats: Formats<'_>,
+    lines: &[&str],
+    candidates: &mut Vec<Candidate>,
+) -> Result<(), AllocError> {
+    for format in formats.open {
+        add_messages(alloc, recognizer, *format, lines, candidates)?;
+    }
+    let best = fit_of_first(candidates).lines;
+    if are_few(lines.len().saturating_sub(best), lines.len()) || separator_of(lines).is_some() {
+        return Ok(());
+    }
+    add_continued(alloc, recognizer, formats.beginnings, lines, candidates)
+}
+
+/// The lines of a log.
+#[derive(Clone, Copy)]
+struct LinesOf<'s, 'l> {
+    lines: &'s [&'l str],
+    /// The names of their columns, if the log gives them.
+    header: Option<Header<'l>>,
 }
 
 /// Returns the advice for lines that these definitions for whole lines fit.
@@ -263,17 +412,21 @@ fn advise_on(
     alloc: Global,
     recognizer: &Recognizer<'_, '_>,
     formats: Formats<'_>,
-    lines: &[&str],
+    sample: LinesOf<'_, '_>,
     candidates: Vec<Candidate>,
 ) -> Result<Advice, AllocError> {
+    let LinesOf { lines, header } = sample;
     let mut candidates = candidates;
-    add_continued(alloc, recognizer, formats, lines, &mut candidates)?;
+    if header.is_none() {
+        add_longer(alloc, recognizer, formats, lines, &mut candidates)?;
+    }
     let Choice {
         patterns: mut together,
         left,
     } = cover(alloc, &candidates, lines)?;
     if !are_few(left.len(), lines.len()) {
-        for Proposal { text, fit } in propose(alloc, recognizer, &left)? {
+        let view = LineView::new(alloc, &left, header);
+        for Proposal { text, fit } in propose(recognizer, &view, &left)? {
             let lines = fit.lines;
             together.push(PatternShare { text, lines })?;
         }
@@ -324,7 +477,11 @@ fn advise_on_events(
         texts.push(event.as_str())?;
     }
     let candidates = fitting(alloc, recognizer.library, formats.lines, &texts, true)?;
-    let advice = advise_on(alloc, recognizer, formats, &texts, candidates)?;
+    let sample = LinesOf {
+        lines: &texts,
+        header: None,
+    };
+    let advice = advise_on(alloc, recognizer, formats, sample, candidates)?;
     let Advice {
         lines,
         alone,
@@ -368,14 +525,17 @@ pub fn advise(
     formats: Formats<'_>,
     lines: &[&str],
 ) -> Result<Advice, AllocError> {
+    let header = header_of(lines);
     let lines = without_header(lines);
     let recognizer = Recognizer::new(alloc, library)?;
     let candidates = fitting(alloc, library, formats.lines, lines, false)?;
     let left = cover(alloc, &candidates, lines)?.left.len();
     if !are_few(left, lines.len())
+        && header.is_none()
         && let Some(advice) = advise_on_events(alloc, &recognizer, formats, lines)?
     {
         return Ok(advice);
     }
-    advise_on(alloc, &recognizer, formats, lines, candidates)
+    let sample = LinesOf { lines, header };
+    advise_on(alloc, &recognizer, formats, sample, candidates)
 }

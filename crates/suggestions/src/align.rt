@@ -24,18 +24,22 @@ pub(crate) struct Template<'l> {
     pub columns: Vec<Column<'l>>,
     /// Whether more comes after the columns.
     pub has_rest: bool,
+    /// Whether what comes after the columns are pairs of names and values.
+    pub has_pairs: bool,
     /// The column of blanks before the rest, if there is one.
     pub blanks: Option<Column<'l>>,
 }
 
 /// What comes next in the lines.
-enum Next {
+enum Next<'l> {
     /// A token of this kind.
     Token(Kind),
     /// Blanks in some lines, and after them or without them a token of the same kind.
     OptionalBlank,
     /// Tokens of different kinds, after which most lines agree again.
     Gap,
+    /// Pairs with different names, after which most lines have this name.
+    Pairs(&'l str),
     /// The end of the lines.
     End,
     /// Something different in each line.
@@ -88,6 +92,66 @@ impl<'l> Row<'l> {
         Ok(shape)
     }
 
+    /// Returns the name of the pair that begins with the token at this index, at the beginning or after a blank.
+    fn name_at(&self, index: usize) -> Option<&'l str> {
+        let tokens = self.tokens.as_slice();
+        let token = tokens.get(index)?;
+        let mark = tokens.get(index.saturating_add(1))?;
+        let is_first = match index.checked_sub(1) {
+            Some(before) => tokens.get(before)?.kind == Kind::Blank,
+            None => true,
+        };
+        let is_name = is_first && token.kind == Kind::Word && mark.kind == Kind::Mark('=');
+        is_name.then_some(token.text)
+    }
+
+    /// Returns the index of the token at which the pair with this name begins.
+    fn find_name(&self, name: &str) -> Option<usize> {
+        for index in self.at..self.tokens.len() {
+            if self.name_at(index) == Some(name) {
+                return Some(index);
+            }
+        }
+        None
+    }
+
+    /// Returns whether the rest of the line is nothing but pairs, with blanks between them.
+    fn has_pairs(&self) -> bool {
+        let tokens = self.tokens.as_slice();
+        for index in self.at..self.tokens.len() {
+            let is_blank = tokens
+                .get(index)
+                .is_some_and(|token| token.kind == Kind::Blank);
+            let is_first = match index.checked_sub(1).and_then(|before| tokens.get(before)) {
+                Some(before) => before.kind == Kind::Blank,
+                None => true,
+            };
+            if is_first && !is_blank && self.name_at(index).is_none() {
+                return false;
+            }
+        }
+        true
+    }
+
+    /// Returns whether a pair comes next, after blanks.
+    fn begins_pair(&self) -> bool {
+        let next = self.at.saturating_add(1);
+        self.name_at(self.at).is_some() || self.name_at(next).is_some()
+    }
+
+    /// Adds the pairs before the one with this name to their column, without the blank after them. Returns whether the
+    /// line has the name.
+    fn take_pairs(&mut self, column: &mut Column<'l>, name: &str) -> bool {
+        let Some(end) = self.find_name(name) else {
+            return false;
+        };
+        if end == self.at {
+            column.add("");
+        }
+        self.at = end;
+        true
+    }
+
     fn next_blank(&self) -> Option<usize> {
         for index in self.at..self.tokens.len() {
             if self.tokens[index].kind == Kind::Blank {
@@ -99,7 +163,7 @@ impl<'l> Row<'l> {
 
     /// Returns the index of the token that ends a gap: the bracket `closing` that belongs to one
     /// before the gap, or else the next blank, outside of the brackets inside the gap. If these
-    /// aren't closed, it is the next blank.
+    /// aren't closed, it is the next blank. The mark between a word and a level ends each gap.
     fn gap_end(&self, closing: Option<char>) -> Option<usize> {
         let mut depth = 0usize;
         for index in self.at..self.tokens.len() {
@@ -108,7 +172,8 @@ impl<'l> Row<'l> {
                 Some(c) => kind == Kind::Mark(c),
                 None => kind == Kind::Blank,
             };
-            if is_end && depth == 0 {
+            let is_level = matches!(kind, Kind::Mark('.' | '/'));
+            if (is_end || is_level) && depth == 0 {
                 return Some(index);
             }
             match kind {
@@ -133,8 +198,10 @@ impl<'l> Row<'l> {
             column.add("");
         }
         for index in self.at..end {
-            if let Some(token) = self.tokens.as_slice().get(index) {
-                column.add(token.text);
+            match self.tokens.as_slice().get(index) {
+                Some(token) if index == self.at => column.add(token.text),
+                Some(token) => column.add_token(token.text),
+                None => {}
             }
         }
         self.at = end;
@@ -187,7 +254,70 @@ impl<'l> Aligner<'l> {
         )
     }
 
-    fn next(&self) -> Result<Next, AllocError> {
+    /// Returns the first name that almost all lines have from here on, if the lines go on with pairs that have different
+    /// names.
+    fn common_name(&self) -> Option<&'l str> {
+        let first = self.rows.iter().find(|row: &&Row<'_>| row.is_active)?;
+        first.name_at(first.at)?;
+        for index in first.at..first.tokens.len() {
+            if let Some(name) = first.name_at(index)
+                && self.active().saturating_sub(self.with_name(name)) <= self.spare
+            {
+                return Some(name);
+            }
+        }
+        None
+    }
+
+    /// Returns how many lines that have all columns so far have a pair with this name.
+    fn with_name(&self, name: &str) -> usize {
+        self.rows
+            .iter()
+            .filter(|row: &&Row<'_>| row.is_active && row.find_name(name).is_some())
+            .count()
+    }
+
+    /// Returns whether almost all lines go on with a pair, but not with pairs of one name.
+    fn has_different_names(&self) -> Result<bool, AllocError> {
+        let mut counts = Vec::new(self.alloc);
+        for row in &self.rows {
+            if row.is_active {
+                count_line(&mut counts, row.name_at(row.at))?;
+            }
+        }
+        let active = self.active();
+        let mut others = 0usize;
+        let mut is_one = false;
+        for count in &counts {
+            let is_most = active.saturating_sub(count.lines) <= self.spare;
+            is_one = is_one || (count.what.is_some() && is_most);
+            if count.what.is_none() {
+                others = count.lines;
+            }
+        }
+        Ok(!is_one && others <= self.spare)
+    }
+
+    /// Returns whether what comes next in the lines is nothing but pairs. Some lines may end here.
+    fn have_pairs(&self) -> bool {
+        let has_some = self
+            .rows
+            .iter()
+            .any(|row: &Row<'_>| row.is_active && row.begins_pair());
+        let has_others = self
+            .rows
+            .iter()
+            .any(|row: &Row<'_>| row.is_active && !row.has_pairs());
+        has_some && !has_others
+    }
+
+    fn next(&self) -> Result<Next<'l>, AllocError> {
+        if self.has_different_names()? {
+            return Ok(match self.common_name() {
+                Some(name) => Next::Pairs(name),
+                None => Next::Rest,
+            });
+        }
         let mut counts = Vec::new(self.alloc);
         for row in &self.rows {
             if row.is_active {
@@ -195,7 +325,13 @@ impl<'l> Aligner<'l> {
             }
         }
         let active = self.active();
+        let closing = self.open.as_slice().last().copied();
+        // In brackets no line is left out because it has other words there.
+        let are_closed = closing.is_some() && self.with_gap_end(closing) == active;
         for count in &counts {
+            if count.lines < active && are_closed {
+                continue;
+            }
             if active.saturating_sub(count.lines) <= self.spare {
                 return Ok(match count.what {
                     None => Next::End,
@@ -207,7 +343,6 @@ impl<'l> Aligner<'l> {
         if self.agrees_after_blanks()? {
             return Ok(Next::OptionalBlank);
         }
-        let closing = self.open.as_slice().last().copied();
         if active.saturating_sub(self.with_gap_end(closing)) <= self.spare {
             Ok(Next::Gap)
         } else {
@@ -306,6 +441,18 @@ impl<'l> Aligner<'l> {
         Ok(self.columns.push(column)?)
     }
 
+    /// Makes a column of the pairs before the one with this name.
+    fn take_pairs(&mut self, name: &str) -> Result<(), AllocError> {
+        let mut column = Column::new(Content::Pairs);
+        for row in self.rows.iter_mut() {
+            if row.is_active && !row.take_pairs(&mut column, name) {
+                row.is_active = false;
+                self.spare = self.spare.saturating_sub(1);
+            }
+        }
+        Ok(self.columns.push(column)?)
+    }
+
     /// Makes columns as long as the lines agree. Returns whether the lines end after the last one.
     fn align(&mut self) -> Result<bool, AllocError> {
         for _ in 0..MOST_COLUMNS {
@@ -313,6 +460,7 @@ impl<'l> Aligner<'l> {
                 Next::Token(kind) => self.take(kind)?,
                 Next::OptionalBlank => self.take_blanks()?,
                 Next::Gap => self.take_gap()?,
+                Next::Pairs(name) => self.take_pairs(name)?,
                 Next::End => return Ok(true),
                 Next::Rest => break,
             }
@@ -357,12 +505,14 @@ pub(crate) fn align<'l>(
         open: Vec::new(alloc),
     };
     let is_whole = aligner.align()?;
+    let has_pairs = aligner.have_pairs();
     let Aligner { mut columns, .. } = aligner;
     let firm = firm_len(&columns);
     if is_whole && !has_gap_after(&columns, firm) {
         return Ok(Template {
             columns,
             has_rest: false,
+            has_pairs: false,
             blanks: None,
         });
     }
@@ -370,10 +520,12 @@ pub(crate) fn align<'l>(
         Some(column) if column.is_blank() => Some(*column),
         _ => None,
     };
+    let has_pairs = has_pairs && columns.len() <= firm.saturating_add(1);
     columns.truncate(firm);
     Ok(Template {
         columns,
         has_rest: true,
+        has_pairs,
         blanks,
     })
 }

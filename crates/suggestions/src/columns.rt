@@ -1,5 +1,6 @@
 //! What the lines of a group have in common, column by column.
 
+use crate::names::Hints;
 use log_samples::{Kind, Meaning, known_definition};
 
 /// What a column has in each line.
@@ -11,6 +12,8 @@ pub(crate) enum Content {
     Gap,
     /// A value between commas.
     Value,
+    /// Pairs of names and values, with other names in other lines.
+    Pairs,
 }
 
 /// What the texts of a column have in common.
@@ -35,6 +38,10 @@ pub(crate) struct Column<'l> {
     pub are_decimals: bool,
     /// Whether `=` comes after it, so that it is the name of a value.
     pub is_name: bool,
+    /// The key that its texts suggest.
+    hints: Hints,
+    /// The name that the log itself gives the column.
+    pub name: Option<&'l str>,
     /// Whether other lines may have another text here, even if all of these lines have the same: the word after a
     /// time, where many logs have the name of a host, or a value between separators.
     pub may_change: bool,
@@ -85,13 +92,20 @@ impl<'l> Column<'l> {
             are_integers: true,
             are_decimals: true,
             is_name: false,
+            name: None,
+            hints: Hints::new(),
             may_change: false,
         }
     }
 
-    /// Adds the text of a line. The text of a gap may be added token by token. What the column states about equal
-    /// texts isn't true any more then.
+    /// Adds the text of a line, which may be the first token of a gap.
     pub(crate) fn add(&mut self, text: &'l str) {
+        self.hints.add(text);
+        self.add_token(text);
+    }
+
+    /// Adds a text, or a further token of a gap. What the column states about equal texts isn't true any more then.
+    pub(crate) fn add_token(&mut self, text: &'l str) {
         let first = self.first.unwrap_or(text);
         self.first = Some(first);
         self.are_same = self.are_same && first == text;
@@ -127,6 +141,7 @@ impl<'l> Column<'l> {
     /// Joins the column before this one to this one, which is a gap.
     pub(crate) fn join(&mut self, before: Column<'l>) {
         self.first = before.first;
+        self.hints = before.hints;
         self.has_empty = self.has_empty && before.has_empty;
         self.has_blanks = self.has_blanks || before.has_blanks;
     }
@@ -136,27 +151,59 @@ impl<'l> Column<'l> {
         matches!(self.content, Content::Token(Kind::Known(_))) || self.literal().is_some()
     }
 
-    pub(crate) fn is_time(&self) -> bool {
+    /// Returns the key that the texts of the column suggest.
+    pub(crate) fn hinted_key(&self) -> Option<&'static str> {
+        self.hints.key()
+    }
+
+    /// Returns the meaning of what a definition recognizes in the column.
+    fn meaning(&self) -> Option<Meaning> {
         match self.content {
-            Content::Token(Kind::Known(known)) => known_definition(known).meaning == Meaning::Time,
-            _ => false,
+            Content::Token(Kind::Known(known)) => Some(known_definition(known).meaning),
+            _ => None,
         }
+    }
+
+    pub(crate) fn is_time(&self) -> bool {
+        self.meaning() == Some(Meaning::Time)
+    }
+
+    pub(crate) fn is_date(&self) -> bool {
+        self.meaning() == Some(Meaning::Date)
+    }
+
+    pub(crate) fn is_level(&self) -> bool {
+        self.meaning() == Some(Meaning::Level)
+    }
+
+    pub(crate) fn is_number(&self) -> bool {
+        self.meaning() == Some(Meaning::Number)
+    }
+
+    pub(crate) fn is_address(&self) -> bool {
+        self.meaning() == Some(Meaning::Address)
+    }
+
+    /// Returns whether the column has texts that no definition recognizes.
+    pub(crate) fn is_text(&self) -> bool {
+        matches!(
+            self.content,
+            Content::Token(Kind::Word) | Content::Gap | Content::Value
+        )
     }
 
     /// Returns whether the column has times or levels, whose keys a word before them doesn't change.
     pub(crate) fn has_own_name(&self) -> bool {
-        match self.content {
-            Content::Token(Kind::Known(known)) => matches!(
-                known_definition(known).meaning,
-                Meaning::Time | Meaning::Level
-            ),
-            _ => false,
-        }
+        self.is_time() || self.is_level()
     }
 
     /// Returns whether a definition recognizes the texts of this column.
     pub(crate) fn is_known(&self) -> bool {
         matches!(self.content, Content::Token(Kind::Known(_)))
+    }
+
+    pub(crate) fn is_mark(&self, mark: char) -> bool {
+        self.content == Content::Token(Kind::Mark(mark))
     }
 
     pub(crate) fn is_blank(&self) -> bool {

@@ -1,5 +1,6 @@
 //! Lines that begin with a definition and then have more.
 
+use crate::header::Header;
 use crate::text::Frame;
 use grok::{MatchesRef, Pattern};
 use groklog_definitions::Library;
@@ -25,9 +26,11 @@ pub(crate) struct Head<'a> {
 
 /// The part of each line that is aligned: the part after a definition, or the whole line.
 #[derive(Drop)]
-pub(crate) struct LineView<'a> {
+pub(crate) struct LineView<'l> {
     pub alloc: Global,
-    pub frame: Frame<'a>,
+    pub frame: Frame,
+    /// The names of the columns, if the log gives them.
+    pub header: Option<Header<'l>>,
     /// Finds the definition with which the lines begin. `None` if whole lines are aligned.
     head: Option<Pattern>,
 }
@@ -78,11 +81,12 @@ fn whole_lines<'l>(alloc: Global, lines: &[&'l str]) -> Result<Vec<Option<&'l st
     Ok(tails)
 }
 
-impl<'a> LineView<'a> {
+impl<'l> LineView<'l> {
     /// Returns the view of whole lines.
-    pub(crate) fn new(alloc: Global, lines: &[&str]) -> LineView<'a> {
+    pub(crate) fn new(alloc: Global, lines: &[&str], header: Option<Header<'l>>) -> LineView<'l> {
         LineView {
             alloc,
+            header,
             frame: Frame {
                 head: None,
                 keys: Vec::new(alloc),
@@ -96,15 +100,17 @@ impl<'a> LineView<'a> {
     pub(crate) fn after(
         alloc: Global,
         lines: &[&str],
-        head: Head<'a>,
-    ) -> Result<LineView<'a>, AllocError> {
+        head: Head<'_>,
+    ) -> Result<LineView<'l>, AllocError> {
         let Head { name, pattern, .. } = head;
+        let name = String::from_str(alloc, name)?;
         let mut keys = Vec::new(alloc);
         for key in pattern.capture_names() {
             keys.push(String::from_str(alloc, key)?)?;
         }
         Ok(LineView {
             alloc,
+            header: None,
             frame: Frame {
                 head: Some(name),
                 keys,
@@ -116,7 +122,7 @@ impl<'a> LineView<'a> {
 
     /// Returns for each line the part after the definition that begins it, or `None` if the line doesn't
     /// begin with the definition.
-    fn tails<'l>(&self, lines: &[&'l str]) -> Result<Vec<Option<&'l str>>, AllocError> {
+    fn tails<'t>(&self, lines: &[&'t str]) -> Result<Vec<Option<&'t str>>, AllocError> {
         match &self.head {
             Some(pattern) => tails_after(self.alloc, pattern, lines),
             None => whole_lines(self.alloc, lines),
@@ -124,7 +130,7 @@ impl<'a> LineView<'a> {
     }
 
     /// Returns the part of each line that is aligned.
-    pub(crate) fn aligned<'l>(&self, lines: &[&'l str]) -> Result<Vec<&'l str>, AllocError> {
+    pub(crate) fn aligned<'t>(&self, lines: &[&'t str]) -> Result<Vec<&'t str>, AllocError> {
         let mut aligned = Vec::new(self.alloc);
         for (line, tail) in lines.iter().zip(&self.tails(lines)?) {
             aligned.push(tail.unwrap_or(first_line(line)))?;
@@ -133,7 +139,7 @@ impl<'a> LineView<'a> {
     }
 
     /// Returns the lines that begin with the definition.
-    pub(crate) fn begun<'l>(&self, lines: &[&'l str]) -> Result<Vec<&'l str>, AllocError> {
+    pub(crate) fn begun<'t>(&self, lines: &[&'t str]) -> Result<Vec<&'t str>, AllocError> {
         let mut begun = Vec::new(self.alloc);
         for (line, tail) in lines.iter().zip(&self.tails(lines)?) {
             if tail.is_some() {

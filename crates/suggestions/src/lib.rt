@@ -18,10 +18,12 @@ mod advice;
 mod align;
 mod columns;
 mod counts;
+mod header;
 mod heads;
+mod names;
 mod proposals;
 mod starts;
 mod text;
 mod values;
 
-pub use advice::{Advice, Format, Formats, PatternShare, Suggestion, advise};
+pub use advice::{Advice, Format, Formats, OpenFormat, PatternShare, Suggestion, advise};

@@ -5,7 +5,7 @@ use crate::align::{Row, Template, align};
 use crate::counts::{commonest, count_line};
 use crate::heads::{LineView, longest_head};
 use crate::text::{RestForm, pattern_text};
-use crate::values::template_of_values;
+use crate::values::{template_of_named, template_of_values};
 use groklog_definitions::Library;
 use log_samples::{Candidate, Cutter, Fit, Kind, Recognizer, separator_of};
 use std::alloc::{AllocError, Global};
@@ -30,14 +30,6 @@ pub(crate) struct Proposal {
     pub text: String,
     /// How it fits the lines that the proposals before it don't fit.
     pub fit: Fit,
-}
-
-/// A pattern for lines that begin with a definition and then have more.
-#[derive(Drop)]
-pub(crate) struct Continued {
-    pub candidate: Candidate,
-    /// Whether what comes after the definition has one form, without a rest that is anything.
-    pub is_whole: bool,
 }
 
 /// Compiles the pattern of a template, with the rest in this form. Returns `None` if it can't be compiled, or fits no
@@ -97,12 +89,16 @@ fn rows_of<'l>(
     Ok(rows)
 }
 
-/// Aligns lines, of which a few may be left out. If they are values between separators, each value is a column.
+/// Aligns lines, of which a few may be left out. If they have columns with names, or are values between separators, each
+/// value is a column.
 fn template_of<'l>(
-    view: &LineView<'_>,
+    view: &LineView<'l>,
     cutter: &mut Cutter<'_>,
     lines: &[&'l str],
 ) -> Result<Template<'l>, AllocError> {
+    if let Some(header) = view.header {
+        return template_of_named(view.alloc, cutter, lines, header);
+    }
     if view.frame.head.is_none()
         && let Some(separator) = separator_of(lines)
     {
@@ -184,11 +180,11 @@ pub(crate) fn aligned_of<'s, 'l>(lines: &'s [&'l str]) -> &'s [&'l str] {
 
 /// Returns the best candidate for all of these lines, for the lines that begin alike, or for the lines of one
 /// shape.
-fn next_candidate(
+fn next_candidate<'l>(
     library: &Library<'_>,
-    view: &LineView<'_>,
+    view: &LineView<'l>,
     cutter: &mut Cutter<'_>,
-    lines: &[&str],
+    lines: &[&'l str],
 ) -> Result<Option<Candidate>, AllocError>
     ensures { IfOk result (λ found. IfSome found (λ candidate. 0 < candidate.fit.lines)) }
 {
@@ -216,24 +212,24 @@ fn push_fitting(proposals: &mut Vec<Proposal>, proposal: Proposal) -> Result<(),
     Ok(proposals.push(proposal)?)
 }
 
-/// Proposes patterns for lines, or for events of several lines. Each is for those that the patterns before
+/// Proposes patterns for lines, or for events of several lines, in this view. Each is for those that the patterns before
 /// it don't fit. There are none if the lines have nothing in common.
-pub(crate) fn propose(
-    alloc: Global,
+pub(crate) fn propose<'l>(
     recognizer: &Recognizer<'_, '_>,
-    lines: &[&str],
+    view: &LineView<'l>,
+    lines: &[&'l str],
 ) -> Result<Vec<Proposal>, AllocError>
     ensures most { IfOk result (λ proposals. vec_len proposals ≤ 3) }
     ensures each { IfOk result (λ proposals. All (λ proposal. 0 < proposal.fit.lines) proposals.items) }
 {
+    let alloc = view.alloc;
     let mut cutter = Cutter::new(alloc, recognizer.search(alloc)?);
-    let view = LineView::new(alloc, lines);
     let mut proposals = Vec::new(alloc);
     let mut left = Vec::from_slice(alloc, lines)?;
     'patterns: while proposals.len() < MOST_PATTERNS
         && left.len() > lines.len() / LINES_FOR_ONE_LEFT
     {
-        let next = next_candidate(recognizer.library, &view, &mut cutter, &left)?;
+        let next = next_candidate(recognizer.library, view, &mut cutter, &left)?;
         let Some(candidate) = next else {
             break;
         };
@@ -245,25 +241,33 @@ pub(crate) fn propose(
 }
 
 /// Proposes a pattern for what the lines of a view have after a definition.
-fn propose_in(
+fn propose_in<'l>(
     recognizer: &Recognizer<'_, '_>,
-    view: &LineView<'_>,
-    lines: &[&str],
-) -> Result<Option<Continued>, AllocError>
-    ensures { IfOk result (λ found. IfSome found (λ continued. 0 < continued.candidate.fit.lines)) }
+    view: &LineView<'l>,
+    lines: &[&'l str],
+) -> Result<Option<Candidate>, AllocError>
+    ensures { IfOk result (λ found. IfSome found (λ candidate. 0 < candidate.fit.lines)) }
 {
     let begun = view.begun(aligned_of(lines))?;
     let mut cutter = Cutter::new(view.alloc, recognizer.search(view.alloc)?);
     let template = template_of(view, &mut cutter, &begun)?;
-    let is_whole = !template.has_rest && !template.columns.is_empty();
-    let found = best_candidate(recognizer.library, view, &template, lines)?;
-    let Some(candidate) = found else {
-        return Ok(None);
+    best_candidate(recognizer.library, view, &template, lines)
+}
+
+/// Proposes patterns for the lines that begin with this definition, each with what comes after it.
+pub(crate) fn propose_each_after(
+    alloc: Global,
+    recognizer: &Recognizer<'_, '_>,
+    name: &str,
+    lines: &[&str],
+) -> Result<Vec<Proposal>, AllocError> {
+    let found = longest_head(alloc, recognizer.library, &[name], aligned_of(lines))?;
+    let Some(head) = found else {
+        return Ok(Vec::new(alloc));
     };
-    Ok(Some(Continued {
-        candidate,
-        is_whole,
-    }))
+    let view = LineView::after(alloc, lines, head)?;
+    let begun = view.begun(lines)?;
+    propose(recognizer, &view, &begun)
 }
 
 /// Proposes a pattern for lines that begin with one of these definitions and continue in one form. It uses
@@ -274,8 +278,8 @@ pub(crate) fn propose_after(
     recognizer: &Recognizer<'_, '_>,
     names: &[&str],
     lines: &[&str],
-) -> Result<Option<Continued>, AllocError>
-    ensures { IfOk result (λ found. IfSome found (λ continued. 0 < continued.candidate.fit.lines)) }
+) -> Result<Option<Candidate>, AllocError>
+    ensures { IfOk result (λ found. IfSome found (λ candidate. 0 < candidate.fit.lines)) }
 {
     let found = longest_head(alloc, recognizer.library, names, aligned_of(lines))?;
     let Some(head) = found else {

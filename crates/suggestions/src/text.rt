@@ -2,13 +2,11 @@
 
 use crate::align::Template;
 use crate::columns::{Column, Content};
+use crate::names::{is_open, key_of};
 use grok::Grok;
 use log_samples::{Kind, Known, Meaning, known_definition, literal};
 use std::alloc::{AllocError, Global};
 use std::collections::BTreeMap;
-
-/// How many characters a word may have that becomes a key.
-const MOST_KEY_CHARS: usize = 40;
 
 /// How the rest of the lines is written.
 #[derive(Clone, Copy)]
@@ -26,9 +24,9 @@ const MORE_LINES: &str = "(?:\\n(?<more>(?s:.*)))?";
 
 /// What stands around the columns of a template.
 #[derive(Drop)]
-pub(crate) struct Frame<'a> {
+pub(crate) struct Frame {
     /// The definition with which the lines begin, or `None` if they begin with the first column.
-    pub head: Option<&'a str>,
+    pub head: Option<String>,
     /// The keys of the definition `head`.
     pub keys: Vec<String>,
     /// Whether the lines are the first ones of events.
@@ -43,65 +41,6 @@ pub(crate) fn whole_pattern(
 ) -> Result<String, AllocError> {
     let more = if are_events { MORE_LINES } else { "" };
     format!(in alloc; "^%{{{name}}}{more}$")
-}
-
-fn is_key(word: &str) -> bool {
-    word.len() <= MOST_KEY_CHARS
-        && word.starts_with(|c: char| c.is_ascii_alphabetic())
-        && word.chars().all(|c| c.is_ascii_alphanumeric() || c == '_' || c == '-' || c == '.')
-}
-
-/// Returns the word before the column at `index` that names its value, as in `status=200` or
-/// `status: 200`. A word with `:` before a time or a level isn't its name.
-fn name_before<'l>(columns: &[Column<'l>], index: usize) -> Option<&'l str> {
-    let has_own_name = columns
-        .get(index)
-        .is_some_and(|column| column.has_own_name());
-    let mut before = columns.get(..index)?;
-    if let Some((last, more)) = before.split_last()
-        && last.is_blank()
-    {
-        before = more;
-    }
-    let (mark, words) = before.split_last()?;
-    let (word, _) = words.split_last()?;
-    let is_mark = match mark.content {
-        Content::Token(Kind::Mark('=')) => true,
-        Content::Token(Kind::Mark(':')) => !has_own_name,
-        _ => false,
-    };
-    if !is_mark || word.content != Content::Token(Kind::Word) {
-        return None;
-    }
-    word.literal().filter(|name| is_key(name))
-}
-
-/// Returns whether the number at `index` is in brackets after a word, as the number of a process is: `sshd[2201]`.
-fn is_process(columns: &[Column<'_>], index: usize) -> bool {
-    let Some((open, before)) = columns.get(..index).unwrap_or(&[]).split_last() else {
-        return false;
-    };
-    let Some((last, more)) = before.split_last() else {
-        return false;
-    };
-    let word = if last.is_blank() {
-        more.last()
-    } else {
-        Some(last)
-    };
-    let is_closed = match columns.get(index.saturating_add(1)) {
-        Some(close) => is_mark(close, ']'),
-        None => false,
-    };
-    let is_word = match word {
-        Some(word) => word.content == Content::Token(Kind::Word),
-        None => false,
-    };
-    is_word && is_closed && is_mark(open, '[')
-}
-
-fn is_mark(column: &Column<'_>, mark: char) -> bool {
-    column.content == Content::Token(Kind::Mark(mark))
 }
 
 /// A definition, and its text for a library that doesn't have it.
@@ -186,15 +125,31 @@ impl TextWriter<'_> {
     }
 
     /// Writes the definition with which the lines begin. Its keys are taken.
-    fn push_head(&mut self, frame: &Frame<'_>) -> Result<(), AllocError> {
+    fn push_head(&mut self, frame: &Frame) -> Result<(), AllocError> {
         for key in &frame.keys {
             self.keys.insert(key.clone()?, 1)?;
         }
-        if let Some(name) = frame.head {
+        if let Some(name) = &frame.head {
             let placeholder = format!(in self.alloc; "%{{{name}}}")?;
             self.text.push_str(placeholder.as_str())?;
         }
         Ok(())
+    }
+
+    /// Returns a text as a key: characters that keys don't have become `_`, but none at the end.
+    fn key_text(&self, text: &str) -> Result<String, AllocError> {
+        let mut key = String::new(self.alloc);
+        for c in text
+            .trim_end_matches(|c: char| !c.is_ascii_alphanumeric())
+            .chars()
+        {
+            let is_kept = c.is_ascii_alphanumeric() || matches!(c, '_' | '-' | '.');
+            key.push(if is_kept { c } else { '_' })?;
+        }
+        if key.is_empty() {
+            key.push_str("field")?;
+        }
+        Ok(key)
     }
 
     /// Writes a placeholder. `extract` is empty, or an extract with its colon, such as `:int`.
@@ -205,7 +160,8 @@ impl TextWriter<'_> {
         extract: &str,
     ) -> Result<(), AllocError> {
         let Value { name, definition } = *value;
-        let key = self.new_key(base)?;
+        let base = self.key_text(base)?;
+        let key = self.new_key(base.as_str())?;
         let placeholder = if self.grok.definition(name).is_some() {
             format!(in self.alloc; "%{{{name}:{key}{extract}}}")?
         } else {
@@ -236,6 +192,27 @@ impl TextWriter<'_> {
         self.text.push_str("[%]")
     }
 
+    /// Writes the blanks at this index. Those between a mark and a number are padding, which a longer number doesn't
+    /// have.
+    fn push_blanks_at(
+        &mut self,
+        columns: &[Column<'_>],
+        index: usize,
+        column: &Column<'_>,
+    ) -> Result<(), AllocError> {
+        let is_one = column.are_same && column.first == Some(" ");
+        let before = index.checked_sub(1).and_then(|index| columns.get(index));
+        let is_after_mark = match before.map(|before| before.content) {
+            Some(Content::Token(Kind::Mark(_))) | None => true,
+            _ => false,
+        };
+        let next = columns.get(index.saturating_add(1));
+        let is_before_number = next.is_some_and(|next| next.is_number());
+        let mut padding = *column;
+        padding.has_empty = column.has_empty || (!is_one && is_after_mark && is_before_number);
+        self.push_blanks(&padding)
+    }
+
     fn push_blanks(&mut self, column: &Column<'_>) -> Result<(), AllocError> {
         let is_one = column.are_same && column.first == Some(" ");
         self.text
@@ -255,19 +232,44 @@ impl TextWriter<'_> {
         if let Some(text) = column.literal() {
             return self.push_literal(text);
         }
-        let name = name_before(columns, index);
         match column.content {
-            Content::Token(Kind::Blank) => self.push_blanks(column),
+            Content::Token(Kind::Blank) => self.push_blanks_at(columns, index, column),
+            Content::Pairs => self.push_pairs(column),
             Content::Token(Kind::Known(known)) => self.push_known(columns, index, known),
-            Content::Token(Kind::Word) if column.are_words => {
-                self.push_placeholder(&WORD, name.unwrap_or("word"), "")
-            }
-            Content::Value => self.push_placeholder(&CSVVALUE, name.unwrap_or("field"), ""),
-            _ if column.has_blanks || column.has_empty || is_before_mark(columns, index) => {
-                self.push_placeholder(&DATA, name.unwrap_or("field"), "")
-            }
-            _ => self.push_placeholder(&NOTSPACE, name.unwrap_or("field"), ""),
+            _ => self.push_text(columns, index, column),
         }
+    }
+
+    /// Writes the column at this index, which has texts that no definition recognizes.
+    fn push_text(
+        &mut self,
+        columns: &[Column<'_>],
+        index: usize,
+        column: &Column<'_>,
+    ) -> Result<(), AllocError> {
+        let has_words = column.content == Content::Token(Kind::Word) && column.are_words;
+        let are_words = has_words && !column.may_change;
+        let own = if are_words { "word" } else { "field" };
+        let key = key_of(self.alloc, columns, index, own)?;
+        let value = if are_words && !is_open(key.as_str()) {
+            WORD
+        } else if column.content == Content::Value {
+            CSVVALUE
+        } else if column.has_blanks || column.has_empty || is_before_mark(columns, index) {
+            DATA
+        } else {
+            NOTSPACE
+        };
+        self.push_placeholder(&value, key.as_str(), "")
+    }
+
+    /// Writes pairs that aren't cut into names and values.
+    fn push_pairs(&mut self, column: &Column<'_>) -> Result<(), AllocError> {
+        self.text
+            .push_str(if column.has_empty { "(?:" } else { "" })?;
+        self.push_placeholder(&DATA, "pairs", "")?;
+        self.text
+            .push_str(if column.has_empty { " +)?" } else { " +" })
     }
 
     /// Writes the column at this index, which has what this definition recognizes.
@@ -278,44 +280,46 @@ impl TextWriter<'_> {
         known: usize,
     ) -> Result<(), AllocError> {
         let Known { name, key, meaning } = known_definition(known);
-        let named = name_before(columns, index);
+        let key = key_of(self.alloc, columns, index, key)?;
         match columns.get(index) {
-            Some(column) if meaning == Meaning::Number => {
-                let own = if is_process(columns, index) {
-                    "pid"
-                } else {
-                    key
-                };
-                self.push_number(column, named.unwrap_or(own))
-            }
+            Some(column) if meaning == Meaning::Number => self.push_number(column, key.as_str()),
             _ => {
                 let value = Value {
                     name,
                     definition: ".*?",
                 };
-                self.push_placeholder(&value, named.unwrap_or(key), "")
+                self.push_placeholder(&value, key.as_str(), "")
             }
         }
     }
 
     /// Writes what comes after the columns.
-    fn push_rest(&mut self, blanks: &Option<Column<'_>>, form: RestForm) -> Result<(), AllocError> {
+    fn push_rest(&mut self, template: &Template<'_>, form: RestForm) -> Result<(), AllocError> {
+        let blanks = &template.blanks;
+        let key = if template.has_pairs {
+            "pairs"
+        } else {
+            "message"
+        };
         if let (RestForm::Joined, _) | (_, None) = (form, blanks) {
-            return self.push_placeholder(&GREEDYDATA, "message", "");
+            return self.push_placeholder(&GREEDYDATA, key, "");
         }
         let is_optional = matches!(form, RestForm::Optional);
         self.text.push_str(if is_optional { "(?:" } else { "" })?;
         if let Some(blanks) = blanks {
             self.push_blanks(blanks)?;
         }
-        self.push_placeholder(&GREEDYDATA, "message", "")?;
+        self.push_placeholder(&GREEDYDATA, key, "")?;
         self.text.push_str(if is_optional { ")?" } else { "" })
     }
 }
 
 fn is_before_mark(columns: &[Column<'_>], index: usize) -> bool {
     match columns.get(index.saturating_add(1)) {
-        Some(next) => matches!(next.content, Content::Token(Kind::Mark(_))),
+        Some(next) => match next.content {
+            Content::Token(Kind::Mark(mark)) => mark != ' ',
+            _ => false,
+        },
         None => false,
     }
 }
@@ -325,7 +329,7 @@ pub(crate) fn pattern_text(
     grok: &Grok,
     template: &Template<'_>,
     form: RestForm,
-    frame: &Frame<'_>,
+    frame: &Frame,
 ) -> Result<String, AllocError> {
     let mut writer = TextWriter {
         alloc,
@@ -338,7 +342,7 @@ pub(crate) fn pattern_text(
         writer.push_column(&template.columns, index)?;
     }
     if template.has_rest {
-        writer.push_rest(&template.blanks, form)?;
+        writer.push_rest(template, form)?;
     }
     if frame.are_events {
         writer.text.push_str(MORE_LINES)?;

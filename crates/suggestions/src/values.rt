@@ -2,6 +2,7 @@
 
 use crate::align::Template;
 use crate::columns::{Column, Content};
+use crate::header::Header;
 use log_samples::{Cutter, Kind, first_line, value_at, value_count};
 use std::alloc::{AllocError, Global};
 
@@ -34,11 +35,31 @@ fn column_of<'l>(
     }
     if let Some(Kind::Known(known)) = kind {
         column.content = Content::Token(Kind::Known(known));
-    } else if column.are_words {
-        column.content = Content::Token(Kind::Word);
-        column.may_change = true;
     }
     Ok(column)
+}
+
+/// Returns the template of lines that have columns with names. The line that has the names may be one of them.
+pub(crate) fn template_of_named<'l>(
+    alloc: Global,
+    cutter: &mut Cutter<'_>,
+    lines: &[&'l str],
+    header: Header<'l>,
+) -> Result<Template<'l>, AllocError> {
+    let Header { names, separator } = header;
+    let mut others = Vec::new(alloc);
+    for line in lines {
+        if *line != names {
+            others.push(*line)?;
+        }
+    }
+    let mut template = template_of_values(alloc, cutter, &others, separator)?;
+    for (index, column) in template.columns.iter_mut().enumerate() {
+        if index % 2 == 0 {
+            column.name = value_at(names, separator, index / 2);
+        }
+    }
+    Ok(template)
 }
 
 /// Returns the template of lines that are values between separators. Each value is a column, and none of them is literal.
@@ -62,13 +83,14 @@ pub(crate) fn template_of_values<'l>(
     Ok(Template {
         columns,
         has_rest: false,
+        has_pairs: false,
         blanks: None,
     })
 }
 
 fn mark_column<'l>(separator: char) -> Column<'l> {
     let mut column = Column::new(Content::Token(Kind::Mark(separator)));
-    for (mark, text) in [('\t', "\t"), (',', ","), (';', ";"), ('|', "|")] {
+    for (mark, text) in [('\t', "\t"), (',', ","), (';', ";"), ('|', "|"), (' ', " ")] {
         if mark == separator {
             column.add(text);
         }
