@@ -226,9 +226,11 @@ fn hint_of(text: &str) -> Option<Hint> {
     None
 }
 
+/// Returns whether a word can be a key. The last word of a sentence, which ends with a point, is none.
 fn is_key(word: &str) -> bool {
     word.len() <= MOST_KEY_CHARS
         && word.starts_with(|c: char| c.is_ascii_alphabetic())
+        && word.ends_with(|c: char| c.is_ascii_alphanumeric())
         && word.chars().all(|c| c.is_ascii_alphanumeric() || c == '_' || c == '-' || c == '.')
 }
 
