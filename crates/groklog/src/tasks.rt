@@ -16,12 +16,12 @@ use groklog_definitions::Library;
 use groklog_files::{ReadFiles, WholeFile};
 use groklog_input::FormedAnswers;
 use groklog_options::{
-    AnswerOptions, CountOptions, Options, PageOptions, ShownOptions, Task, layout_of,
+    AnswerOptions, CountOptions, GivenPattern, Options, PageOptions, ShownOptions, Task, layout_of,
 };
 use groklog_patterns::{Explainer, RunPattern, explain, titles_of};
 use groklog_reports::RunFault;
 use groklog_views::{LocatedFields, PageContent, Scope, page_html};
-use std::alloc::AllocError;
+use std::alloc::{AllocError, Global};
 use suggestion_reports::{Sample, report_of_sample};
 
 /// A run whose patterns are compiled, before it reads a line.
@@ -46,6 +46,18 @@ pub struct CompiledRun<'r, 'a, 'd> {
 struct Ended<'a> {
     searches: Searches<'a>,
     outcome: RunOutcome,
+}
+
+/// Returns the patterns as they stand in the words: one with a name as `NAME=PATTERN`.
+fn words_of(alloc: Global, patterns: &[GivenPattern<'_>]) -> Result<Vec<String>, AllocError> {
+    let mut words = Vec::new(alloc);
+    for GivenPattern { name, text } in patterns {
+        words.push(match name {
+            Some(name) => format!(in alloc; "{name}={text}")?,
+            None => String::from_str(alloc, text)?,
+        })?;
+    }
+    Ok(words)
 }
 
 impl<'r, 'a, 'd> CompiledRun<'r, 'a, 'd> {
@@ -167,11 +179,12 @@ impl<'r, 'a, 'd> CompiledRun<'r, 'a, 'd> {
         outcome: RunOutcome,
     ) -> Result<(), RunFault> {
         let alloc = self.rt().alloc();
-        let tags: Vec<&str> = self.named.iter().map(|named| named.tag).collect(alloc)?;
+        let words = words_of(alloc, &self.options.patterns)?;
+        let patterns: Vec<&str> = words.iter().map(|word| word.as_str()).collect(alloc)?;
         let html = page_html(
             alloc,
             &self.options.files,
-            &tags,
+            &patterns,
             &lines.searches,
             &lines.task.content,
         )?;
