@@ -2,7 +2,7 @@
 ghost use Rattle.std.specs.Prelude.{◌≡◌, ◌↔◌, IsTrue};
 ghost use Rattle.log_samples.specs.Logs.{looks_like_object, AreObjects};
 
-use crate::values::{separator_of, value_at, value_count};
+use crate::values::{name_of_value, separator_of, value_at, value_count};
 
 /// One line in this many may be no JSON object.
 const LINES_FOR_ONE_NO_OBJECT: usize = 10;
@@ -37,16 +37,47 @@ pub fn has_header(lines: &[&str], separator: char) -> bool {
     false
 }
 
+/// Returns whether each value of each line has a name.
+fn have_names(lines: &[&str], separator: char, columns: usize) -> bool {
+    for line in lines {
+        for index in 0..columns {
+            if value_at(line, separator, index).and_then(name_of_value).is_none() {
+                return false;
+            }
+        }
+    }
+    true
+}
+
+/// Where values have their names.
+#[derive(Clone, Copy, PartialEq, Eq)]
+pub enum ValueNames {
+    None,
+    FirstLine,
+    /// Each value stands after its name and `=`.
+    EachValue,
+}
+
+fn names_of_values(lines: &[&str], separator: char, columns: usize) -> ValueNames {
+    if have_names(lines, separator, columns) {
+        ValueNames::EachValue
+    } else if has_header(lines, separator) {
+        ValueNames::FirstLine
+    } else {
+        ValueNames::None
+    }
+}
+
 /// What lines are, if another program reads them better than patterns do.
 #[derive(Clone, Copy, PartialEq, Eq)]
 pub enum LogKind {
     Lines,
     Json,
-    /// Values between separators. The first line may have their names.
+    /// Values between separators.
     Table {
         separator: char,
         columns: usize,
-        has_header: bool,
+        names: ValueNames,
     },
 }
 
@@ -79,11 +110,14 @@ pub fn kind_of_log(lines: &[&str]) -> LogKind
         return LogKind::Json;
     }
     match (separator_of(lines), lines.first()) {
-        (Some(separator), Some(first)) if separator != '|' => LogKind::Table {
-            separator,
-            columns: value_count(first, separator),
-            has_header: has_header(lines, separator),
-        },
+        (Some(separator), Some(first)) if separator != '|' => {
+            let columns = value_count(first, separator);
+            LogKind::Table {
+                separator,
+                columns,
+                names: names_of_values(lines, separator, columns),
+            }
+        }
         _ => LogKind::Lines,
     }
 }

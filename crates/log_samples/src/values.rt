@@ -112,3 +112,12 @@ pub fn value_at(line: &str, separator: char, index: usize) -> Option<&str> {
     }
     values.take()
 }
+
+/// Returns the name of a value, which stands before its first `=`: letters, digits, `_`, `-` and `.`.
+pub fn name_of_value(value: &str) -> Option<&str> {
+    let (name, _) = value.split_once('=')?;
+    let is_name = name
+        .chars()
+        .all(|c| c.is_alphanumeric() || matches!(c, '_' | '-' | '.'));
+    (is_name && !name.is_empty()).then_some(name)
+}

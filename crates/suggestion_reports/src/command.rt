@@ -2,6 +2,7 @@
 
 use groklog_options::{EXPANSION, Options};
 use groklog_reports::visible;
+use log_samples::ValueNames;
 use std::alloc::{AllocError, Global};
 use std::fmt::Write;
 
@@ -142,13 +143,16 @@ pub(crate) fn push_other(
 }
 
 /// Returns the program that reads values between this separator.
-pub(crate) fn reader_of(separator: char, has_header: bool) -> &'static str {
-    match (separator, has_header) {
-        ('\t', true) => "mlr --itsv --ojson cat",
-        ('\t', false) => "mlr --itsv --implicit-tsv-header --ojson cat",
-        (';', true) => "mlr --icsv --ifs ';' --ojson cat",
-        (';', false) => "mlr --icsv --ifs ';' --implicit-csv-header --ojson cat",
-        (_, true) => "mlr --icsv --ojson cat",
-        (_, false) => "mlr --icsv --implicit-csv-header --ojson cat",
+pub(crate) fn reader_of(separator: char, names: ValueNames) -> &'static str {
+    match (separator, names) {
+        ('\t', ValueNames::FirstLine) => "mlr --itsv --ojson cat",
+        ('\t', ValueNames::EachValue) => "mlr --idkvp --ifs tab --ojson cat",
+        ('\t', ValueNames::None) => "mlr --itsv --implicit-tsv-header --ojson cat",
+        (';', ValueNames::FirstLine) => "mlr --icsv --ifs ';' --ojson cat",
+        (';', ValueNames::EachValue) => "mlr --idkvp --ifs ';' --ojson cat",
+        (';', ValueNames::None) => "mlr --icsv --ifs ';' --implicit-csv-header --ojson cat",
+        (_, ValueNames::FirstLine) => "mlr --icsv --ojson cat",
+        (_, ValueNames::EachValue) => "mlr --idkvp --ojson cat",
+        (_, ValueNames::None) => "mlr --icsv --implicit-csv-header --ojson cat",
     }
 }

@@ -1,15 +1,15 @@
 //! Writes what is suggested for the lines of a sample.
 
 use crate::command::{Reading, command_of, push_other, reader_of};
-use crate::sample::{Sample, events_of, have_returns, lines_of};
+use crate::sample::{Sample, SampledText, events_of, have_returns, lines_of};
 use common_definitions::line_formats;
 use groklog_definitions::Library;
 use groklog_options::Options;
 use groklog_patterns::own_wholes;
-use log_samples::{Fit, LogKind, compile_valid, count, finds_each, kind_of_log};
+use log_samples::{Fit, LogKind, ValueNames, compile_valid, count, finds_each, kind_of_log};
 use std::alloc::{AllocError, Global};
 use std::fmt::Write;
-use suggestions::{Advice, Format, Formats, OpenFormat, PatternShare, advise};
+use suggestions::{Advice, Format, Formats, OpenFormat, PatternShare, SampleLines, advise};
 
 /// How many patterns are shown at most.
 const MOST_SHOWN: usize = 5;
@@ -235,16 +235,16 @@ fn push_reader(
         LogKind::Table {
             separator,
             columns,
-            has_header,
+            names,
         } => {
-            let more = if has_header {
-                ", after their names in the first line, which mlr reads"
-            } else {
-                ", which mlr reads, too"
+            let more = match names {
+                ValueNames::FirstLine => ", after their names in the first line, which mlr reads",
+                ValueNames::EachValue => " after their names, which mlr reads, too",
+                ValueNames::None => ", which mlr reads, too",
             };
             writeln!(report, "each line has {columns} values{more}:")?;
-            push_other(alloc, report, options, reader_of(separator, has_header))?;
-            Ok(has_header)
+            push_other(alloc, report, options, reader_of(separator, names))?;
+            Ok(names == ValueNames::FirstLine)
         }
     }
 }
@@ -288,7 +288,7 @@ pub fn report_of_sample(
 ) -> Result<Suggestions, AllocError> {
     // With `--crlf`, the lines of the sample are read without one.
     let drops_return = !options.form.drops_return && have_returns(sample);
-    let lines = lines_of(sample, drops_return)?;
+    let SampledText { lines, firsts } = lines_of(sample, drops_return)?;
     let mut report = String::new(alloc);
     push_long(alloc, &mut report, sample.long)?;
     if lines.is_empty() {
@@ -306,7 +306,11 @@ pub fn report_of_sample(
         push_reader(alloc, &mut report, options, LogKind::Json)?;
         return Ok(Suggestions::without_pattern(report));
     }
-    let mut advice = advise(alloc, library, formats, &lines)?;
+    let read = SampleLines {
+        lines: &lines,
+        firsts: &firsts,
+    };
+    let mut advice = advise(alloc, library, formats, read)?;
     if let Some(start) = &advice.start
         && let Some(start) = compile_valid(library, start.as_str())?
     {

@@ -118,17 +118,33 @@ impl SampledLine {
     }
 }
 
-/// Returns the lines of a sample that patterns are suggested for: those that are looked at and aren't blank.
-pub(crate) fn lines_of(sample: &Sample, drops_return: bool) -> Result<Vec<&str>, AllocError> {
+/// The lines of a sample that patterns are suggested for: those that are looked at and aren't blank.
+#[derive(Drop)]
+pub(crate) struct SampledText<'s> {
+    pub lines: Vec<&'s str>,
+    /// Those of them that come after a blank line, and the first one of each file.
+    pub firsts: Vec<&'s str>,
+}
+
+/// Returns the lines of a sample that patterns are suggested for.
+pub(crate) fn lines_of(sample: &Sample, drops_return: bool) -> Result<SampledText<'_>, AllocError> {
     let mut lines = Vec::new(sample.alloc);
+    let mut firsts = Vec::new(sample.alloc);
+    let mut is_after_blank = false;
     for line in &sample.lines {
-        if let Some(text) = line.text(drops_return)
-            && !text.trim().is_empty()
+        let text = line.text(drops_return);
+        let is_blank = text.is_some_and(|text| text.trim().is_empty());
+        if let Some(text) = text
+            && !is_blank
         {
             lines.push(text)?;
+            if is_after_blank || line.begins_file {
+                firsts.push(text)?;
+            }
         }
+        is_after_blank = is_blank;
     }
-    Ok(lines)
+    Ok(SampledText { lines, firsts })
 }
 
 /// Returns the events that a run reads from a sample whose lines this pattern begins, each with its lines joined by

@@ -3,7 +3,7 @@
 use crate::header::{Header, header_of};
 use crate::heads::LineView;
 use crate::proposals::{Proposal, propose, propose_after, propose_each_after};
-use crate::starts::{events_of, start_of};
+use crate::starts::{SampleLines, events_of, start_after_blank, start_of};
 use crate::text::whole_pattern;
 use groklog_definitions::Library;
 use log_samples::{Candidate, Fit, Recognizer, compile_valid, count, finds_each, separator_of};
@@ -202,7 +202,7 @@ fn is_within(inner: &Candidate, outer: &Candidate) -> bool {
     pairs.all(|(inner, outer)| !*inner || *outer)
 }
 
-/// Returns whether so many of the lines are enough for a pattern that is used with others.
+/// Returns whether a pattern that fits `fit` of all lines may be used with others.
 fn are_enough(fit: usize, all: usize) -> bool {
     (fit > 1 || all == 1) && fit >= all / LINES_FOR_ONE_USE
 }
@@ -449,9 +449,16 @@ fn advise_on(
 fn events_in(
     alloc: Global,
     recognizer: &Recognizer<'_, '_>,
-    lines: &[&str],
+    sample: SampleLines<'_, '_>,
 ) -> Result<Option<(Vec<String>, String)>, AllocError> {
-    let Some(start) = start_of(alloc, recognizer, lines)? else {
+    let lines = sample.lines;
+    let after_blank = start_after_blank(alloc, sample)?;
+    let start = if after_blank.is_some() {
+        after_blank
+    } else {
+        start_of(alloc, recognizer, lines)?
+    };
+    let Some(start) = start else {
         return Ok(None);
     };
     let compiled = compile_valid(recognizer.library, start.as_str())?;
@@ -467,9 +474,9 @@ fn advise_on_events(
     alloc: Global,
     recognizer: &Recognizer<'_, '_>,
     formats: Formats<'_>,
-    lines: &[&str],
+    sample: SampleLines<'_, '_>,
 ) -> Result<Option<Advice>, AllocError> {
-    let Some((events, start)) = events_in(alloc, recognizer, lines)? else {
+    let Some((events, start)) = events_in(alloc, recognizer, sample)? else {
         return Ok(None);
     };
     let mut texts = Vec::new(alloc);
@@ -523,8 +530,9 @@ pub fn advise(
     alloc: Global,
     library: &Library<'_>,
     formats: Formats<'_>,
-    lines: &[&str],
+    sample: SampleLines<'_, '_>,
 ) -> Result<Advice, AllocError> {
+    let SampleLines { lines, firsts } = sample;
     let header = header_of(lines);
     let lines = without_header(lines);
     let recognizer = Recognizer::new(alloc, library)?;
@@ -532,9 +540,11 @@ pub fn advise(
     let left = cover(alloc, &candidates, lines)?.left.len();
     if !are_few(left, lines.len())
         && header.is_none()
-        && let Some(advice) = advise_on_events(alloc, &recognizer, formats, lines)?
     {
-        return Ok(advice);
+        let sample = SampleLines { lines, firsts };
+        if let Some(advice) = advise_on_events(alloc, &recognizer, formats, sample)? {
+            return Ok(advice);
+        }
     }
     let sample = LinesOf { lines, header };
     advise_on(alloc, &recognizer, formats, sample, candidates)

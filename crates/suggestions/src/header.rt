@@ -8,6 +8,12 @@ const LEAST_NAMES: usize = 4;
 /// One line in this many may have another number of values.
 const LINES_FOR_ONE_OTHER: usize = 20;
 
+/// How many lines of text there may be above the names.
+const MOST_ABOVE: usize = 3;
+
+/// What may stand between the names below some lines of text.
+const SEPARATORS: [char; 4] = ['\t', ',', ';', '|'];
+
 /// What comes before the names in the lines at the front that begin with `#`: of the Extended Log File Format, and of Zeek.
 const MARKS: [&str; 2] = ["#Fields:", "#fields"];
 
@@ -19,42 +25,70 @@ pub(crate) struct Header<'l> {
     pub separator: char,
 }
 
-/// Returns the names after `#Fields:`.
-fn marked_names<'l>(lines: &[&'l str]) -> Option<&'l str> {
+impl Header<'_> {
+    /// Returns whether almost all lines, but those that begin with `#`, have as many values as there are names.
+    fn is_for(self, lines: &[&str]) -> bool {
+        let count = value_count(self.names, self.separator);
+        let mut others = 0usize;
+        for line in lines {
+            if !line.starts_with('#') && value_count(line, self.separator) != count {
+                others = others.saturating_add(1);
+            }
+        }
+        count >= LEAST_NAMES && others <= lines.len() / LINES_FOR_ONE_OTHER
+    }
+}
+
+/// Returns the header with the names after `#Fields:`.
+fn marked_header<'l>(lines: &[&'l str]) -> Option<Header<'l>> {
     for line in lines {
         if !line.starts_with('#') {
             break;
         }
         for mark in MARKS {
             if let Some(names) = line.strip_prefix(mark) {
-                return Some(names.trim());
+                let names = names.trim();
+                let separator = if names.contains('\t') { '\t' } else { ' ' };
+                return Some(Header { names, separator });
             }
         }
     }
     None
 }
 
-/// Returns the names in the first line, if it is no more than names.
-fn first_names<'l>(lines: &[&'l str]) -> Option<&'l str> {
-    let first = lines.first()?;
-    has_header(lines, ' ').then_some(*first)
-}
-
-/// Returns the names that a log gives its columns: after `#Fields:` at the front, or in the first line, between
-/// blanks. Almost all lines have as many values as there are names.
-pub(crate) fn header_of<'l>(lines: &[&'l str]) -> Option<Header<'l>> {
-    let names = marked_names(lines).or(first_names(lines))?;
-    let separator = if names.contains('\t') { '\t' } else { ' ' };
-    let count = value_count(names, separator);
-    if count < LEAST_NAMES {
-        return None;
-    }
-    let mut others = 0usize;
-    for line in lines {
-        if !line.starts_with('#') && value_count(line, separator) != count {
-            others = others.saturating_add(1);
+/// Returns the header in the first of these lines, with one of these separators, if the line is no more than names.
+fn header_in<'l>(lines: &[&'l str], separators: &[char]) -> Option<Header<'l>> {
+    let names: &'l str = lines.first()?;
+    for separator in separators {
+        let header = Header {
+            names,
+            separator: *separator,
+        };
+        if has_header(lines, *separator) && header.is_for(lines) {
+            return Some(header);
         }
     }
-    let are_columns = others <= lines.len() / LINES_FOR_ONE_OTHER;
-    are_columns.then_some(Header { names, separator })
+    None
+}
+
+/// Returns the header below some lines of text.
+fn header_below_text<'l>(lines: &[&'l str]) -> Option<Header<'l>> {
+    for index in 1..=MOST_ABOVE {
+        let (above, below) = lines.split_at_checked(index)?;
+        if let Some(header) = header_in(below, &SEPARATORS)
+            && !above.iter().any(|line| header.is_for(&[*line]))
+        {
+            return Some(header);
+        }
+    }
+    None
+}
+
+/// Returns the names that a log gives its columns: after `#Fields:` at the front, in the first line, between blanks, or below some
+/// lines of text, between other separators. Almost all lines have as many values as there are names.
+pub(crate) fn header_of<'l>(lines: &[&'l str]) -> Option<Header<'l>> {
+    let marked = marked_header(lines).filter(|header| header.is_for(lines));
+    marked
+        .or(header_in(lines, &[' ']))
+        .or(header_below_text(lines))
 }

@@ -7,7 +7,8 @@
 //!
 //! ```text
 //! let lines = ["12 user bob", "7 user eve"];
-//! let advice = advise(alloc, &library, formats, &lines)?;
+//! let sample = SampleLines { lines: &lines, firsts: &["12 user bob"] };
+//! let advice = advise(alloc, &library, formats, sample)?;
 //! // advice.together[0].text is ^%{INT:number:int} user %{WORD:word}$, for 2 lines
 //! ```
 //!
@@ -27,3 +28,4 @@ mod text;
 mod values;
 
 pub use advice::{Advice, Format, Formats, OpenFormat, PatternShare, Suggestion, advise};
+pub use starts::SampleLines;
