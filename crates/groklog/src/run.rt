@@ -11,9 +11,11 @@ use groklog_definitions::{
     Library, PatternText, list_common_definitions, patterns_of, start_pattern,
 };
 use groklog_files::{ReadFiles, WholeFile, check_logs, is_same_file, read_definition_files};
-use groklog_options::{Options, Task, check_keys, chosen_fields};
+use groklog_keys::{check_keys, chosen_fields};
+use groklog_options::{GivenDefinitions, MadeFor, Options, Task};
 use groklog_patterns::{Adapted, RunPattern, adapt_all, adapt_own, compile_all, definition_lines};
 use groklog_reports::{Report, RunFault, TextFile};
+use oniguruma_syntax::Wish;
 use std::alloc::{AllocError, Global};
 use std::fs::File;
 use std::rt::Files;
@@ -22,6 +24,17 @@ use std::rt::Files;
 pub const PAGE: &str = "--html";
 
 const DEFINITIONS: &str = "--write-definitions";
+
+/// Returns how definitions and patterns are rewritten, or `None` if they stay as they are.
+fn wish_of(given: &GivenDefinitions<'_>) -> Option<Wish> {
+    match given.made_for {
+        MadeFor::Groklog => None,
+        MadeFor::Logstash { is_loose } => Some(Wish {
+            is_whole: false,
+            is_loose,
+        }),
+    }
+}
 
 /// Returns the patterns of the run as they are compiled, that of `--start` last. If they were made for Logstash, they are rewritten, with
 /// the definitions that they use, and notes say what was changed.
@@ -40,7 +53,7 @@ fn texts_of(
     if let Some(events) = options.events {
         given.push(start_pattern(alloc, events.start)?)?;
     }
-    let Some(wish) = options.definitions.wish else {
+    let Some(wish) = wish_of(&options.definitions) else {
         return Ok(given);
     };
     let Adapted { texts, notes } = adapt_all(alloc, library, &given, wish)?;
@@ -55,7 +68,7 @@ fn adapt_others(
     library: &mut Library<'_>,
     options: &Options<'_>,
 ) -> Result<(), AllocError> {
-    let Some(wish) = options.definitions.wish else {
+    let Some(wish) = wish_of(&options.definitions) else {
         return Ok(());
     };
     let is_written = options.definitions.written.is_some();
@@ -193,7 +206,7 @@ fn run_over(
     let Some(name) = given.written else {
         return run_task(rt, options, library, texts, &read);
     };
-    let lines = definition_lines(rt.alloc(), files, &given.words, given.wish)?;
+    let lines = definition_lines(rt.alloc(), files, &given.words, wish_of(given))?;
     if lines.is_empty() {
         return Err(nothing_to_write(rt.alloc())?);
     }

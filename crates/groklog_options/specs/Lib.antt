@@ -1,11 +1,7 @@
 pub mod OptionFaults
-pub mod AllKeys
-pub mod Keys
 pub mod Additions
 pub mod Tasks
 -- THE WORDS FOR CALLERS: each definition that a contract of a public call uses.
 pub use Rattle.groklog_options.specs.OptionFaults.{IsOptionFault}
-pub use Rattle.groklog_options.specs.Additions.{count_before}
+pub use Rattle.groklog_options.specs.Additions.{count_before, option_of}
 pub use Rattle.groklog_options.specs.Tasks.{fields_of, has_patterns, has_records, plan_of}
-pub use Rattle.groklog_options.specs.AllKeys.{all_keys, texts_of}
-pub use Rattle.groklog_options.specs.Keys.{added_by_task, has_key, some_has_key, has_taken_key}

@@ -20,7 +20,6 @@ use clap::{ArgMatches, Error};
 use groklog_answers::{Lines, OutputFormat};
 use groklog_input::LineForm;
 use groklog_reports::{Report, RunFault, Unit};
-use oniguruma_syntax::Wish;
 use std::alloc::{AllocError, Global};
 use std::collections::BTreeMap;
 use std::num::NonZeroU64;
@@ -58,6 +57,14 @@ impl<'a> GivenPattern<'a> {
     }
 }
 
+/// What the definitions and patterns of a run were made for.
+#[derive(Clone, Copy, PartialEq, Eq)]
+pub enum MadeFor {
+    Groklog,
+    /// They are rewritten. A lookaround that can't be is dropped if `is_loose`.
+    Logstash { is_loose: bool },
+}
+
 /// The definitions of a run.
 #[derive(Drop)]
 pub struct GivenDefinitions<'a> {
@@ -69,9 +76,7 @@ pub struct GivenDefinitions<'a> {
     pub has_common: bool,
     /// How many bytes the expanded text of a pattern has at most.
     pub most_bytes: usize,
-    /// How definitions and patterns are rewritten that were made for Logstash, or `None` if they stay
-    /// as they are.
-    pub wish: Option<Wish>,
+    pub made_for: MadeFor,
     /// The file that the user's definitions are written to, once they are rewritten.
     pub written: Option<&'a str>,
 }
@@ -349,20 +354,18 @@ fn definitions_of<'a>(
     alloc: Global,
     matches: &ArgMatches<'a>,
 ) -> Result<GivenDefinitions<'a>, AllocError> {
-    let wish = if matches.get_flag("from-logstash") {
-        Some(Wish {
-            is_whole: false,
-            is_loose: matches.get_flag("loose"),
-        })
+    let made_for = if matches.get_flag("from-logstash") {
+        let is_loose = matches.get_flag("loose");
+        MadeFor::Logstash { is_loose }
     } else {
-        None
+        MadeFor::Groklog
     };
     Ok(GivenDefinitions {
         files: values_of(alloc, matches, "definitions")?,
         words: values_of(alloc, matches, "define")?,
         has_common: !matches.get_flag("no-common"),
         most_bytes: matches.get_one("max-expansion").unwrap_or(EXPANSION),
-        wish,
+        made_for,
         written: matches.get_str("write-definitions"),
     })
 }

@@ -1,6 +1,6 @@
 //! Writes the command that is suggested, as it is written in a shell.
 
-use groklog_options::{EXPANSION, Options};
+use groklog_options::{EXPANSION, MadeFor, Options};
 use groklog_reports::visible;
 use log_samples::ValueNames;
 use std::alloc::{AllocError, Global};
@@ -96,17 +96,14 @@ pub(crate) fn command_of(
     reading: Reading<'_>,
     patterns: &[&str],
 ) -> Result<String, AllocError> {
-    let is_loose = match options.definitions.wish {
-        Some(wish) => wish.is_loose,
-        None => false,
-    };
+    let made_for = options.definitions.made_for;
     let mut command = String::from_str(alloc, "groklog")?;
     let flags = [
         (reading.drops_return, "--crlf"),
         (options.form.is_lossy, "--lossy"),
         (!options.definitions.has_common, "--no-common"),
-        (options.definitions.wish.is_some(), "--from-logstash"),
-        (is_loose, "--loose"),
+        (made_for != MadeFor::Groklog, "--from-logstash"),
+        (made_for == MadeFor::Logstash { is_loose: true }, "--loose"),
     ];
     for (is_given, flag) in flags {
         if is_given {

@@ -1,13 +1,13 @@
 //! The keys of patterns that are written: those of `--fields`, or in records all of them.
 ghost use Rattle.std.specs.Prelude.{◌≡◌, IfErr, IfOk, List, ℕ, None, Some, false, option_map, true};
-ghost use Rattle.groklog_options.specs.AllKeys.{all_keys, texts_of};
+ghost use Rattle.groklog_keys.specs.AllKeys.{all_keys, texts_of};
 ghost use Rattle.groklog_options.specs.OptionFaults.{IsOptionFault};
 ghost use Rattle.groklog_options.specs.Tasks.{fields_of, has_records};
 ghost use denote.Ref.{Bor};
 
 use crate::keys::{check_list, key_set};
-use crate::task::Task;
 use groklog_answers::NamedPattern;
+use groklog_options::Task;
 use groklog_reports::{Report, RunFault};
 use std::alloc::{AllocError, Global};
 

@@ -1,13 +1,11 @@
 //! Checks the keys that options such as `--tag` and `--count` name.
 ghost use Rattle.std.specs.Prelude.{◌≡◌, IfOk, IfErr, OnOk, false};
-ghost use Rattle.groklog_options.specs.AllKeys.{all_keys, own_keys, set_texts, with_key, with_keys};
-ghost use Rattle.groklog_options.specs.Keys.{added_by_task, has_key, has_taken_key, some_has_key};
+ghost use Rattle.groklog_keys.specs.AllKeys.{all_keys, own_keys, set_texts, with_key, with_keys};
+ghost use Rattle.groklog_keys.specs.Keys.{added_by_task, has_key, has_taken_key, some_has_key};
 ghost use Rattle.groklog_options.specs.OptionFaults.{IsOptionFault};
 
-use crate::additions::option_of;
-use crate::nearest::nearest;
-use crate::task::{AnswerOptions, Task};
 use groklog_answers::{Added, NamedPattern};
+use groklog_options::{AnswerOptions, Task, nearest, option_of};
 use groklog_reports::{Report, RunFault};
 use std::alloc::{AllocError, Global};
 use std::collections::BTreeSet;
