@@ -15,7 +15,7 @@ use groklog_keys::{check_keys, chosen_fields};
 use groklog_options::{GivenDefinitions, MadeFor, Options, Task};
 use groklog_patterns::{Adapted, RunPattern, adapt_all, adapt_own, compile_all, definition_lines};
 use groklog_reports::{Report, RunFault, TextFile};
-use oniguruma_syntax::Wish;
+use oniguruma_syntax::RewriteOptions;
 use std::alloc::{AllocError, Global};
 use std::fs::File;
 use std::rt::Files;
@@ -26,10 +26,10 @@ pub const PAGE: &str = "--html";
 const DEFINITIONS: &str = "--write-definitions";
 
 /// Returns how definitions and patterns are rewritten, or `None` if they stay as they are.
-fn wish_of(given: &GivenDefinitions<'_>) -> Option<Wish> {
+fn rewrite_options_of(given: &GivenDefinitions<'_>) -> Option<RewriteOptions> {
     match given.made_for {
         MadeFor::Groklog => None,
-        MadeFor::Logstash { is_loose } => Some(Wish {
+        MadeFor::Logstash { is_loose } => Some(RewriteOptions {
             is_whole: false,
             is_loose,
         }),
@@ -53,10 +53,10 @@ fn texts_of(
     if let Some(events) = options.events {
         given.push(start_pattern(alloc, events.start)?)?;
     }
-    let Some(wish) = wish_of(&options.definitions) else {
+    let Some(rewrite_options) = rewrite_options_of(&options.definitions) else {
         return Ok(given);
     };
-    let Adapted { texts, notes } = adapt_all(alloc, library, &given, wish)?;
+    let Adapted { texts, notes } = adapt_all(alloc, library, &given, rewrite_options)?;
     show_notes(rt, &notes)?;
     Ok(texts)
 }
@@ -68,12 +68,12 @@ fn adapt_others(
     library: &mut Library<'_>,
     options: &Options<'_>,
 ) -> Result<(), AllocError> {
-    let Some(wish) = wish_of(&options.definitions) else {
+    let Some(rewrite_options) = rewrite_options_of(&options.definitions) else {
         return Ok(());
     };
     let is_written = options.definitions.written.is_some();
     if is_written || matches!(options.task, Task::Suggestions(_)) {
-        let notes = adapt_own(rt.alloc(), library, wish)?;
+        let notes = adapt_own(rt.alloc(), library, rewrite_options)?;
         if is_written {
             show_notes(rt, &notes)?;
         }
@@ -206,7 +206,7 @@ fn run_over(
     let Some(name) = given.written else {
         return run_task(rt, options, library, texts, &read);
     };
-    let lines = definition_lines(rt.alloc(), files, &given.words, wish_of(given))?;
+    let lines = definition_lines(rt.alloc(), files, &given.words, rewrite_options_of(given))?;
     if lines.is_empty() {
         return Err(nothing_to_write(rt.alloc())?);
     }

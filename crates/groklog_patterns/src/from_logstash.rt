@@ -4,7 +4,7 @@ use grok::Measure;
 use grok::parser::uses_in;
 use groklog_definitions::{DefinitionSource, Library, Origin, PatternText, common_definition};
 use groklog_reports::{Report, RunFault, add_excerpt};
-use oniguruma_syntax::{Outcome, Reason, RefusedPart, Rewritten, Wish, rewrite};
+use oniguruma_syntax::{Outcome, Reason, RefusedPart, Rewritten, RewriteOptions, rewrite};
 use std::alloc::{AllocError, Global};
 use std::collections::BTreeSet;
 
@@ -105,9 +105,9 @@ fn adapt(
     notes: &mut Vec<String>,
     text: &str,
     location: &str,
-    wish: Wish,
+    rewrite_options: RewriteOptions,
 ) -> Result<Result<String, RefusedPart>, AllocError> {
-    match rewrite(alloc, text, wish)? {
+    match rewrite(alloc, text, rewrite_options)? {
         Outcome::Refused(refused) => Ok(Err(refused)),
         Outcome::Kept => Ok(Ok(String::from_str(alloc, text)?)),
         Outcome::Rewritten(Rewritten { text, changes }) => {
@@ -131,7 +131,7 @@ fn adapt_definition<'a>(
     library: &mut Library<'a>,
     notes: &mut Vec<String>,
     source: DefinitionSource<'a>,
-    wish: Wish,
+    rewrite_options: RewriteOptions,
 ) -> Result<(), RunFault> {
     let Some(text) = library.grok.definition(source.name) else {
         return Ok(());
@@ -139,7 +139,7 @@ fn adapt_definition<'a>(
     let text = String::from_str(alloc, text)?;
     let location = location_of(alloc, source)?;
     let (text, location) = (text.as_str(), location.as_str());
-    match adapt(alloc, notes, text, location, wish)? {
+    match adapt(alloc, notes, text, location, rewrite_options)? {
         Ok(rewritten) => Ok(library.store(source, rewritten.as_str())?),
         Err(refused) => {
             let advice = advice_for(alloc, library, source, refused.reason)?;
@@ -153,12 +153,12 @@ fn adapt_pattern(
     alloc: Global,
     notes: &mut Vec<String>,
     pattern: &PatternText,
-    wish: Wish,
+    rewrite_options: RewriteOptions,
 ) -> Result<PatternText, RunFault> {
     let (text, words) = (pattern.text.as_str(), pattern.words.as_str());
-    let whole = Wish {
+    let whole = RewriteOptions {
         is_whole: true,
-        ..wish
+        ..rewrite_options
     };
     match adapt(alloc, notes, text, words, whole)? {
         Ok(text) => {
@@ -185,15 +185,15 @@ pub fn adapt_all(
     alloc: Global,
     library: &mut Library<'_>,
     given: &[PatternText],
-    wish: Wish,
+    rewrite_options: RewriteOptions,
 ) -> Result<Adapted, RunFault> {
     let mut notes = Vec::new(alloc);
     for source in &used_sources(alloc, library, given)? {
-        adapt_definition(alloc, library, &mut notes, *source, wish)?;
+        adapt_definition(alloc, library, &mut notes, *source, rewrite_options)?;
     }
     let mut texts = Vec::new(alloc);
     for pattern in given {
-        texts.push(adapt_pattern(alloc, &mut notes, pattern, wish)?)?;
+        texts.push(adapt_pattern(alloc, &mut notes, pattern, rewrite_options)?)?;
     }
     Ok(Adapted { texts, notes })
 }
@@ -222,7 +222,7 @@ pub fn own_wholes<'a>(alloc: Global, library: &Library<'a>) -> Result<Vec<&'a st
 pub fn adapt_own(
     alloc: Global,
     library: &mut Library<'_>,
-    wish: Wish,
+    rewrite_options: RewriteOptions,
 ) -> Result<Vec<String>, AllocError> {
     let mut notes = Vec::new(alloc);
     for source in &library.own_sources(alloc)? {
@@ -230,7 +230,7 @@ pub fn adapt_own(
             continue;
         };
         let location = location_of(alloc, *source)?;
-        if let Ok(text) = adapt(alloc, &mut notes, text, location.as_str(), wish)? {
+        if let Ok(text) = adapt(alloc, &mut notes, text, location.as_str(), rewrite_options)? {
             library.store(*source, text.as_str())?;
         }
     }

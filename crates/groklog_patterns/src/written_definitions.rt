@@ -2,7 +2,7 @@
 
 use groklog_definitions::{read_definition, skip_blanks, without_mark};
 use groklog_reports::{Report, RunFault, TextFile};
-use oniguruma_syntax::{Outcome, Rewritten, Wish, rewrite};
+use oniguruma_syntax::{Outcome, Rewritten, RewriteOptions, rewrite};
 use std::alloc::{AllocError, Global};
 
 /// The text of a file of definitions.
@@ -11,7 +11,7 @@ struct WrittenLines {
     alloc: Global,
     text: String,
     /// How definitions are rewritten that were made for Logstash, or `None` if they stay as they are.
-    wish: Option<Wish>,
+    rewrite_options: Option<RewriteOptions>,
 }
 
 impl WrittenLines {
@@ -50,11 +50,11 @@ impl WrittenLines {
     /// Adds a line. If it is a definition, that is rewritten if need be. If it is a comment or empty, or if
     /// its definition is kept, it stays as it is.
     fn push_line(&mut self, line: &str, end: &str) -> Result<(), AllocError> {
-        let (Some(wish), Some((name, text))) = (self.wish, read_definition(skip_blanks(line)))
+        let (Some(rewrite_options), Some((name, text))) = (self.rewrite_options, read_definition(skip_blanks(line)))
         else {
             return self.push(line, end);
         };
-        match rewrite(self.alloc, text, wish)? {
+        match rewrite(self.alloc, text, rewrite_options)? {
             Outcome::Refused(refused) => {
                 let why = format!(in self.alloc; "{}", refused.reason)?;
                 self.push_refused(line, end, why.as_str())
@@ -93,7 +93,7 @@ fn several_lines(alloc: Global, word: &str) -> Result<RunFault, AllocError> {
     Ok(RunFault::Pattern(Report::new(alloc, what.as_str(), advice)?))
 }
 
-/// Returns the text of a file that defines what these files and words after `-D` do, in this order. With `wish`,
+/// Returns the text of a file that defines what these files and words after `-D` do, in this order. With `rewrite_options`,
 /// the definitions are rewritten. Comments stand above each that can't be, and above each after whose changes lines
 /// may match in another way. All other lines stay as they are.
 ///
@@ -104,10 +104,10 @@ pub fn definition_lines(
     alloc: Global,
     files: &[TextFile],
     words: &[&str],
-    wish: Option<Wish>,
+    rewrite_options: Option<RewriteOptions>,
 ) -> Result<String, RunFault> {
     let text = String::new(alloc);
-    let mut lines = WrittenLines { alloc, text, wish };
+    let mut lines = WrittenLines { alloc, text, rewrite_options };
     for file in files {
         lines.push_file(file.text.as_str())?;
     }

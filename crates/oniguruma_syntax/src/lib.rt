@@ -5,7 +5,7 @@
 //! lost. [`rewrite`] keeps a text, writes another one that means the same, or refuses a part of it:
 //!
 //! ```text
-//! match rewrite(alloc, "(?>%{INT:n})\\h", wish)? {
+//! match rewrite(alloc, "(?>%{INT:n})\\h", rewrite_options)? {
 //!     Outcome::Kept => ..
 //!     Outcome::Rewritten(Rewritten { text, changes }) => .. // (?:%{INT:n})[0-9A-Fa-f]
 //!     Outcome::Refused(RefusedPart { reason, range }) => ..
@@ -39,4 +39,4 @@ pub use reader::read;
 pub use refusal::{Reason, RefusedPart};
 pub use rewriting::{Outcome, rewrite};
 pub use token::{Form, Greed, Mark, Node, Opening, Placeholder, Token};
-pub use writer::{Rewritten, Wish};
+pub use writer::{Rewritten, RewriteOptions};

@@ -6,7 +6,7 @@ use crate::reader::read;
 use crate::refusal::{RefusedPart, Stop};
 use crate::structure::find_structure;
 use crate::token::{Node, Token};
-use crate::writer::{Rewritten, Source, Wish, write};
+use crate::writer::{Rewritten, Source, RewriteOptions, write};
 use std::alloc::{AllocError, Global};
 use std::ops::Range;
 
@@ -27,7 +27,7 @@ fn rewrite_text(
     text: &str,
     nodes: &[Node<'_>],
     inlines: &[Rewritten],
-    wish: Wish,
+    rewrite_options: RewriteOptions,
 ) -> Result<Rewritten, Stop> {
     let structure = find_structure(alloc, nodes)?;
     let source = Source {
@@ -36,7 +36,7 @@ fn rewrite_text(
         structure: &structure,
         inlines,
     };
-    write(alloc, source, wish)
+    write(alloc, source, rewrite_options)
 }
 
 /// Returns the byte range of an inline definition in the text of its placeholder's token.
@@ -59,20 +59,20 @@ fn moved(stop: Stop, start: usize) -> Stop {
 }
 
 /// Rewrites an inline definition, which has no placeholders.
-fn rewrite_inline(alloc: Global, definition: &str, wish: Wish) -> Result<Rewritten, Stop> {
+fn rewrite_inline(alloc: Global, definition: &str, rewrite_options: RewriteOptions) -> Result<Rewritten, Stop> {
     let nodes = read(alloc, definition)?;
     let is_whole = false;
-    rewrite_text(alloc, definition, &nodes, &[], Wish { is_whole, ..wish })
+    rewrite_text(alloc, definition, &nodes, &[], RewriteOptions { is_whole, ..rewrite_options })
 }
 
-fn rewrite_inlines(alloc: Global, nodes: &[Node<'_>], wish: Wish) -> Result<Vec<Rewritten>, Stop> {
+fn rewrite_inlines(alloc: Global, nodes: &[Node<'_>], rewrite_options: RewriteOptions) -> Result<Vec<Rewritten>, Stop> {
     let mut inlines = Vec::new(alloc);
     for node in nodes {
         if let Token::Placeholder(placeholder) = node.token
             && !placeholder.definition.is_empty()
         {
             let range = inline_range(node, placeholder.definition);
-            match rewrite_inline(alloc, placeholder.definition, wish) {
+            match rewrite_inline(alloc, placeholder.definition, rewrite_options) {
                 Ok(inline) => inlines.push(inline)?,
                 Err(stop) => return Err(moved(stop, range.start)),
             }
@@ -82,7 +82,7 @@ fn rewrite_inlines(alloc: Global, nodes: &[Node<'_>], wish: Wish) -> Result<Vec<
 }
 
 /// Rewrites a text, or returns `None` if it has a malformed placeholder.
-fn rewrite_all(alloc: Global, text: &str, wish: Wish) -> Result<Option<Rewritten>, Stop> {
+fn rewrite_all(alloc: Global, text: &str, rewrite_options: RewriteOptions) -> Result<Option<Rewritten>, Stop> {
     let nodes = read(alloc, text)?;
     if nodes
         .iter()
@@ -90,8 +90,8 @@ fn rewrite_all(alloc: Global, text: &str, wish: Wish) -> Result<Option<Rewritten
     {
         return Ok(None);
     }
-    let inlines = rewrite_inlines(alloc, &nodes, wish)?;
-    Ok(Some(rewrite_text(alloc, text, &nodes, &inlines, wish)?))
+    let inlines = rewrite_inlines(alloc, &nodes, rewrite_options)?;
+    Ok(Some(rewrite_text(alloc, text, &nodes, &inlines, rewrite_options)?))
 }
 
 /// Returns this byte range of a text, or the empty range at its end if the given range doesn't begin and end
@@ -113,10 +113,10 @@ fn range_in(text: &str, range: Range<usize>) -> Range<usize>
 /// a line feed, except for the changes that are returned with it. A text of which nothing has to be written
 /// in another form is kept, and so is one with a malformed placeholder: whoever reads its placeholders
 /// reports that.
-pub fn rewrite(alloc: Global, text: &str, wish: Wish) -> Result<Outcome, AllocError>
+pub fn rewrite(alloc: Global, text: &str, rewrite_options: RewriteOptions) -> Result<Outcome, AllocError>
     ensures { IfOk result (IsOutcomeOf text.now) }
 {
-    match rewrite_all(alloc, text, wish) {
+    match rewrite_all(alloc, text, rewrite_options) {
         Ok(Some(rewritten)) => Ok(if rewritten.text.as_str() == text {
             Outcome::Kept
         } else {

@@ -16,7 +16,7 @@ use std::ops::Range;
 
 /// What a text is, and what may be done with it.
 #[derive(Clone, Copy)]
-pub struct Wish {
+pub struct RewriteOptions {
     /// Whether the text is a whole pattern, so that nothing comes before or after it.
     pub is_whole: bool,
     /// Whether a lookaround that has no form for `regex` is dropped.
@@ -58,7 +58,7 @@ pub(crate) struct Source<'w, 'a> {
 struct Writer<'w, 'a> {
     alloc: Global,
     source: Source<'w, 'a>,
-    wish: Wish,
+    rewrite_options: RewriteOptions,
     /// The indexes of the tokens without the blanks before and after all others.
     body: Range<usize>,
     /// Whether a named group can become a placeholder: no placeholder of the text has the name that
@@ -522,14 +522,14 @@ impl<'a> Writer<'_, 'a> {
         Ok(true)
     }
 
-    /// Drops a lookaround, if that is wished.
+    /// Drops a lookaround, if that is allowed.
     fn drop_look(
         &mut self,
         node: &Node<'_>,
         whole: &Range<usize>,
         is_repeated: bool,
     ) -> Result<(), Stop> {
-        if !self.wish.is_loose {
+        if !self.rewrite_options.is_loose {
             return Err(Stop::at(Reason::Lookaround, node));
         }
         if is_repeated {
@@ -553,7 +553,7 @@ impl<'a> Writer<'_, 'a> {
         self.next = after;
         if !is_repeated {
             let is_outside = self.groups.len() == 1 && !self.source.structure.has_alternatives;
-            if self.wish.is_whole && is_outside && self.write_at_edge(opening, &inside)? {
+            if self.rewrite_options.is_whole && is_outside && self.write_at_edge(opening, &inside)? {
                 return Ok(());
             }
             if self.write_word_edge(opening, &whole, &inside)? {
@@ -568,7 +568,7 @@ impl<'a> Writer<'_, 'a> {
     /// plain one.
     fn is_at_end(&self, index: usize) -> bool {
         let rest = index.saturating_add(1)..self.source.nodes.len();
-        self.wish.is_whole
+        self.rewrite_options.is_whole
             && part(self.source.nodes, &rest).iter().all(|node| node.is_blank()
                 || matches!(node.token, Token::Symbol(')')))
     }
@@ -681,11 +681,11 @@ fn without_blanks(nodes: &[Node<'_>]) -> Range<usize> {
 /// # Errors
 ///
 /// Returns an error if a part of it has no form for `regex`, or if an allocation fails.
-pub(crate) fn write(alloc: Global, source: Source<'_, '_>, wish: Wish) -> Result<Rewritten, Stop> {
+pub(crate) fn write(alloc: Global, source: Source<'_, '_>, rewrite_options: RewriteOptions) -> Result<Rewritten, Stop> {
     let mut writer = Writer {
         alloc,
         source,
-        wish,
+        rewrite_options,
         body: without_blanks(source.nodes),
         can_name: !source.text.contains(GROUP_NAME),
         text: String::new(alloc),
