@@ -1,7 +1,7 @@
 -- What can be done about a refusal.
 use Rattle.std.specs.Prelude.{ℕ, List, codes}
 use Rattle.oniguruma_syntax.specs.declared.refusal.Reason.{Reason}
-use Rattle.oniguruma_syntax.specs.declared.refusal.Reason.TheVariants.{Lookaround, RepeatedLookaround, Backreference, Call, Condition, Absent, UnknownGroup, UnknownFlags, Unclosed, Unopened, NothingToRepeat, Counts, Escape, Code, Property, Range, EmptySide, PlaceholderInClass, PlaceholderInExtended, NamedGroup, InlineDefinition}
+use Rattle.oniguruma_syntax.specs.declared.refusal.Reason.TheVariants.{Lookaround, Backreference, Call, Condition, Absent, UnknownGroup, UnknownFlags, Unclosed, Unopened, NothingToRepeat, Counts, Escape, Code, Property, Range, EmptySide, PlaceholderInClass, PlaceholderInExtended, NamedGroup, InlineDefinition}
 
 -- The advice for a form that has no advice of its own.
 abbrev pub write_otherwise : List ℕ
@@ -14,7 +14,6 @@ close_each = codes "close each group and each class"
 -- The advice for each reason.
 abbrev pub advice_for : Reason → List ℕ
 advice_for Lookaround = codes "write it without the lookaround, or use --loose, which drops it"
-advice_for RepeatedLookaround = write_otherwise
 advice_for Backreference = write_otherwise
 advice_for Call = write_otherwise
 advice_for Condition = write_otherwise

@@ -12,8 +12,6 @@ use std::ops::Range;
 pub enum Reason {
     /// A lookaround that has no form for `regex`.
     Lookaround,
-    /// A lookaround with a quantifier.
-    RepeatedLookaround,
     /// A reference to a group.
     Backreference,
     /// A call of a group.
@@ -80,7 +78,6 @@ impl fmt::Display for Reason {
     fn fmt<W: fmt::Write>(&self, f: &mut fmt::Formatter<W>) -> fmt::Result {
         f.write_str(match self {
             Reason::Lookaround => "a lookaround that has no form for the engine",
-            Reason::RepeatedLookaround => "a lookaround with a quantifier",
             Reason::Backreference => "a reference to a group",
             Reason::Call => "a call of a group",
             Reason::Condition => "a condition",

@@ -6,6 +6,7 @@ use common_definitions::line_formats;
 use groklog_definitions::Library;
 use groklog_options::Options;
 use groklog_patterns::own_wholes;
+use groklog_reports::Unit;
 use log_samples::{Fit, LogKind, ValueNames, compile_valid, count, finds_each, kind_of_log};
 use std::alloc::{AllocError, Global};
 use std::fmt::Write;
@@ -38,11 +39,10 @@ fn push_alone(
     reading: Reading<'_>,
     advice: &Advice,
 ) -> Result<(), AllocError> {
-    let unit = unit_of(reading);
     let alone = advice.alone.as_slice();
     if !alone.is_empty() {
-        let heading = format!(in alloc; "{unit:>6}  fields\n")?;
-        report.push_str(heading.trim_start())?;
+        let word = unit_of(reading).word(0);
+        writeln!(report, "{word}  fields")?;
     }
     for found in alone.iter().take(MOST_SHOWN) {
         let command = command_of(alloc, options, reading, &[found.text.as_str()])?;
@@ -53,10 +53,10 @@ fn push_alone(
 }
 
 /// Returns what is counted.
-fn unit_of(reading: Reading<'_>) -> &'static str {
+fn unit_of(reading: Reading<'_>) -> Unit {
     match reading.start {
-        Some(_) => "events",
-        None => "lines",
+        Some(_) => Unit::Event,
+        None => Unit::Line,
     }
 }
 
@@ -83,7 +83,7 @@ fn push_together(
 ) -> Result<(), AllocError> {
     let patterns = advice.together.as_slice();
     let all = advice.lines;
-    let unit = unit_of(reading);
+    let word = unit_of(reading).word(all as u64);
     let mut texts = Vec::new(alloc);
     let mut matched = 0usize;
     for pattern in patterns {
@@ -95,7 +95,7 @@ fn push_together(
         [_] => "this pattern matches",
         _ => "these patterns match",
     };
-    write!(report, "{words} {matched} of {all} {unit}")?;
+    write!(report, "{words} {matched} of {all} {word}")?;
     push_shares(report, patterns)?;
     report.push_str(":\n")?;
     let command = command_of(alloc, options, reading, &texts)?;
@@ -129,7 +129,7 @@ fn push_advice(
         start,
     };
     let all = advice.lines;
-    let unit = unit_of(reading);
+    let word = unit_of(reading).word(all as u64);
     if reading.start.is_some() {
         writeln!(report, "the lines are parts of {all} events")?;
     }
@@ -138,10 +138,12 @@ fn push_advice(
     if is_enough {
         return Ok(());
     }
-    if most <= all / 2 {
+    if all == 1 && most == 0 {
+        writeln!(report, "no definition matches the {word}")?;
+    } else if most <= all / 2 {
         writeln!(
             report,
-            "no definition matches more than half of the {all} {unit}"
+            "no definition matches more than half of the {all} {word}"
         )?;
     }
     push_together(alloc, report, options, reading, advice)
