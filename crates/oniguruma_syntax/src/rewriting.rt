@@ -6,7 +6,7 @@ use crate::reader::read;
 use crate::refusal::{RefusedPart, Stop};
 use crate::structure::find_structure;
 use crate::token::{Node, Token};
-use crate::writer::{Rewritten, Source, RewriteOptions, write};
+use crate::writer::{Inline, RewriteOptions, Rewritten, Source, write};
 use std::alloc::{AllocError, Global};
 use std::ops::Range;
 
@@ -26,7 +26,7 @@ fn rewrite_text(
     alloc: Global,
     text: &str,
     nodes: &[Node<'_>],
-    inlines: &[Rewritten],
+    inlines: &[Inline],
     rewrite_options: RewriteOptions,
 ) -> Result<Rewritten, Stop> {
     let structure = find_structure(alloc, nodes)?;
@@ -65,15 +65,15 @@ fn rewrite_inline(alloc: Global, definition: &str, rewrite_options: RewriteOptio
     rewrite_text(alloc, definition, &nodes, &[], RewriteOptions { is_whole, ..rewrite_options })
 }
 
-fn rewrite_inlines(alloc: Global, nodes: &[Node<'_>], rewrite_options: RewriteOptions) -> Result<Vec<Rewritten>, Stop> {
+fn rewrite_inlines(alloc: Global, nodes: &[Node<'_>], rewrite_options: RewriteOptions) -> Result<Vec<Inline>, Stop> {
     let mut inlines = Vec::new(alloc);
-    for node in nodes {
+    for (index, node) in nodes.iter().enumerate() {
         if let Token::Placeholder(placeholder) = node.token
             && !placeholder.definition.is_empty()
         {
             let range = inline_range(node, placeholder.definition);
             match rewrite_inline(alloc, placeholder.definition, rewrite_options) {
-                Ok(inline) => inlines.push(inline)?,
+                Ok(rewritten) => inlines.push(Inline { index, rewritten })?,
                 Err(stop) => return Err(moved(stop, range.start)),
             }
         }

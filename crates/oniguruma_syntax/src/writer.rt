@@ -32,6 +32,14 @@ pub struct Rewritten {
     ghost once: { NameKindsOnce changes.items },
 }
 
+/// The rewritten inline definition of a placeholder.
+#[derive(Drop)]
+pub(crate) struct Inline {
+    /// The index of the placeholder's token.
+    pub index: usize,
+    pub rewritten: Rewritten,
+}
+
 /// A group that isn't closed yet, or the whole text.
 #[derive(Clone, Copy)]
 struct OpenGroup {
@@ -50,7 +58,7 @@ pub(crate) struct Source<'w, 'a> {
     pub nodes: &'w [Node<'a>],
     pub structure: &'w Structure,
     /// The rewritten inline definitions of its placeholders, in their order.
-    pub inlines: &'w [Rewritten],
+    pub inlines: &'w [Inline],
 }
 
 /// A text that is being written.
@@ -70,8 +78,6 @@ struct Writer<'w, 'a> {
     groups: Vec<OpenGroup>,
     /// The index of the next token.
     next: usize,
-    /// How many inline definitions are written.
-    inlines: usize,
 }
 
 /// Returns whether a token begins an alternative, or takes no characters where one begins.
@@ -367,9 +373,17 @@ impl<'a> Writer<'_, 'a> {
         Ok(self.end_repeated(index)?)
     }
 
+    /// Returns the rewritten inline definition of the placeholder with this index.
+    fn inline_at(&self, index: usize) -> Option<&'w Rewritten> {
+        let inlines = self.source.inlines;
+        let found = inlines.binary_search_by(|inline| inline.index.cmp(&index));
+        Some(&inlines.get(found.ok()?)?.rewritten)
+    }
+
     /// Writes a placeholder. If it has an inline definition, that is rewritten too.
     fn write_placeholder(
         &mut self,
+        index: usize,
         node: &Node<'_>,
         placeholder: Placeholder<'a>,
     ) -> Result<(), Stop> {
@@ -382,10 +396,9 @@ impl<'a> Writer<'_, 'a> {
         if placeholder.definition.is_empty() {
             return Ok(self.text.push_str(placeholder.text)?);
         }
-        let Some(inline) = self.source.inlines.get(self.inlines) else {
+        let Some(inline) = self.inline_at(index) else {
             return Ok(());
         };
-        self.inlines = self.inlines.saturating_add(1);
         if has_brace(inline.text.as_str()) {
             return Err(Stop::at(Reason::InlineDefinition, node));
         }
@@ -647,7 +660,7 @@ impl<'a> Writer<'_, 'a> {
             }
             Token::Interval(counts, end) => self.write_interval(index, node, counts, end),
             Token::Class(_, _) => self.write_class(index),
-            Token::Placeholder(placeholder) => self.write_placeholder(node, placeholder),
+            Token::Placeholder(placeholder) => self.write_placeholder(index, node, placeholder),
             Token::Malformed(rest) => Ok(self.text.push_str(rest)?),
             Token::Posix(_, _) | Token::Unread(_) => Err(Stop::at(Reason::Unclosed, node)),
         }
@@ -692,7 +705,6 @@ pub(crate) fn write(alloc: Global, source: Source<'_, '_>, rewrite_options: Rewr
         changes: Changes::new(alloc),
         groups: Vec::new(alloc),
         next: 0,
-        inlines: 0,
     };
     writer.begin_group(0, None)?;
     for (index, node) in source.nodes.iter().enumerate() {
