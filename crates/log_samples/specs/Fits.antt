@@ -1,5 +1,5 @@
 -- Which lines a pattern fits.
-use Rattle.std.specs.Prelude.{ℕ, ◌==◌, List, Bool, false, not, ◌&&◌, Option, option_map, length, map, filter}
+use Rattle.std.specs.Prelude.{ℕ, ◌==◌, List, Bool, false, not, ◌&&◌, Option, option_map, is_some, length, map, filter}
 use Rattle.std.specs.Borrow.{Bor}
 use Rattle.std.specs.List.{list_any, zip}
 use Rattle.std.specs.Option.{option_map_or}
@@ -15,6 +15,10 @@ Pairs = List (List ℕ × List ℕ)
 -- The pairs of the match of a pattern in the line, or `None` if it finds nothing.
 abbrev pub pairs_in : PatternValue RegexEngine → List ℕ → Option Pairs
 pairs_in pattern line = option_map (walk pattern.keys) (captures_by (engine_regex pattern.engine) line)
+
+-- The pattern finds something in the line.
+abbrev pub finds : PatternValue RegexEngine → List ℕ → Bool
+finds pattern line = is_some (pairs_in pattern line)
 
 -- A match tells something about its line: no value of it is the whole line.
 abbrev pub tells : List ℕ → Pairs → Bool

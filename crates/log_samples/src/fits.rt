@@ -3,7 +3,7 @@ ghost use Rattle.std.specs.Prelude.{◌≡◌, ◌<◌, IfOk, OnOk, IfSome, coun
 ghost use Rattle.std.specs.Map.{keys_of};
 ghost use Rattle.grok.specs.Answers.{value_of, walk};
 ghost use Rattle.grok.specs.BorrowedMatches.{borrowed_keys, borrowed_captures};
-ghost use Rattle.log_samples.specs.Fits.{texts_of, tells, fits, has_value, has_key_in, has_key, unmarked};
+ghost use Rattle.log_samples.specs.Fits.{texts_of, tells, finds, fits, has_value, has_key_in, has_key, unmarked};
 
 use crate::compiled::compile_valid;
 use grok::{Matcher, MatchesRef, Pattern};
@@ -53,20 +53,6 @@ impl Drop for Counter<'_> {
     }
 }
 
-/// Returns for each line whether a pattern finds something in it.
-pub fn finds_each(
-    alloc: Global,
-    pattern: &Pattern,
-    lines: &[&str],
-) -> Result<Vec<bool>, AllocError> {
-    let mut each = Vec::new(alloc);
-    let mut matcher = pattern.matcher()?;
-    for line in lines {
-        each.push(matcher.find(line)?.is_some())?;
-    }
-    Ok(each)
-}
-
 fn tells(matches: MatchesRef<'_>, line: &str) -> bool
     ensures { result ≡ tells line.now (walk (borrowed_keys matches.entry) (borrowed_captures matches.entry)) }
 {
@@ -107,6 +93,13 @@ fn keys_of<'p>(alloc: Global, pattern: &'p Pattern) -> Result<Vec<&'p str>, Allo
 }
 
 impl<'p> Counter<'p> {
+    fn finds(&mut self, line: &str) -> Result<bool, AllocError>
+        ensures finds { IfOk result (λ is_found. is_found ≡ finds self.old.matcher line.now) }
+        ensures same { self.new.matcher ≡ self.old.matcher }
+    {
+        Ok(self.matcher.find(line)?.is_some())
+    }
+
     /// Returns whether the pattern fits a line, and takes out of `missing` each key that has a value there.
     fn fits(&mut self, line: &str, missing: &mut Vec<&str>) -> Result<bool, AllocError>
         ensures fits { IfOk result (λ is_fit. is_fit ≡ fits self.old.matcher line.now) }
@@ -124,6 +117,24 @@ impl<'p> Counter<'p> {
             }
         }
     }
+}
+
+/// Returns for each line whether a pattern finds something in it.
+pub fn finds_each(
+    alloc: Global,
+    pattern: &Pattern,
+    lines: &[&str],
+) -> Result<Vec<bool>, AllocError>
+    ensures { IfOk result (λ each. each.items ≡ map (λ line. finds pattern.now line.now) lines.now) }
+{
+    let matcher = pattern.matcher()?;
+    let mut counter = Counter { matcher };
+    let mut each = Vec::new(alloc);
+    'lines: for line in lines {
+        let is_found = counter.finds(line)?;
+        each.push(is_found)?;
+    }
+    Ok(each)
 }
 
 fn fits_each(

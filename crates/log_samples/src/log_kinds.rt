@@ -37,13 +37,15 @@ pub fn has_header(lines: &[&str], separator: char) -> bool {
     false
 }
 
-/// Returns whether each value of each line has a name.
-fn have_names(lines: &[&str], separator: char, columns: usize) -> bool {
-    for line in lines {
-        for index in 0..columns {
-            if value_at(line, separator, index).and_then(name_of_value).is_none() {
-                return false;
-            }
+/// Returns whether each value of a line has a name.
+fn has_names(line: &str, separator: char, columns: usize) -> bool {
+    for index in 0..columns {
+        let name = match value_at(line, separator, index) {
+            Some(value) => name_of_value(value),
+            None => None,
+        };
+        if name.is_none() {
+            return false;
         }
     }
     true
@@ -59,7 +61,7 @@ pub enum ValueNames {
 }
 
 fn names_of_values(lines: &[&str], separator: char, columns: usize) -> ValueNames {
-    if have_names(lines, separator, columns) {
+    if lines.iter().all(|line| has_names(line, separator, columns)) {
         ValueNames::EachValue
     } else if has_header(lines, separator) {
         ValueNames::FirstLine

@@ -58,7 +58,7 @@ fn marked_header<'l>(lines: &[&'l str]) -> Option<Header<'l>> {
 
 /// Returns the header in the first of these lines, with one of these separators, if the line is no more than names.
 fn header_in<'l>(lines: &[&'l str], separators: &[char]) -> Option<Header<'l>> {
-    let names: &'l str = lines.first()?;
+    let names = *lines.first()?;
     for separator in separators {
         let header = Header {
             names,
@@ -73,7 +73,7 @@ fn header_in<'l>(lines: &[&'l str], separators: &[char]) -> Option<Header<'l>> {
 
 /// Returns the header below some lines of text.
 fn header_below_text<'l>(lines: &[&'l str]) -> Option<Header<'l>> {
-    for index in 1..=MOST_ABOVE {
+    for index in 1..MOST_ABOVE.saturating_add(1) {
         let (above, below) = lines.split_at_checked(index)?;
         if let Some(header) = header_in(below, &SEPARATORS)
             && !above.iter().any(|line| header.is_for(&[*line]))

@@ -100,12 +100,11 @@ impl<'l> Beginnings<'l> {
             Some(_) => Ok(()),
             None if line.starts_with(|c: char| c.is_ascii_digit()) => Ok(()),
             None => {
-                let count = if self.timed.is_empty() {
-                    &mut self.header
+                if self.timed.is_empty() {
+                    self.header = self.header.saturating_add(1);
                 } else {
-                    &mut self.without
-                };
-                *count = count.saturating_add(1);
+                    self.without = self.without.saturating_add(1);
+                }
                 count_line(&mut self.words, capital_word(line))
             }
         }
@@ -164,14 +163,13 @@ pub(crate) fn start_of(
 
 /// Returns how many bytes at the beginning of two lines are the same, up to the first digit.
 fn common_len(first: &str, second: &str) -> usize {
-    let mut len = 0usize;
-    for (one, other) in first.chars().zip(second.chars()) {
-        if one != other || one.is_ascii_digit() {
-            break;
+    for (at, c) in first.char_indices() {
+        let rest = second.get(at..).unwrap_or("");
+        if c.is_ascii_digit() || !rest.starts_with(c) {
+            return at;
         }
-        len = len.saturating_add(one.len_utf8());
     }
-    len
+    first.len()
 }
 
 /// Returns the marks and whole words with which all of these lines begin, up to the first digit.
@@ -191,7 +189,10 @@ pub(crate) fn start_after_blank(
 ) -> Result<Option<String>, AllocError> {
     let SampleLines { lines, firsts } = sample;
     let before = common_beginning(firsts);
-    let starts = lines.iter().filter(|line| line.starts_with(before)).count();
+    let starts = lines
+        .iter()
+        .filter(|line: &&&str| line.starts_with(before))
+        .count();
     let has_others = lines.len() / 2 >= firsts.len();
     if firsts.len() < 2 || before.len() < LEAST_BEFORE || starts > firsts.len() || !has_others {
         return Ok(None);
