@@ -24,8 +24,8 @@ pub use additions::option_of;
 pub use layouts::layout_of;
 pub use nearest::nearest;
 pub use options::{
-    EVENT_LINES, EXPANSION, EventOptions, GivenDefinitions, GivenPattern, MadeFor, Options, is_answer,
-    read_options, usage_fault,
+    EVENT_LINES, EXPANSION, EventOptions, GivenDefinitions, GivenPattern, MadeFor, Options,
+    is_answer, read_options, usage_fault,
 };
 pub use task::{
     AnswerOptions, Colours, CountOptions, PageOptions, PlanOptions, ShownOptions, Task,

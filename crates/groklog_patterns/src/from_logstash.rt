@@ -4,7 +4,7 @@ use grok::Measure;
 use grok::parser::uses_in;
 use groklog_definitions::{DefinitionSource, Library, Origin, PatternText, common_definition};
 use groklog_reports::{Report, RunFault, add_excerpt};
-use oniguruma_syntax::{Outcome, Reason, RefusedPart, Rewritten, RewriteOptions, rewrite};
+use oniguruma_syntax::{Outcome, Reason, RefusedPart, RewriteOptions, Rewritten, rewrite};
 use std::alloc::{AllocError, Global};
 use std::collections::BTreeSet;
 

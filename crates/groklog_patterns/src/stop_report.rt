@@ -158,8 +158,10 @@ impl ReportWriter {
         };
         let mut is_first = true;
         for number in 0..found.locations.len() {
-            if let (Some((start, end)), Some(key)) =
-                (found.locations.get(number), searched.key(number))
+            if let (Some((start, end)), Some(key)) = (
+                found.locations.get(number),
+                searched.key(number),
+            )
                 && !open.iter().any(|group| group.number == Some(number))
             {
                 let key = visible(self.alloc, key)?;

@@ -2,7 +2,7 @@
 
 use groklog_definitions::{read_definition, skip_blanks, without_mark};
 use groklog_reports::{Report, RunFault, TextFile};
-use oniguruma_syntax::{Outcome, Rewritten, RewriteOptions, rewrite};
+use oniguruma_syntax::{Outcome, RewriteOptions, Rewritten, rewrite};
 use std::alloc::{AllocError, Global};
 
 /// The text of a file of definitions.
@@ -50,8 +50,10 @@ impl WrittenLines {
     /// Adds a line. If it is a definition, that is rewritten if need be. If it is a comment or empty, or if
     /// its definition is kept, it stays as it is.
     fn push_line(&mut self, line: &str, end: &str) -> Result<(), AllocError> {
-        let (Some(rewrite_options), Some((name, text))) = (self.rewrite_options, read_definition(skip_blanks(line)))
-        else {
+        let (Some(rewrite_options), Some((name, text))) = (
+            self.rewrite_options,
+            read_definition(skip_blanks(line)),
+        ) else {
             return self.push(line, end);
         };
         match rewrite(self.alloc, text, rewrite_options)? {
@@ -107,7 +109,11 @@ pub fn definition_lines(
     rewrite_options: Option<RewriteOptions>,
 ) -> Result<String, RunFault> {
     let text = String::new(alloc);
-    let mut lines = WrittenLines { alloc, text, rewrite_options };
+    let mut lines = WrittenLines {
+        alloc,
+        text,
+        rewrite_options,
+    };
     for file in files {
         lines.push_file(file.text.as_str())?;
     }

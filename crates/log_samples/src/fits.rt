@@ -120,11 +120,7 @@ impl<'p> Counter<'p> {
 }
 
 /// Returns for each line whether a pattern finds something in it.
-pub fn finds_each(
-    alloc: Global,
-    pattern: &Pattern,
-    lines: &[&str],
-) -> Result<Vec<bool>, AllocError>
+pub fn finds_each(alloc: Global, pattern: &Pattern, lines: &[&str]) -> Result<Vec<bool>, AllocError>
     ensures { IfOk result (λ each. each.items ≡ map (λ line. finds pattern.now line.now) lines.now) }
 {
     let matcher = pattern.matcher()?;

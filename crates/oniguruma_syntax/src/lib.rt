@@ -39,4 +39,4 @@ pub use reader::read;
 pub use refusal::{Reason, RefusedPart};
 pub use rewriting::{Outcome, rewrite};
 pub use token::{Form, Greed, Mark, Node, Opening, Placeholder, Token};
-pub use writer::{Rewritten, RewriteOptions};
+pub use writer::{RewriteOptions, Rewritten};

@@ -59,13 +59,30 @@ fn moved(stop: Stop, start: usize) -> Stop {
 }
 
 /// Rewrites an inline definition, which has no placeholders.
-fn rewrite_inline(alloc: Global, definition: &str, rewrite_options: RewriteOptions) -> Result<Rewritten, Stop> {
+fn rewrite_inline(
+    alloc: Global,
+    definition: &str,
+    rewrite_options: RewriteOptions,
+) -> Result<Rewritten, Stop> {
     let nodes = read(alloc, definition)?;
     let is_whole = false;
-    rewrite_text(alloc, definition, &nodes, &[], RewriteOptions { is_whole, ..rewrite_options })
+    rewrite_text(
+        alloc,
+        definition,
+        &nodes,
+        &[],
+        RewriteOptions {
+            is_whole,
+            ..rewrite_options
+        },
+    )
 }
 
-fn rewrite_inlines(alloc: Global, nodes: &[Node<'_>], rewrite_options: RewriteOptions) -> Result<Vec<Inline>, Stop> {
+fn rewrite_inlines(
+    alloc: Global,
+    nodes: &[Node<'_>],
+    rewrite_options: RewriteOptions,
+) -> Result<Vec<Inline>, Stop> {
     let mut inlines = Vec::new(alloc);
     for (index, node) in nodes.iter().enumerate() {
         if let Token::Placeholder(placeholder) = node.token
@@ -82,7 +99,11 @@ fn rewrite_inlines(alloc: Global, nodes: &[Node<'_>], rewrite_options: RewriteOp
 }
 
 /// Rewrites a text, or returns `None` if it has a malformed placeholder.
-fn rewrite_all(alloc: Global, text: &str, rewrite_options: RewriteOptions) -> Result<Option<Rewritten>, Stop> {
+fn rewrite_all(
+    alloc: Global,
+    text: &str,
+    rewrite_options: RewriteOptions,
+) -> Result<Option<Rewritten>, Stop> {
     let nodes = read(alloc, text)?;
     if nodes
         .iter()
@@ -113,7 +134,11 @@ fn range_in(text: &str, range: Range<usize>) -> Range<usize>
 /// a line feed, except for the changes that are returned with it. A text of which nothing has to be written
 /// in another form is kept, and so is one with a malformed placeholder: whoever reads its placeholders
 /// reports that.
-pub fn rewrite(alloc: Global, text: &str, rewrite_options: RewriteOptions) -> Result<Outcome, AllocError>
+pub fn rewrite(
+    alloc: Global,
+    text: &str,
+    rewrite_options: RewriteOptions,
+) -> Result<Outcome, AllocError>
     ensures { IfOk result (IsOutcomeOf text.now) }
 {
     match rewrite_all(alloc, text, rewrite_options) {

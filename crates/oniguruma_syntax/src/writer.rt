@@ -61,6 +61,17 @@ pub(crate) struct Source<'w, 'a> {
     pub inlines: &'w [Inline],
 }
 
+impl<'w> Source<'w, '_> {
+    /// Returns the rewritten inline definition of the placeholder with this index.
+    fn inline_at(self, index: usize) -> Option<&'w Rewritten> {
+        let found = self
+            .inlines
+            .binary_search_by(|inline| inline.index.cmp(&index));
+        let inline = self.inlines.get(found.ok()?)?;
+        Some(&inline.rewritten)
+    }
+}
+
 /// A text that is being written.
 #[derive(Drop)]
 struct Writer<'w, 'a> {
@@ -373,13 +384,6 @@ impl<'a> Writer<'_, 'a> {
         Ok(self.end_repeated(index)?)
     }
 
-    /// Returns the rewritten inline definition of the placeholder with this index.
-    fn inline_at(&self, index: usize) -> Option<&'w Rewritten> {
-        let inlines = self.source.inlines;
-        let found = inlines.binary_search_by(|inline| inline.index.cmp(&index));
-        Some(&inlines.get(found.ok()?)?.rewritten)
-    }
-
     /// Writes a placeholder. If it has an inline definition, that is rewritten too.
     fn write_placeholder(
         &mut self,
@@ -396,7 +400,7 @@ impl<'a> Writer<'_, 'a> {
         if placeholder.definition.is_empty() {
             return Ok(self.text.push_str(placeholder.text)?);
         }
-        let Some(inline) = self.inline_at(index) else {
+        let Some(inline) = self.source.inline_at(index) else {
             return Ok(());
         };
         if has_brace(inline.text.as_str()) {
@@ -566,7 +570,10 @@ impl<'a> Writer<'_, 'a> {
         self.next = after;
         if !is_repeated {
             let is_outside = self.groups.len() == 1 && !self.source.structure.has_alternatives;
-            if self.rewrite_options.is_whole && is_outside && self.write_at_edge(opening, &inside)? {
+            if self.rewrite_options.is_whole
+                && is_outside
+                && self.write_at_edge(opening, &inside)?
+            {
                 return Ok(());
             }
             if self.write_word_edge(opening, &whole, &inside)? {
@@ -694,7 +701,11 @@ fn without_blanks(nodes: &[Node<'_>]) -> Range<usize> {
 /// # Errors
 ///
 /// Returns an error if a part of it has no form for `regex`, or if an allocation fails.
-pub(crate) fn write(alloc: Global, source: Source<'_, '_>, rewrite_options: RewriteOptions) -> Result<Rewritten, Stop> {
+pub(crate) fn write(
+    alloc: Global,
+    source: Source<'_, '_>,
+    rewrite_options: RewriteOptions,
+) -> Result<Rewritten, Stop> {
     let mut writer = Writer {
         alloc,
         source,

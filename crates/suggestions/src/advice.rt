@@ -538,9 +538,7 @@ pub fn advise(
     let recognizer = Recognizer::new(alloc, library)?;
     let candidates = fitting(alloc, library, formats.lines, lines, false)?;
     let left = cover(alloc, &candidates, lines)?.left.len();
-    if !are_few(left, lines.len())
-        && header.is_none()
-    {
+    if !are_few(left, lines.len()) && header.is_none() {
         let sample = SampleLines { lines, firsts };
         if let Some(advice) = advise_on_events(alloc, &recognizer, formats, sample)? {
             return Ok(advice);

@@ -113,9 +113,7 @@ impl<'l> Beginnings<'l> {
     /// Returns whether the lines without a time are no parts of events: each begins with a word in capitals with which another
     /// one begins, too, as `START` and `END` do.
     fn are_own_lines(&self) -> bool {
-        self.words
-            .iter()
-            .all(|word: &Counted<Option<&str>>| word.what.is_some() && word.lines > 1)
+        self.words.iter().all(|word: &Counted<Option<&str>>| word.what.is_some() && word.lines > 1)
     }
 }
 
