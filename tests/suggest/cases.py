@@ -61,6 +61,8 @@ USERS = ["bob", "alice", "eve"]
 SIX = [word for name in "ABCDEF" for word in ("-D", f"{name}=(?<{name.lower()}>[0-9]+) x")]
 OWN = ["2f alice\n", "ab bob\n", "77 eve\n"]
 KINDS = [word for name in "ABCDEF" for word in ("-D", f"{name}=(?<{name.lower()}>[0-9]) {name.lower()}")]
+BLOCK = "[**] [1:{}] scan [**]\n[Priority: 2]\n06:25:0{}.123 192.0.2.1\n"
+DOORS = "time,door,user,ms\n06:25:01,3,bob,4\n06:25:02,4,eve,9\n06:25:03,3,al,1\n"
 STATE = "[177285630{}] CURRENT SERVICE STATE: web{};HTTP;OK;HARD;1;HTTP OK\n"
 
 CASES = [
@@ -307,4 +309,50 @@ CASES = [
          proposal(3, "groklog '^%{DATE_ISO8601:date} +%{TIME:time} up %{INT:up:int}$' log")),
     Case("padding before numbers in brackets", "a longer number has none", "".join(f"load [{n:>3}] ok\n" for n in (5, 12, 99)),
          proposal(3, r"groklog '^load \[ *%{INT:number:int}\] ok$' log")),
+    Case("a header of three lines", "it makes no events of the others",
+         "Log opened\nby door control\nversion two\n" + "".join(f"2026-11-28 06:25:{n} INFO door {n} opened\n" for n in range(10, 50)),
+         proposal(40, "groklog '^%{TIMESTAMP_ISO8601:timestamp} %{LOGLEVEL:level} door %{INT:door:int} opened$' log", of=43)),
+    Case("lines that begin with words in capitals", "they are no parts of events",
+         "".join(f"START job {n}\n2026-11-28 06:25:0{n} INFO copied {n * 3}\nEND job {n}\n" for n in range(1, 4)),
+         proposal(9, "groklog -e '^%{WORD:word} job %{INT:job:int}$' "
+                     "-e '^%{TIMESTAMP_ISO8601:timestamp} %{LOGLEVEL:level} copied %{INT:copied:int}$' log", shares=[6, 3])),
+    Case("words in capitals of which one comes once", "they are parts of events", "".join(
+        f"2026-11-28 06:25:0{n} INFO query\n{word} a{n}\n" for n, word in enumerate(["SELECT", "UPDATE", "SELECT"], 1)),
+         "the lines are parts of 3 events\n" + proposal(
+             3, r"groklog --start '^%{TIMESTAMP_ISO8601}' '^%{TIMESTAMP_ISO8601:timestamp} %{LOGLEVEL:level} query(?:\n(?<more>(?s:.*)))?$' log",
+             unit="events")),
+    Case("events after blank lines", "each begins with the text that no other line begins with",
+         "".join(f"{BLOCK.format(n, n)}\n" for n in range(1, 4)), "the lines are parts of 3 events\n" + proposal(
+             3, r"groklog --start '^\[\*\*\] \[' '^\[\*\*\] \[%{INT:number:int}:%{INT:number2:int}\] scan \[\*\*\](?:\n(?<more>(?s:.*)))?$' log",
+             unit="events")),
+    Case("events after blank lines in two files", "the first line of each file begins one", BLOCK.format(2, 2) + "\n" + BLOCK.format(3, 3),
+         "the lines are parts of 3 events\n" + proposal(
+             3, r"groklog --start '^\[\*\*\] \[' '^\[\*\*\] \[%{INT:number:int}:%{INT:number2:int}\] scan \[\*\*\](?:\n(?<more>(?s:.*)))?$' "
+                "first log", unit="events"),
+         words=["first", "log"], more_files={"first": BLOCK.format(1, 1)}),
+    Case("blank lines, and another line that begins as those after them", "a line after a blank one begins no event",
+         "* a 1\n* b 2\n\n* c 3\n* d 4\n", proposal(4, r"groklog '^\* %{WORD:word} %{INT:number:int}$' log")),
+    Case("blank lines before most lines", "events have more than one line", "* a 1\n\n* b 2\n\n* c 3\n- d\n",
+         proposal(4, r"groklog -e '^\* %{WORD:word} %{INT:number:int}$' -e '^\- d$' log", shares=[3, 1])),
+    Case("values after their names, between semicolons", "mlr, and a pattern with the names",
+         "at=06:25:01;host=web one;status=200;ms=4\nat=06:25:02;host=db;status=404;ms=9\n",
+         "each line has 4 values after their names, which mlr reads, too:\nmlr --idkvp --ifs ';' --ojson cat log\n"
+         + proposal(2, "groklog '^at=%{TIME:at};host=%{DATA:host};status=%{INT:status:int};ms=%{INT:ms:int}$' log")),
+    Case("values after their names, between commas", "mlr reads them as they are", "a=1,b=2,c=3,d=x y\na=4,b=5,c=6,d=z\n",
+         "each line has 4 values after their names, which mlr reads, too:\nmlr --idkvp --ojson cat log\n"
+         + proposal(2, "groklog '^a=%{INT:a:int},b=%{INT:b:int},c=%{INT:c:int},d=%{CSVVALUE:d}$' log")),
+    Case("values after their names, between tabs", "mlr, and tabs that are escaped for the shell", "a=1\tb=2\tc=3\td=x\na=4\tb=5\tc=6\td=y\n",
+         "each line has 4 values after their names, which mlr reads, too:\nmlr --idkvp --ifs tab --ojson cat log\n"
+         + proposal(2, r"groklog $'^a=%{INT:a:int}\x09b=%{INT:b:int}\x09c=%{INT:c:int}\x09d=%{NOTSPACE:d}$' log")),
+    Case("values of which one has no name", "mlr reads them without names", "a=1;b=2;3;4\na=5;b=6;7;8\n",
+         "each line has 4 values, which mlr reads, too:\nmlr --icsv --ifs ';' --implicit-csv-header --ojson cat log\n"
+         + proposal(2, "groklog '^a=%{INT:a:int};b=%{INT:b:int};%{INT:number:int};%{INT:number2:int}$' log")),
+    Case("values whose names differ", "the names are parts of the values", "a=1;b=2;c=3;d=4\na=5;b=6;c=7;e=8\n",
+         "each line has 4 values after their names, which mlr reads, too:\nmlr --idkvp --ifs ';' --ojson cat log\n"
+         + proposal(2, "groklog '^a=%{INT:a:int};b=%{INT:b:int};c=%{INT:c:int};%{NOTSPACE:field}$' log")),
+    *(Case(f"names below {count} lines of text", "they are the keys of the columns", "Report of the doors\n" * count + DOORS,
+           proposal(3, "groklog '^%{TIME:time},%{INT:door:int},%{CSVVALUE:user},%{INT:ms:int}$' log", of=count + 4)) for count in (1, 3)),
+    Case("names below four lines of text", "that is too far down, so they are values as the others are", "Report of the doors\n" * 4 + DOORS,
+         proposal(8, "groklog -e '^Report of the doors$' -e '^%{CSVVALUE:field},%{CSVVALUE:field2},%{CSVVALUE:field3},%{CSVVALUE:field4}$' log",
+                  shares=[4, 4])),
 ]
