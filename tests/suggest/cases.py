@@ -63,6 +63,8 @@ OWN = ["2f alice\n", "ab bob\n", "77 eve\n"]
 KINDS = [word for name in "ABCDEF" for word in ("-D", f"{name}=(?<{name.lower()}>[0-9]) {name.lower()}")]
 BLOCK = "[**] [1:{}] scan [**]\n[Priority: 2]\n06:25:0{}.123 192.0.2.1\n"
 DOORS = "time,door,user,ms\n06:25:01,3,bob,4\n06:25:02,4,eve,9\n06:25:03,3,al,1\n"
+EVENTS = ["-D", "ANY=%{TIME:time} %{LOGLEVEL:level} %{GREEDYDATA:text}",
+          "-D", "NOPORT=%{TIME:time} %{LOGLEVEL:level} no port %{INT:port:int} on %{WORD:host}"]
 STATE = "[177285630{}] CURRENT SERVICE STATE: web{};HTTP;OK;HARD;1;HTTP OK\n"
 
 CASES = [
@@ -355,4 +357,27 @@ CASES = [
     Case("names below four lines of text", "that is too far down, so they are values as the others are", "Report of the doors\n" * 4 + DOORS,
          proposal(8, "groklog -e '^Report of the doors$' -e '^%{CSVVALUE:field},%{CSVVALUE:field2},%{CSVVALUE:field3},%{CSVVALUE:field4}$' log",
                   shares=[4, 4])),
+    Case("two lines of twenty that differ, each at another place", "one of twenty may be left out in all, and not at each place",
+         "".join(f"worker {n} took 45 ms today\n" for n in [*range(11, 29), "x"]) + "worker 29 took many ms today\n",
+         proposal(19, "groklog '^worker %{INT:worker:int} took %{NOTSPACE:took} ms today$' log", of=20)),
+    Case("events in two files, of which the second begins with a line that isn't UTF-8", "it belongs to no event of the first file",
+         b"  at Caf\xe9.run\n04:06:01 ERROR no user\n  at Main.main\n", "the lines are parts of 4 events\n" + proposal(
+             3, r"groklog --start '^%{TIME}' '^%{TIME:timestamp} %{LOGLEVEL:level} no %{WORD:word}(?:\n(?<more>(?s:.*)))?$' first log",
+             of=4, unit="events"),
+         words=["first", "log"], more_files={"first": "04:05:06 ERROR no port\n  at Server.open\n04:05:07 ERROR no host\n  at Main.main\n"},
+         notes="groklog: line 1 of log isn't UTF-8, so it has no fields: use --lossy, or for another encoding "
+               "iconv -f LATIN1 -t UTF-8 FILE | groklog ..\n"),
+    Case("two definitions for the same events", "an event counts for the first of them alone", "".join(
+        f"04:05:0{n} {text}\n  at Main.main\n" for n, text in enumerate(
+            ["ERROR no port 80 on web", "ERROR no port 81 on web", "ERROR out of memory", "WARN too slow"], 6)),
+         "the lines are parts of 4 events\n" + rows(
+             *((count, fields, f"groklog {shlex.join(EVENTS)} --start '^%{{TIME}}' '^%{{{name}}}(?:\\n(?<more>(?s:.*)))?$' log")
+               for count, fields, name in [(4, 4, "ANY"), (2, 5, "NOPORT")]), unit="events")
+         + f"these patterns match 4 of 4 events (2 + 2):\ngroklog {shlex.join(EVENTS)} --start '^%{{TIME}}' "
+         + " ".join(f"-e '^%{{{name}}}(?:\\n(?<more>(?s:.*)))?$'" for name in ["NOPORT", "ANY"]) + " log\n", words=[*EVENTS, "log"]),
+    Case("a line that has nothing but separators", "its values are empty", "bob,7,open,north\n,,,\neve,12,shut,south\n",
+         "each line has 4 values, which mlr reads, too:\nmlr --icsv --implicit-csv-header --ojson cat log\n"
+         + proposal(3, "groklog '^%{CSVVALUE:field},%{CSVVALUE:field2},%{CSVVALUE:field3},%{CSVVALUE:field4}$' log")),
+    Case("names of values of which only the first column has numbers", "they are names", "id,name,door,state\n7,bob,front,open\n8,eve,back,shut\n",
+         "each line has 4 values, after their names in the first line, which mlr reads:\nmlr --icsv --ojson cat log\n"),
 ]
