@@ -15,18 +15,18 @@
 mod additions;
 mod command_line;
 mod layouts;
-mod nearest;
 mod options;
+mod similar;
 mod task;
 mod words_error;
 
 pub use additions::option_of;
 pub use layouts::layout_of;
-pub use nearest::nearest;
 pub use options::{
     EVENT_LINES, EXPANSION, EventOptions, GivenDefinitions, GivenPattern, MadeFor, Options,
     is_answer, read_options, usage_fault,
 };
+pub use similar::nearest;
 pub use task::{
     AnswerOptions, Colours, CountOptions, PageOptions, PlanOptions, ShownOptions, Task,
 };

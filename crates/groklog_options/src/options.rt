@@ -10,7 +10,7 @@ ghost use Rattle.clap.specs.Values.{kind_of};
 
 use crate::additions::added_of;
 use crate::command_line::{check_partners, check_values, describe, is_given};
-use crate::nearest::is_near;
+use crate::similar::is_near;
 use crate::task::{
     AnswerOptions, Colours, CountOptions, PageOptions, PlanOptions, ShownOptions, Task,
 };
