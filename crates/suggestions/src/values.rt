@@ -43,7 +43,9 @@ impl<'l> Table<'_, 'l> {
         for line in self.lines {
             if let Some(value) = self.value_in(line, index) {
                 let name = name_of_value(value)?;
-                if common.is_some_and(|common: &str| common != name) {
+                if let Some(before) = common
+                    && before != name
+                {
                     return None;
                 }
                 common = Some(name);
