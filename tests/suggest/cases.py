@@ -392,9 +392,6 @@ CASES = [
          "1 a\n2 b\n3 a\n4 b\n", rows(*((2, 1, f"groklog {HALVES} '^%{{{name}}}$' log") for name in "AB")) + proposal(
              4, f"groklog {HALVES} -e '^%{{A}}$' -e '^%{{B}}$' log", shares=[2, 2]),
          words=[*shlex.split(HALVES), "log"]),
-    Case("two definitions that find the same", "the second one says nothing new", "1 a\n2 a\n",
-         rows((2, 1, "groklog -D 'A=(?<n>[0-9]+) a' -D 'B=(?<n>[0-9]+) [ab]' '^%{A}$' log")),
-         words=["-D", "A=(?<n>[0-9]+) a", "-D", "B=(?<n>[0-9]+) [ab]", "log"]),
     Case("a definition that finds more, but in other lines, too", "it doesn't come before the one that matches most lines",
          "1 a\n2 a\n3 a\n4 b\n5 c\n6 c\n",
          rows((4, 1, f"groklog {LETTERS} '^%{{A}}$' log"), (3, 2, f"groklog {LETTERS} '^%{{B}}$' log"))
@@ -558,8 +555,6 @@ CASES = [
     Case("one blank before each line, and more before some", "a longer number has fewer of them", "".join(f"{n:>3} x\n" for n in (5, 12, 99)),
          proposal(3, "groklog '^ *%{INT:number:int} x$' log")),
     Case("one blank before each line", "it is one in other lines, too", " 5 x\n 7 x\n", proposal(2, "groklog '^ %{INT:number:int} x$' log")),
-    Case("padding after a word", "a longer number has one blank at least", "".join(f"load {n:>3} ok\n" for n in (5, 12)),
-         proposal(2, "groklog '^load +%{INT:load:int} ok$' log")),
     Case("seconds since 1970 with a fraction", "they are a time anywhere", "job 1772856301.5 x\njob 1772856302.7 x\n",
          proposal(2, "groklog '^job %{NUMBER:timestamp:float} x$' log")),
     *(Case(f"a number of {count} digits at the beginning", "it is no time", f"{'7' * count} x\n{'8' * count} x\n",
@@ -569,9 +564,6 @@ CASES = [
          proposal(3, "groklog '^%{TIME:at},%{INT:the_door:int},%{CSVVALUE:field},%{INT:ms:int}$' log", of=5)),
     Case("names between bars below a line of text", "they are the keys of the columns", "Report of the doors\n" + DOORS.replace(",", "|"),
          proposal(3, r"groklog '^%{TIME:time}\|%{INT:door:int}\|%{DATA:user}\|%{INT:ms:int}$' log", of=5)),
-    Case("other numbers of words in brackets", "what is in the brackets is one value",
-         "[worker 1] done 1\n[main] done 2\n[worker 3] done 3\n",
-         proposal(3, r"groklog '^\[%{DATA:thread}\] done %{INT:done:int}$' log")),
     Case("brackets in brackets", "the last of them ends what differs", "[a [b] c] done 1\n[d] done 2\n",
          proposal(2, r"groklog '^\[%{DATA:field}\] done %{INT:done:int}$' log")),
     Case("pairs that follow in another order", "they are pairs up to the end of the line",
@@ -580,4 +572,13 @@ CASES = [
     Case("pairs, and in one line something else", "what follows is no more than a message",
          "up 06:25:01 a=1 b=2\nup 06:25:02 b=3 x\nup 06:25:03 c=5\n",
          proposal(3, "groklog '^up %{TIME:timestamp} %{GREEDYDATA:message}$' log")),
+    Case("numbers with a + at their front", "a number would lose it", "temp +5 ok\ntemp -6 ok\n",
+         proposal(2, "groklog '^temp %{NUMBER:temp} ok$' log")),
+    *(Case(f"{names[0]} and {names[1]} in brackets", why, "".join(f"06:25:0{n} INFO [{name}] done {n}\n" for n, name in enumerate(names, 1)),
+           proposal(2, rf"groklog '^%{{TIME:timestamp}} %{{LOGLEVEL:level}} \[%{{DATA:{key}}}\] done %{{INT:done:int}}$' log"))
+      for names, key, why in [(["worker.3", "worker.4"], "thread", "with numbers at their ends, they are threads"),
+                              (["shop.worker", "mail.worker"], "logger", "with words at their ends, they are loggers")]),
+    Case("lines of nothing but blanks", "they are blank lines, after which events begin", "* a 1\nx\n \t\n* b 2\ny\n",
+         "the lines are parts of 2 events\n" + proposal(
+             2, r"groklog --start '^\* ' '^\* %{WORD:word} %{INT:number:int}(?:\n(?<more>(?s:.*)))?$' log", unit="events")),
 ]
