@@ -153,6 +153,8 @@ DEFINITION = {
     r"\b+a": "a quantifier with nothing to repeat at 2..3",
     "(?i)+a": "a quantifier with nothing to repeat at 4..5",
     r"a\9": "a reference to a group at 1..3",
+    r"é\1": "a reference to a group at 1..3",
+    r"é%{A:v=\y}": "an escape that has no form for the engine at 7..9",
 }
 
 # Whole patterns. What a lookaround at their end or their start tells may be read there, since nothing stands beside it.
@@ -187,6 +189,8 @@ PATTERN = {
 LOOSE = {
     "a(?=b)c(?!d)+": "ac(?:)+",
     "5%(?!0)%{A:w}": "5[%]%{A:w}",
+    r"(?!\.)a\1": "a reference to a group at 7..9",
+    r"a(?!\w)b(?!c)d": r"a\b{end-half}bd",
 }
 
 # Texts that both syntaxes have, in which they mean the same: nothing of them is written in another form.
