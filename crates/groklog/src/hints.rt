@@ -40,7 +40,7 @@ fn is_news(options: &Options<'_>) -> bool {
         Task::Shown(shown) => shown.lines,
         Task::Page(page) => page.lines,
         Task::Counts(_) => Lines::All,
-        Task::Reasons(_) | Task::Suggestions(_) | Task::Explanation | Task::List(_) => return false,
+        Task::Why(_) | Task::Suggestions(_) | Task::Explanation | Task::List(_) => return false,
     };
     !matches!(lines, Lines::Unmatched) && !options.has_summary && !options.has_exit_status
 }

@@ -71,19 +71,25 @@ impl<'r, 'a, 'd> CompiledRun<'r, 'a, 'd> {
             Task::Answers(answers) => self.answer(answers)?,
             Task::Counts(counts) => self.count(counts)?,
             Task::Shown(shown) => self.show(shown)?,
-            Task::Page(page) => self.write_page(page)?,
-            Task::Reasons(most) => self.explain_lines(*most)?,
+            Task::Page(page) => return self.write_page(page),
+            Task::Why(most) => self.explain_lines(*most)?,
             Task::Explanation => return self.explain_patterns(),
             // They compile no patterns.
             Task::Suggestions(_) | Task::List(_) => return Ok(RunOutcome::AllRead),
         };
+        self.summarize(&ended.searches)?;
+        Ok(ended.outcome)
+    }
+
+    /// Reports the counts of the lines or events if that is wanted.
+    fn summarize(self, searches: &Searches<'_>) -> Result<(), AllocError> {
         if self.options.has_summary {
             let (names, unit) = (&self.options.patterns, self.options.unit());
-            let line = summary_of(self.rt().alloc(), &ended.searches, names, unit)?;
+            let line = summary_of(self.rt().alloc(), searches, names, unit)?;
             // The run goes on if the line can't be written.
             let _ = eprintln!(self.rt(); "groklog: {line}");
         }
-        Ok(ended.outcome)
+        Ok(())
     }
 
     fn rt(self) -> &'r HostRuntime {
@@ -196,16 +202,16 @@ impl<'r, 'a, 'd> CompiledRun<'r, 'a, 'd> {
         file.write(self.rt(), outcome != RunOutcome::SomeUnread, html.as_str())
     }
 
-    /// Reads the first lines or events, and writes a page about them to a file.
-    fn write_page(self, options: &PageOptions<'a>) -> Result<Ended<'a>, RunFault> {
+    /// Reads the first lines or events, and writes a page about them to a file, after their counts: it isn't written if a log failed.
+    fn write_page(self, options: &PageOptions<'a>) -> Result<RunOutcome, RunFault> {
         let page = Page::new(self.explainer()?, self.page_content(options)?);
         let flow = page.content.flow();
         let mut lines = self.searched(page)?;
         lines.flow = flow;
         let (lines, outcome) = self.read(lines)?;
+        self.summarize(&lines.searches)?;
         self.write_html(options, &lines, outcome)?;
-        let searches = lines.searches;
-        Ok(Ended { searches, outcome })
+        Ok(outcome)
     }
 
     /// Explains the first lines or events that don't match, and writes how many more there are.

@@ -6,7 +6,7 @@ use Rattle.groklog_answers.specs.declared.layout.Added.{Added}
 use Rattle.groklog_answers.specs.declared.searches.NamedPattern.{NamedPattern}
 use Rattle.groklog_options.specs.declared.task.Task.{Task}
 use Rattle.groklog_options.specs.declared.task.Task.TheVariants as task
-use Rattle.groklog_options.specs.declared.task.Task.TheVariants.{Answers, Counts, Shown, Page, Reasons, Suggestions, Explanation}
+use Rattle.groklog_options.specs.declared.task.Task.TheVariants.{Answers, Counts, Shown, Page, Why, Suggestions, Explanation}
 
 -- Whether a pattern has this key.
 abbrev pub has_key : NamedPattern → List ℕ → Bool
@@ -26,7 +26,7 @@ added_by_task (Answers answers) = answers.added.items
 added_by_task (Counts counts) = []
 added_by_task (Shown shown) = []
 added_by_task (Page page) = []
-added_by_task (Reasons most) = []
+added_by_task (Why most) = []
 added_by_task (Suggestions most) = []
 added_by_task Explanation = []
 added_by_task (task.List text) = []

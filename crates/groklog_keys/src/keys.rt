@@ -209,7 +209,7 @@ pub fn check_keys(
             check_all_free(alloc, patterns, &answers.added)
         }
         Task::Counts(counts) => check_list(alloc, patterns, "--count", &counts.keys),
-        Task::Shown(_) | Task::Page(_) | Task::Reasons(_) => Ok(()),
+        Task::Shown(_) | Task::Page(_) | Task::Why(_) => Ok(()),
         Task::Suggestions(_) | Task::Explanation | Task::List(_) => Ok(()),
     }
 }

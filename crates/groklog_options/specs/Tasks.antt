@@ -13,7 +13,7 @@ use Rattle.groklog_answers.specs.declared.layout.OutputFormat.TheVariants.{Json,
 use Rattle.groklog_options.specs.declared.task.PlanOptions.{PlanOptions}
 use Rattle.groklog_options.specs.declared.task.Task.{Task}
 use Rattle.groklog_options.specs.declared.task.Task.TheVariants as task
-use Rattle.groklog_options.specs.declared.task.Task.TheVariants.{Answers, Counts, Shown, Page, Reasons, Suggestions, Explanation}
+use Rattle.groklog_options.specs.declared.task.Task.TheVariants.{Answers, Counts, Shown, Page, Why, Suggestions, Explanation}
 
 -- Whether it uses patterns: suggestions and a list of definitions don't.
 abbrev pub has_patterns : Task → Bool
@@ -21,7 +21,7 @@ has_patterns (Answers answers) = true
 has_patterns (Counts counts) = true
 has_patterns (Shown shown) = true
 has_patterns (Page page) = true
-has_patterns (Reasons most) = true
+has_patterns (Why most) = true
 has_patterns (Suggestions most) = false
 has_patterns Explanation = true
 has_patterns (task.List text) = false
@@ -38,7 +38,7 @@ has_records (Answers answers) = is_csv answers.format
 has_records (Counts counts) = false
 has_records (Shown shown) = false
 has_records (Page page) = false
-has_records (Reasons most) = false
+has_records (Why most) = false
 has_records (Suggestions most) = false
 has_records Explanation = false
 has_records (task.List text) = false
@@ -49,7 +49,7 @@ has_additions (Answers answers) = not (vec_len answers.added == 0)
 has_additions (Counts counts) = false
 has_additions (Shown shown) = false
 has_additions (Page page) = false
-has_additions (Reasons most) = false
+has_additions (Why most) = false
 has_additions (Suggestions most) = false
 has_additions Explanation = false
 has_additions (task.List text) = false
@@ -60,7 +60,7 @@ plan_of (Answers answers) = answers.plan
 plan_of (Counts counts) = record { is_nested = false; is_merged = false }
 plan_of (Shown shown) = record { is_nested = false; is_merged = false }
 plan_of (Page page) = record { is_nested = false; is_merged = false }
-plan_of (Reasons most) = record { is_nested = false; is_merged = false }
+plan_of (Why most) = record { is_nested = false; is_merged = false }
 plan_of (Suggestions most) = record { is_nested = false; is_merged = false }
 plan_of Explanation = record { is_nested = false; is_merged = false }
 plan_of (task.List text) = record { is_nested = false; is_merged = false }
@@ -71,7 +71,7 @@ fields_of (Answers answers) = option_map (λ keys. keys.items) answers.fields
 fields_of (Counts counts) = None
 fields_of (Shown shown) = option_map (λ keys. keys.items) shown.fields
 fields_of (Page page) = option_map (λ keys. keys.items) page.fields
-fields_of (Reasons most) = None
+fields_of (Why most) = None
 fields_of (Suggestions most) = None
 fields_of Explanation = None
 fields_of (task.List text) = None
@@ -98,7 +98,7 @@ option_of (Answers answers) = None
 option_of (Counts counts) = Some (codes "count")
 option_of (Shown shown) = Some (codes "show")
 option_of (Page page) = Some (codes "html")
-option_of (Reasons most) = Some (codes "why")
+option_of (Why most) = Some (codes "why")
 option_of (Suggestions most) = Some (codes "suggest")
 option_of Explanation = Some (codes "explain")
 option_of (task.List text) = Some (codes "list")
@@ -124,7 +124,7 @@ HasItsValue found (Answers answers) = map added_pair answers.added.items ≡ add
 HasItsValue found (Counts counts) = ⊤
 HasItsValue found (Shown shown) = ⊤
 HasItsValue found (Page page) = page.file.now ≡ value_in found (codes "html")
-HasItsValue found (Reasons most) = IsNumberOf found (codes "why") most
+HasItsValue found (Why most) = IsNumberOf found (codes "why") most
 HasItsValue found (Suggestions most) = IsNumberOf found (codes "suggest") most
 HasItsValue found Explanation = ⊤
 HasItsValue found (task.List text) = text.now ≡ value_in found (codes "list")

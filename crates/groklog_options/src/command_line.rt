@@ -72,7 +72,7 @@ enum TaskKind {
     Shown,
     Page,
     /// It explains why lines don't match.
-    Reasons,
+    Why,
     Suggestions,
     Explanation,
     List,
@@ -86,7 +86,7 @@ const ALL: &[TaskKind] = &[
     TaskKind::Counts,
     TaskKind::Shown,
     TaskKind::Page,
-    TaskKind::Reasons,
+    TaskKind::Why,
     TaskKind::Suggestions,
     TaskKind::Explanation,
     TaskKind::List,
@@ -228,7 +228,7 @@ macro_rules! options {
 const WORKING: &[CommandOption] = options! {
     "suggest", Takes::NumberOr("1000"), Effect::On(&[TaskKind::Suggestions]) =>
         "Suggest patterns for the first N lines, in place of answers; all words are files";
-    "why", Takes::NumberOr("3"), Effect::On(&[TaskKind::Reasons]) =>
+    "why", Takes::NumberOr("3"), Effect::On(&[TaskKind::Why]) =>
         "Show where the pattern stops in the first N lines that don't match, in place of answers";
     "explain", Takes::Nothing, Effect::On(&[TaskKind::Explanation]) =>
         "Explain the pattern, or its first fault, and read no lines";

@@ -326,7 +326,7 @@ fn task_of<'a>(alloc: Global, matches: &ArgMatches<'a>) -> Result<Task<'a>, Allo
     } else if is_given(matches, "suggest") {
         Task::Suggestions(number_of(matches, "suggest"))
     } else if is_given(matches, "why") {
-        Task::Reasons(number_of(matches, "why"))
+        Task::Why(number_of(matches, "why"))
     } else if is_given(matches, "count") {
         Task::Counts(count_options(alloc, matches)?)
     } else if is_given(matches, "html") {

@@ -25,7 +25,7 @@ pub enum Task<'a> {
     /// It writes a page about the first lines or events to a file.
     Page(PageOptions<'a>),
     /// It explains why lines or events don't match, for at most this many.
-    Reasons(u64),
+    Why(u64),
     /// It suggests patterns for the first lines, for at most this many.
     Suggestions(u64),
     /// It explains the patterns, and reads no lines.
@@ -127,7 +127,7 @@ impl<'a> Task<'a> {
             Task::Answers(answers) => answers.fields.as_deref(),
             Task::Shown(shown) => shown.fields.as_deref(),
             Task::Page(page) => page.fields.as_deref(),
-            Task::Counts(_) | Task::Reasons(_) | Task::Suggestions(_) => None,
+            Task::Counts(_) | Task::Why(_) | Task::Suggestions(_) => None,
             Task::Explanation | Task::List(_) => None,
         }
     }

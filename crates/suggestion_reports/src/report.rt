@@ -39,12 +39,12 @@ fn push_alone(
     reading: Reading<'_>,
     advice: &Advice,
 ) -> Result<(), AllocError> {
-    let alone = advice.alone.as_slice();
-    if !alone.is_empty() {
+    let alternatives = advice.alternatives.as_slice();
+    if !alternatives.is_empty() {
         let word = unit_of(reading).word(0);
         writeln!(report, "{word}  fields")?;
     }
-    for found in alone.iter().take(MOST_SHOWN) {
+    for found in alternatives.iter().take(MOST_SHOWN) {
         let command = command_of(alloc, options, reading, &[found.text.as_str()])?;
         let Fit { lines, fields } = found.fit;
         writeln!(report, "{lines:>5}  {fields:>6}  {command}")?;
@@ -81,7 +81,7 @@ fn push_together(
     reading: Reading<'_>,
     advice: &Advice,
 ) -> Result<(), AllocError> {
-    let patterns = advice.together.as_slice();
+    let patterns = advice.combined.as_slice();
     let all = advice.lines;
     let word = unit_of(reading).word(all as u64);
     let mut texts = Vec::new(alloc);
@@ -105,7 +105,7 @@ fn push_together(
 
 /// Returns the number of lines that the best pattern matches alone, and whether no others are needed.
 fn best_alone(advice: &Advice) -> (usize, bool) {
-    match (advice.alone.as_slice(), advice.together.as_slice()) {
+    match (advice.alternatives.as_slice(), advice.combined.as_slice()) {
         ([first, ..], [only]) => (first.fit.lines, first.text.as_str() == only.text.as_str()),
         ([first, ..], _) => (first.fit.lines, false),
         _ => (0, false),
@@ -194,12 +194,12 @@ fn recount(
         }
     }
     advice.lines = events.len();
-    for found in advice.alone.iter_mut() {
+    for found in advice.alternatives.iter_mut() {
         if let Some(pattern) = compile_valid(library, found.text.as_str())? {
             found.fit.lines = count(&finds_each(alloc, &pattern, &texts)?);
         }
     }
-    for share in advice.together.iter_mut() {
+    for share in advice.combined.iter_mut() {
         if let Some(pattern) = compile_valid(library, share.text.as_str())? {
             let each = finds_each(alloc, &pattern, &texts)?;
             share.lines = take_found(&mut is_left, &each);
@@ -292,7 +292,7 @@ pub fn report_of_sample(
     let drops_return = !options.form.drops_return && have_returns(sample);
     let SampledText { lines, firsts } = lines_of(sample, drops_return)?;
     let mut report = String::new(alloc);
-    push_long(alloc, &mut report, sample.long)?;
+    push_long(alloc, &mut report, sample.too_long)?;
     if lines.is_empty() {
         report.push_str("there are no lines to suggest a pattern for\n")?;
         return Ok(Suggestions::without_pattern(report));
@@ -319,7 +319,9 @@ pub fn report_of_sample(
         let events = events_of(sample, drops_return, &start)?;
         recount(alloc, library, &mut advice, &events)?;
     }
-    if advice.alone.is_empty() && push_reader(alloc, &mut report, options, kind_of_log(&lines))? {
+    if advice.alternatives.is_empty()
+        && push_reader(alloc, &mut report, options, kind_of_log(&lines))?
+    {
         return Ok(Suggestions::without_pattern(report));
     }
     let reading = Reading {
@@ -327,7 +329,7 @@ pub fn report_of_sample(
         start: None,
     };
     push_advice(alloc, &mut report, options, reading, &advice)?;
-    let has_pattern = !advice.alone.is_empty() || !advice.together.is_empty();
+    let has_pattern = !advice.alternatives.is_empty() || !advice.combined.is_empty();
     let text = report;
     Ok(Suggestions { text, has_pattern })
 }

@@ -28,7 +28,7 @@ pub struct Sample {
     /// Whether the next line is the first one of its file.
     begins_file: bool,
     /// How many lines were too long.
-    pub(crate) long: u64,
+    pub(crate) too_long: u64,
     /// How many more lines are read at most.
     left: u64,
 }
@@ -40,7 +40,7 @@ impl Sample {
             alloc,
             lines: Vec::new(alloc),
             begins_file: true,
-            long: 0,
+            too_long: 0,
             left: most,
         }
     }
@@ -78,7 +78,7 @@ impl<'p> LineTask<'p> for Sample {
     fn take(&mut self, line: FoundLine<'_>, out: &mut Vec<u8>) -> Result<Flow, AllocError> {
         let _ = out;
         if line.text.len() > MOST_LINE_BYTES {
-            self.long = self.long.saturating_add(1);
+            self.too_long = self.too_long.saturating_add(1);
             return self.add(None);
         }
         let text = if matches!(line.found, Err(Failure::NotUtf8)) || line.text.contains('\0') {

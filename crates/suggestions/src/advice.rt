@@ -46,9 +46,9 @@ pub struct Advice {
     pub lines: usize,
     /// The patterns that fit some of the lines, each by itself. The patterns that fit most lines come first, and
     /// among equal ones those with most fields.
-    pub alone: Vec<Suggestion>,
+    pub alternatives: Vec<Suggestion>,
     /// Patterns to be used together, in this order, if no pattern alone is for all lines.
-    pub together: Vec<PatternShare>,
+    pub combined: Vec<PatternShare>,
 }
 
 /// A definition for whole lines.
@@ -421,26 +421,26 @@ fn advise_on(
         add_longer(alloc, recognizer, formats, lines, &mut candidates)?;
     }
     let Choice {
-        patterns: mut together,
+        patterns: mut combined,
         left,
     } = cover(alloc, &candidates, lines)?;
     if !are_few(left.len(), lines.len()) {
         let view = LineView::new(alloc, &left, header);
         for Proposal { text, fit } in propose(recognizer, &view, &left)? {
             let lines = fit.lines;
-            together.push(PatternShare { text, lines })?;
+            combined.push(PatternShare { text, lines })?;
         }
     }
-    let mut alone = Vec::new(alloc);
+    let mut alternatives = Vec::new(alloc);
     for candidate in candidates {
         let Candidate { text, fit, .. } = candidate;
-        alone.push(Suggestion { text, fit })?;
+        alternatives.push(Suggestion { text, fit })?;
     }
     Ok(Advice {
         start: None,
         lines: lines.len(),
-        alone,
-        together,
+        alternatives,
+        combined,
     })
 }
 
@@ -491,15 +491,15 @@ fn advise_on_events(
     let advice = advise_on(alloc, recognizer, formats, sample, candidates)?;
     let Advice {
         lines,
-        alone,
-        together,
+        alternatives,
+        combined,
         ..
     } = advice;
     Ok(Some(Advice {
         start: Some(start),
         lines,
-        alone,
-        together,
+        alternatives,
+        combined,
     }))
 }
 

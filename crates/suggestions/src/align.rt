@@ -238,8 +238,18 @@ impl<'l> Aligner<'l> {
             .count()
     }
 
-    /// Returns whether the lines agree on what comes next apart from blanks.
-    fn agrees_after_blanks(&self) -> Result<bool, AllocError> {
+    /// Returns how many lines may be left out for what comes next. In brackets no line is left out because it has other
+    /// words there.
+    fn spare_at(&self, closing: Option<char>) -> usize {
+        if closing.is_some() && self.with_gap_end(closing) == self.active() {
+            0
+        } else {
+            self.spare
+        }
+    }
+
+    /// Returns whether the lines, but for `spare` of them, agree on what comes next apart from blanks.
+    fn agrees_after_blanks(&self, spare: usize) -> Result<bool, AllocError> {
         let mut counts = Vec::new(self.alloc);
         for row in &self.rows {
             if row.is_active {
@@ -249,7 +259,7 @@ impl<'l> Aligner<'l> {
         let active = self.active();
         Ok(
             counts.iter().any(|count: &Counted<Option<Kind>>| {
-                count.what.is_some() && active.saturating_sub(count.lines) <= self.spare
+                count.what.is_some() && active.saturating_sub(count.lines) <= spare
             }),
         )
     }
@@ -326,13 +336,9 @@ impl<'l> Aligner<'l> {
         }
         let active = self.active();
         let closing = self.open.as_slice().last().copied();
-        // In brackets no line is left out because it has other words there.
-        let are_closed = closing.is_some() && self.with_gap_end(closing) == active;
+        let spare = self.spare_at(closing);
         for count in &counts {
-            if count.lines < active && are_closed {
-                continue;
-            }
-            if active.saturating_sub(count.lines) <= self.spare {
+            if active.saturating_sub(count.lines) <= spare {
                 return Ok(match count.what {
                     None => Next::End,
                     Some(Kind::Rest) => Next::Rest,
@@ -340,7 +346,7 @@ impl<'l> Aligner<'l> {
                 });
             }
         }
-        if self.agrees_after_blanks()? {
+        if self.agrees_after_blanks(spare)? {
             return Ok(Next::OptionalBlank);
         }
         if active.saturating_sub(self.with_gap_end(closing)) <= self.spare {
@@ -462,10 +468,10 @@ impl<'l> Aligner<'l> {
                 Next::Gap => self.take_gap()?,
                 Next::Pairs(name) => self.take_pairs(name)?,
                 Next::End => return Ok(true),
-                Next::Rest => break,
+                Next::Rest => return Ok(false),
             }
         }
-        Ok(false)
+        Ok(matches!(self.next()?, Next::End))
     }
 }
 

@@ -9,10 +9,12 @@ use crate::values::{template_of_named, template_of_values};
 use groklog_definitions::Library;
 use log_samples::{Candidate, Cutter, Fit, Kind, Recognizer, separator_of};
 use std::alloc::{AllocError, Global};
-use std::collections::BTreeMap;
 
 /// How many patterns are proposed at most.
 const MOST_PATTERNS: usize = 3;
+
+/// How many forms of lines a pattern is sought for at most. Not each of them has one.
+const MOST_FORMS: usize = 6;
 
 /// How many lines are aligned at most, the first ones. The patterns that are made from them are tried on
 /// all lines.
@@ -134,44 +136,60 @@ fn commonest_lines<'l>(
     Ok(chosen)
 }
 
-/// Returns the shape that most of the rows have: the first of them, if there are several.
+/// Returns the shape that most of the lines have: the first of them, if there are several.
 fn commonest_shape(alloc: Global, shapes: &[String]) -> Result<Option<&str>, AllocError> {
-    let mut counts = BTreeMap::new(alloc);
+    let mut counts = Vec::new(alloc);
     for shape in shapes {
-        let shape = shape.as_str();
-        let before = counts.get(shape).copied().unwrap_or(0usize);
-        counts.insert(shape, before.saturating_add(1))?;
+        count_line(&mut counts, shape.as_str())?;
     }
-    let mut best = None;
-    let mut most = 0usize;
-    for (shape, count) in &counts {
-        if *count > most {
-            most = *count;
-            best = Some(*shape);
-        }
-    }
-    Ok(best)
+    Ok(commonest(&counts).map(|count| count.what))
 }
 
-/// Returns the lines of the shape that most of the lines have.
-fn lines_of_one_shape<'l>(
+/// Lines, by their shapes.
+#[derive(Drop)]
+struct ByShape<'l> {
+    /// Those of the shape that most of them have.
+    commonest: Vec<&'l str>,
+    others: Vec<&'l str>,
+}
+
+/// Finds the lines of the shape that most of the lines have.
+fn by_shape<'l>(
     view: &LineView<'_>,
     cutter: &mut Cutter<'_>,
     lines: &[&'l str],
-) -> Result<Vec<&'l str>, AllocError> {
+) -> Result<ByShape<'l>, AllocError> {
     let alloc = view.alloc;
     let mut shapes = Vec::new(alloc);
     for row in &rows_of(view, cutter, lines)? {
         shapes.push(row.shape(alloc)?)?;
     }
-    let commonest = commonest_shape(alloc, &shapes)?;
-    let mut chosen = Vec::new(alloc);
-    for (line, shape) in lines.iter().zip(&shapes) {
-        if commonest == Some(shape.as_str()) {
-            chosen.push(*line)?;
+    let shape = commonest_shape(alloc, &shapes)?;
+    let mut found = ByShape {
+        commonest: Vec::new(alloc),
+        others: Vec::new(alloc),
+    };
+    for (line, own) in lines.iter().zip(&shapes) {
+        if shape == Some(own.as_str()) {
+            found.commonest.push(*line)?;
+        } else {
+            found.others.push(*line)?;
         }
     }
-    Ok(chosen)
+    Ok(found)
+}
+
+/// Returns the lines without those that `next_candidate` found no pattern for.
+fn set_aside<'l>(
+    view: &LineView<'_>,
+    cutter: &mut Cutter<'_>,
+    lines: &[&'l str],
+) -> Result<Vec<&'l str>, AllocError> {
+    let aligned = aligned_of(lines);
+    let ByShape { mut others, .. } = by_shape(view, cutter, aligned)?;
+    let further = lines.get(aligned.len()..).unwrap_or(&[]);
+    others.extend_from_slice(further)?;
+    Ok(others)
 }
 
 pub(crate) fn aligned_of<'s, 'l>(lines: &'s [&'l str]) -> &'s [&'l str] {
@@ -198,8 +216,8 @@ fn next_candidate<'l>(
     if template.is_telling() {
         return best_candidate(library, view, &template, lines);
     }
-    let alike = lines_of_one_shape(view, cutter, aligned)?;
-    let template = template_of(view, cutter, &alike)?;
+    let ByShape { commonest, .. } = by_shape(view, cutter, aligned)?;
+    let template = template_of(view, cutter, &commonest)?;
     best_candidate(library, view, &template, lines)
 }
 
@@ -213,7 +231,7 @@ fn push_fitting(proposals: &mut Vec<Proposal>, proposal: Proposal) -> Result<(),
 }
 
 /// Proposes patterns for lines, or for events of several lines, in this view. Each is for those that the patterns before
-/// it don't fit. There are none if the lines have nothing in common.
+/// it don't fit. Lines of one form that have no pattern are set aside. There are none if the lines have nothing in common.
 pub(crate) fn propose<'l>(
     recognizer: &Recognizer<'_, '_>,
     view: &LineView<'l>,
@@ -226,12 +244,15 @@ pub(crate) fn propose<'l>(
     let mut cutter = Cutter::new(alloc, recognizer.search(alloc)?);
     let mut proposals = Vec::new(alloc);
     let mut left = Vec::from_slice(alloc, lines)?;
-    'patterns: while proposals.len() < MOST_PATTERNS
-        && left.len() > lines.len() / LINES_FOR_ONE_LEFT
-    {
+    'forms: for _ in 0..MOST_FORMS {
+        let is_enough = left.len() <= lines.len() / LINES_FOR_ONE_LEFT;
+        if is_enough || proposals.len() >= MOST_PATTERNS {
+            break;
+        }
         let next = next_candidate(recognizer.library, view, &mut cutter, &left)?;
         let Some(candidate) = next else {
-            break;
+            left = set_aside(view, &mut cutter, &left)?;
+            continue;
         };
         left = candidate.unfit_lines(alloc, &left)?;
         let Candidate { text, fit, .. } = candidate;
