@@ -581,4 +581,16 @@ CASES = [
     Case("lines of nothing but blanks", "they are blank lines, after which events begin", "* a 1\nx\n \t\n* b 2\ny\n",
          "the lines are parts of 2 events\n" + proposal(
              2, r"groklog --start '^\* ' '^\* %{WORD:word} %{INT:number:int}(?:\n(?<more>(?s:.*)))?$' log", unit="events")),
+    Case("a word alone in more lines than a time", "a pattern is sought for the other lines, too", "a\nb\nc\n06:25:01 up 1\n06:25:02 up 2\n",
+         proposal(2, "groklog '^%{TIME:timestamp} %{NOTSPACE:field} %{INT:number:int}$' log", of=5)),
+    Case("five forms of lines without a pattern, and a sixth", "six forms are looked at",
+         "".join(form * 2 + "\n" + form + "\n" for form in ("a-", "a_.", "a:", "a+", "a;")) + "06:25:01 up 1\n",
+         proposal(1, "groklog '^%{TIME:timestamp} %{NOTSPACE:field} %{INT:number:int}$' log", of=11)),
+    *(Case(f"another word in the brackets of one line of {count}", "no line is left out for what stands in brackets",
+           "".join(f"06:25:{n} [worker {n}] go {n}\n" for n in range(10, 9 + count)) + "06:25:59 [main] go 59\n",
+           proposal(count, rf"groklog '^%{{TIME:timestamp}} \[%{{DATA:thread}}\] go %{{INT:go:int}}$' log")) for count in (19, 20, 40)),
+    *(Case(f"lines of {2 * count} tokens", why, "".join("(" + " ".join(str(n) for n in range(first, first + count)) + "\n" for first in (1, 2)),
+           proposal(2, r"groklog '^\(%{INT:number:int}"
+                       + "".join(f" %{{INT:number{n}:int}}" for n in range(2, min(count, 50) + 1)) + end + "$' log"))
+      for count, end, why in [(50, "", "each of them gets a column"), (51, " %{GREEDYDATA:message}", "the last two are a message")]),
 ]

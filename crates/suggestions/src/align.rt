@@ -31,6 +31,7 @@ pub(crate) struct Template<'l> {
 }
 
 /// What comes next in the lines.
+#[derive(Clone, Copy)]
 enum Next<'l> {
     /// A token of this kind.
     Token(Kind),
