@@ -58,6 +58,8 @@ ValueError: no
 EVENT = "  more\n2026-11-28 06:25:0{} INFO a\n"
 ERRORS = "11/28/2026 6:25:0{} AM {} {} disk\n"
 USERS = ["bob", "alice", "eve"]
+# Lines of one value, or of pairs with other names in each line, have no pattern.
+FORMS = ["{}", "{}=", "{}=x", "{}=1", "{0}=x {0}{0}=x", "{0}=1 {0}{0}=x"]
 SIX = [word for name in "ABCDEF" for word in ("-D", f"{name}=(?<{name.lower()}>[0-9]+) x")]
 OWN = ["2f alice\n", "ab bob\n", "77 eve\n"]
 KINDS = [word for name in "ABCDEF" for word in ("-D", f"{name}=(?<{name.lower()}>[0-9]) {name.lower()}")]
@@ -583,14 +585,16 @@ CASES = [
              2, r"groklog --start '^\* ' '^\* %{WORD:word} %{INT:number:int}(?:\n(?<more>(?s:.*)))?$' log", unit="events")),
     Case("a word alone in more lines than a time", "a pattern is sought for the other lines, too", "a\nb\nc\n06:25:01 up 1\n06:25:02 up 2\n",
          proposal(2, "groklog '^%{TIME:timestamp} %{NOTSPACE:field} %{INT:number:int}$' log", of=5)),
-    Case("five forms of lines without a pattern, and a sixth", "six forms are looked at",
-         "".join(form * 2 + "\n" + form + "\n" for form in ("a-", "a_.", "a:", "a+", "a;")) + "06:25:01 up 1\n",
-         proposal(1, "groklog '^%{TIME:timestamp} %{NOTSPACE:field} %{INT:number:int}$' log", of=11)),
+    *(Case(f"{count} forms of lines without a pattern before one that has one", "six forms are looked at",
+           "".join(form.format(name) + "\n" for form in FORMS[:count] for name in "ab") + "06:25:01 up 1\n06:25:02 up 2\n", report)
+      for count, report in [(5, proposal(2, "groklog '^%{TIME:timestamp} %{NOTSPACE:field} %{INT:number:int}$' log", of=12)),
+                            (6, "no definition matches more than half of the 14 lines\n"
+                                "the lines have too little in common for a pattern\n")]),
     *(Case(f"another word in the brackets of one line of {count}", "no line is left out for what stands in brackets",
            "".join(f"06:25:{n} [worker {n}] go {n}\n" for n in range(10, 9 + count)) + "06:25:59 [main] go 59\n",
            proposal(count, rf"groklog '^%{{TIME:timestamp}} \[%{{DATA:thread}}\] go %{{INT:go:int}}$' log")) for count in (19, 20, 40)),
     *(Case(f"lines of {2 * count} tokens", why, "".join("(" + " ".join(str(n) for n in range(first, first + count)) + "\n" for first in (1, 2)),
            proposal(2, r"groklog '^\(%{INT:number:int}"
                        + "".join(f" %{{INT:number{n}:int}}" for n in range(2, min(count, 50) + 1)) + end + "$' log"))
-      for count, end, why in [(50, "", "each of them gets a column"), (51, " %{GREEDYDATA:message}", "the last two are a message")]),
+      for count, end, why in [(50, "", "each of them gets a column"), (51, "%{GREEDYDATA:message}", "the last two are a message")]),
 ]
