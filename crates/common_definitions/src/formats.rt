@@ -13,7 +13,7 @@ pub struct LineFormat {
 }
 
 /// The formats of lines. Of several names for one format, one is here.
-static LINE_FORMATS: [LineFormat; 55] = [
+static LINE_FORMATS: [LineFormat; 59] = [
     LineFormat {
         name: "SYSLOGLINE",
         needs: Some(
@@ -117,6 +117,26 @@ static LINE_FORMATS: [LineFormat; 55] = [
         name: "SQUID3",
         needs: None,
         example: "1772856306.123    217 192.0.2.17 TCP_MISS/200 3456 GET http://www.example.com/ alice HIER_DIRECT/198.51.100.4 text/html",
+    },
+    LineFormat {
+        name: "TRAEFIKACCESS",
+        needs: None,
+        example: r#"192.0.2.17 - alice [07/Mar/2026:04:05:06 +0000] "GET /a?b=c HTTP/2.0" 200 2326 "https://www.example.com/" "curl/8.5.0" 82 "web@docker" "http://198.51.100.4:80" 14ms"#,
+    },
+    LineFormat {
+        name: "IISACCESS",
+        needs: None,
+        example: "2026-03-07 04:05:06 198.51.100.4 GET /app/default.htm id=7 443 alice 192.0.2.17 Mozilla/5.0+(Windows+NT+10.0;+Win64;+x64) https://www.example.com/ 200 0 0 17",
+    },
+    LineFormat {
+        name: "ENVOYACCESS",
+        needs: None,
+        example: r#"[2026-03-07T04:05:06.123Z] "GET /a?b=c HTTP/1.1" 200 - 0 512 6 4 "192.0.2.17" "curl/8.5.0" "4b0a2c3d-0000-4000-8000-012345678901" "www.example.com" "198.51.100.4:80""#,
+    },
+    LineFormat {
+        name: "UWSGILOG",
+        needs: None,
+        example: "[pid: 2201|app: 0|req: 7/12] 192.0.2.17 (alice) {41 vars in 671 bytes} [Sat Mar  7 04:05:06 2026] GET /a?b=c => generated 21 bytes in 3 msecs (HTTP/1.1 200) 2 headers in 71 bytes (1 switches on core 0)",
     },
     LineFormat {
         name: "S3_ACCESS_LOG",
