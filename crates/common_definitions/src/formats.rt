@@ -13,7 +13,7 @@ pub struct LineFormat {
 }
 
 /// The formats of lines. Of several names for one format, one is here.
-static LINE_FORMATS: [LineFormat; 59] = [
+static LINE_FORMATS: [LineFormat; 68] = [
     LineFormat {
         name: "SYSLOGLINE",
         needs: Some(
@@ -219,9 +219,19 @@ static LINE_FORMATS: [LineFormat; 59] = [
         example: r#"2026-03-07 04:05:06.123 UTC [2201] app@orders ERROR:  duplicate key value violates unique constraint "orders_pkey""#,
     },
     LineFormat {
+        name: "PGBOUNCERLOG",
+        needs: None,
+        example: "2026-03-07 04:05:06.123 UTC [2201] LOG C-0x55d3ad8a6a70: orders/app@192.0.2.17:51234 login attempt: db=orders user=app tls=no",
+    },
+    LineFormat {
         name: "MYSQLERROR",
         needs: None,
         example: "2026-03-07T04:05:06.123456Z 8 [Warning] [MY-010055] [Server] IP address '192.0.2.5' could not be resolved",
+    },
+    LineFormat {
+        name: "MARIADBERROR",
+        needs: None,
+        example: "2026-03-07  4:05:06 12 [Warning] Aborted connection 12 to db: 'orders' user: 'app' host: '192.0.2.7' (Got timeout reading communication packets)",
     },
     LineFormat {
         name: "REDISLOG",
@@ -242,6 +252,11 @@ static LINE_FORMATS: [LineFormat; 59] = [
         name: "MONGO3_LOG",
         needs: None,
         example: "2026-03-07T04:05:06.123+0100 I NETWORK  [listener] connection accepted from 192.0.2.17:60866 #17 (1 connection now open)",
+    },
+    LineFormat {
+        name: "MSSQLLOG",
+        needs: None,
+        example: "2026-03-07 04:05:06.12 spid51      Starting up database 'orders'.",
     },
     LineFormat {
         name: "CATALINALOG",
@@ -267,6 +282,36 @@ static LINE_FORMATS: [LineFormat; 59] = [
         name: "SPRINGBOOTLOG",
         needs: None,
         example: "2026-03-07T04:05:06.123+01:00  INFO 2201 --- [           main] o.a.c.c.C.[Tomcat].[localhost].[/]       : Initializing Spring embedded WebApplicationContext",
+    },
+    LineFormat {
+        name: "ELASTICSEARCHLOG",
+        needs: None,
+        example: "[2026-03-07T04:05:06,123][INFO ][o.e.n.Node               ] [node-1] started",
+    },
+    LineFormat {
+        name: "KAFKALOG",
+        needs: None,
+        example: "[2026-03-07 04:05:06,123] INFO [KafkaServer id=1] started (kafka.server.KafkaServer)",
+    },
+    LineFormat {
+        name: "ZOOKEEPERLOG",
+        needs: None,
+        example: "2026-03-07 04:05:06,123 [myid:1] - INFO  [main:QuorumPeerConfig@169] - Reading configuration from: /etc/zookeeper/conf/zoo.cfg",
+    },
+    LineFormat {
+        name: "CASSANDRALOG",
+        needs: None,
+        example: "INFO  [main] 2026-03-07 04:05:06,123 StorageService.java:650 - Cassandra version: 4.1.3",
+    },
+    LineFormat {
+        name: "JENKINSLOG",
+        needs: None,
+        example: "2026-03-07 04:05:06.123+0000 [id=28]\tINFO\thudson.WebAppMain$3#run: Jenkins is fully up and running",
+    },
+    LineFormat {
+        name: "MINECRAFTLOG",
+        needs: None,
+        example: r#"[04:05:06] [Server thread/INFO]: Done (5.123s)! For help, type "help""#,
     },
     LineFormat {
         name: "KLOG",
