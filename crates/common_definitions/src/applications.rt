@@ -52,4 +52,43 @@ RAILS3PROFILE=\((?:Views: %{NUMBER:viewms:float}ms)?(?: \| )?(?:ActiveRecord: %{
 RAILS3FOOT=Completed %{NONNEGINT:response:int}.*? in %{NUMBER:totalms:float}ms(?: %{RAILS3PROFILE}.*)?
 RAILS3LINES=(?:.*\n)*
 RAILS3=%{RAILS3HEAD}%{RPROCESSING}?%{RAILS3LINES:context}%{RAILS3FOOT}?
+
+# PHP's log of errors (its manual, error_log and display_errors; its source main/main.c), with the file and the line if the message
+# has them at its end, and the log of PHP-FPM (its manual, "Configuration", error_log; its source zlog.c).
+PHPDATE=%{MONTHDAY2}-%{MONTH}-%{YEAR4} %{TIME}
+PHPZONE=[0-9A-Za-z_+:/-]+
+PHPTIME=%{PHPDATE} %{PHPZONE}
+PHPLEVEL=(?:Fatal error|Recoverable fatal error|Parse error|Warning|Notice|Deprecated|Strict Standards|Unknown error)
+PHPERRORLOG=\[%{PHPTIME:timestamp}\] PHP %{PHPLEVEL:level}:  %{DATA:message}(?: in %{PATH:file} on line %{NONNEGINT:line:int})?(?m:$)
+PHPFPMLEVEL=(?:DEBUG|NOTICE|WARNING|ERROR|ALERT)
+PHPFPMPOOL=[^\s\[\]]+
+PHPFPMLOG=\[%{PHPDATE:timestamp}\] %{PHPFPMLEVEL:level}: (?:\[pool %{PHPFPMPOOL:pool}\] )?%{GREEDYDATA:message}
+
+# Monolog's class LineFormatter, which Symfony and Laravel use: '[%datetime%] %channel%.%level_name%: %message% %context% %extra%'. The
+# message has the context and what is extra, as JSON, at its end.
+MONOLOGCHANNEL=[0-9A-Za-z_.-]+
+MONOLOGLEVEL=(?:DEBUG|INFO|NOTICE|WARNING|ERROR|CRITICAL|ALERT|EMERGENCY)
+MONOLOGLOG=\[%{TIMESTAMP_ISO8601:timestamp}\] %{MONOLOGCHANNEL:channel}\.%{MONOLOGLEVEL:level}: %{GREEDYDATA:message}
+
+# Celery's worker (its documentation, worker_log_format and worker_task_log_format): a task's own messages have its name and identifier.
+CELERYNAME=[^\s\[\]]+
+CELERYTASK=%{CELERYNAME:task_name}\[%{UUID:task_id}\]
+CELERYLOG=\[%{TIMESTAMP_ISO8601:timestamp}: %{PYTHONLEVEL:level}/%{CELERYNAME:process}\] (?:%{CELERYTASK}: )?%{GREEDYDATA:message}
+
+# Airflow (its "Configuration Reference", log_format).
+AIRFLOWLOG=\[%{TIMESTAMP_ISO8601:timestamp}\] \{%{SOURCEFILE:file}:%{NONNEGINT:line:int}\} %{PYTHONLEVEL:level} - %{GREEDYDATA:message}
+
+# Home Assistant (FORMAT in its homeassistant/bootstrap.py).
+HOMEASSISTANTTHREAD=[^\[\]]+
+HOMEASSISTANTLOG=%{TIMESTAMP_ISO8601:timestamp} %{PYTHONLEVEL:level} \(%{HOMEASSISTANTTHREAD:thread}\) \[%{PYTHONLOGGER:logger}\] %{GREEDYDATA:message}
+
+# hclog, which Consul, Nomad, Terraform and Vault use (pkg.go.dev/github.com/hashicorp/go-hclog). Levels of four letters have a
+# further blank after them, and pairs KEY=VALUE may follow the message.
+HCLOGLEVEL=(?:TRACE|DEBUG|INFO|WARN|ERROR)
+HCLOGMODULE=[^\s:]+
+HCLOG=%{TIMESTAMP_RFC3339:timestamp} \[%{HCLOGLEVEL:level}\]  ?(?:%{HCLOGMODULE:module}: )?%{GREEDYDATA:message}
+
+# RabbitMQ (its documentation, "Logging"): '$time [$level] $pid $msg', where the pid is that of a process of Erlang.
+ERLANGPID=<[0-9]+\.[0-9]+\.[0-9]+>
+RABBITMQLOG=%{TIMESTAMP_ISO8601:timestamp} \[%{LOGLEVEL:level}\] %{ERLANGPID:pid} %{GREEDYDATA:message}
 "##;

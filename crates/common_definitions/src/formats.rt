@@ -13,7 +13,7 @@ pub struct LineFormat {
 }
 
 /// The formats of lines. Of several names for one format, one is here.
-static LINE_FORMATS: [LineFormat; 68] = [
+static LINE_FORMATS: [LineFormat; 76] = [
     LineFormat {
         name: "SYSLOGLINE",
         needs: Some(
@@ -349,6 +349,21 @@ static LINE_FORMATS: [LineFormat; 68] = [
         example: "[2026-03-07 04:05:06 +0000] [2201] [INFO] Listening at: http://127.0.0.1:8000 (2201)",
     },
     LineFormat {
+        name: "CELERYLOG",
+        needs: None,
+        example: "[2026-03-07 04:05:06,123: INFO/MainProcess] Connected to amqp://guest@198.51.100.4:5672//",
+    },
+    LineFormat {
+        name: "AIRFLOWLOG",
+        needs: None,
+        example: "[2026-03-07T04:05:06.123+0000] {taskinstance.py:1730} INFO - Marking task as SUCCESS",
+    },
+    LineFormat {
+        name: "HOMEASSISTANTLOG",
+        needs: None,
+        example: "2026-03-07 04:05:06.123 INFO (MainThread) [homeassistant.core] Starting Home Assistant",
+    },
+    LineFormat {
         name: "RAILS3",
         needs: None,
         example: r#"Started GET "/users/7" for 192.0.2.17 at 2026-03-07 04:05:06 +0000"#,
@@ -357,6 +372,31 @@ static LINE_FORMATS: [LineFormat; 68] = [
         name: "RUBY_LOGGER",
         needs: None,
         example: "I, [2026-03-07T04:05:06.123456 #2201]  INFO -- worker: started",
+    },
+    LineFormat {
+        name: "PHPERRORLOG",
+        needs: None,
+        example: "[07-Mar-2026 04:05:06 UTC] PHP Warning:  Undefined variable $a in /srv/www/index.php on line 12",
+    },
+    LineFormat {
+        name: "PHPFPMLOG",
+        needs: None,
+        example: "[07-Mar-2026 04:05:06] NOTICE: fpm is running, pid 2201",
+    },
+    LineFormat {
+        name: "MONOLOGLOG",
+        needs: None,
+        example: r#"[2026-03-07T04:05:06.123456+00:00] security.DEBUG: Checking for authenticator support. {"authenticators":3} []"#,
+    },
+    LineFormat {
+        name: "HCLOG",
+        needs: None,
+        example: "2026-03-07T04:05:06.123Z [INFO]  agent: Synced node info",
+    },
+    LineFormat {
+        name: "RABBITMQLOG",
+        needs: None,
+        example: "2026-03-07 04:05:06.123456+00:00 [info] <0.684.0> accepting AMQP connection <0.684.0> (192.0.2.17:51234 -> 198.51.100.4:5672)",
     },
 ];
 
