@@ -65,10 +65,11 @@ PHPFPMPOOL=[^\s\[\]]+
 PHPFPMLOG=\[%{PHPDATE:timestamp}\] %{PHPFPMLEVEL:level}: (?:\[pool %{PHPFPMPOOL:pool}\] )?%{GREEDYDATA:message}
 
 # Monolog's class LineFormatter, which Symfony and Laravel use: '[%datetime%] %channel%.%level_name%: %message% %context% %extra%'. The
-# message has the context and what is extra, as JSON, at its end.
+# context and the extra data are JSON. They have no key if they are empty, and Laravel leaves them out then.
 MONOLOGCHANNEL=[0-9A-Za-z_.-]+
 MONOLOGLEVEL=(?:DEBUG|INFO|NOTICE|WARNING|ERROR|CRITICAL|ALERT|EMERGENCY)
-MONOLOGLOG=\[%{TIMESTAMP_ISO8601:timestamp}\] %{MONOLOGCHANNEL:channel}\.%{MONOLOGLEVEL:level}: %{GREEDYDATA:message}
+MONOLOGJSON=(?:\{".*?\}|\[[^\[\]]+\])
+MONOLOGLOG=\[%{TIMESTAMP_ISO8601:timestamp}\] %{MONOLOGCHANNEL:channel}\.%{MONOLOGLEVEL:level}: %{DATA:message}(?: (?:\[\]|%{MONOLOGJSON:context}))?(?: (?:\[\]|%{MONOLOGJSON:extra}))? *(?m:$)
 
 # Celery's worker (its documentation, worker_log_format and worker_task_log_format): a task's own messages have its name and identifier.
 CELERYNAME=[^\s\[\]]+
