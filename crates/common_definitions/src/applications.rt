@@ -68,7 +68,7 @@ PHPFPMLOG=\[%{PHPDATE:timestamp}\] %{PHPFPMLEVEL:level}: (?:\[pool %{PHPFPMPOOL:
 # context and the extra data are JSON. They have no key if they are empty, and Laravel leaves them out then.
 MONOLOGCHANNEL=[0-9A-Za-z_.-]+
 MONOLOGLEVEL=(?:DEBUG|INFO|NOTICE|WARNING|ERROR|CRITICAL|ALERT|EMERGENCY)
-MONOLOGJSON=(?:\{".*?\}|\[[^\[\]]+\])
+MONOLOGJSON=(?:\{".+?\}|\[[^\[\]]+\])
 MONOLOGLOG=\[%{TIMESTAMP_ISO8601:timestamp}\] %{MONOLOGCHANNEL:channel}\.%{MONOLOGLEVEL:level}: %{DATA:message}(?: (?:\[\]|%{MONOLOGJSON:context}))?(?: (?:\[\]|%{MONOLOGJSON:extra}))? *(?m:$)
 
 # Celery's worker (its documentation, worker_log_format and worker_task_log_format): a task's own messages have its name and identifier.
@@ -92,4 +92,13 @@ HCLOG=%{TIMESTAMP_RFC3339:timestamp} \[%{HCLOGLEVEL:level}\]  ?(?:%{HCLOGMODULE:
 # RabbitMQ (its documentation, "Logging"): '$time [$level] $pid $msg', where the pid is that of a process of Erlang.
 ERLANGPID=<[0-9]+\.[0-9]+\.[0-9]+>
 RABBITMQLOG=%{TIMESTAMP_ISO8601:timestamp} \[%{LOGLEVEL:level}\] %{ERLANGPID:pid} %{GREEDYDATA:message}
+
+# Loguru (its documentation, LOGURU_FORMAT): '{time} | {level: <8} | {name}:{function}:{line} - {message}'.
+LOGURULEVEL=(?:TRACE|DEBUG|INFO|SUCCESS|WARNING|ERROR|CRITICAL)
+LOGURUFUNCTION=(?:<[a-z]+>|[0-9A-Za-z_]+)
+LOGURULOG=%{TIMESTAMP_ISO8601:timestamp} \| %{LOGURULEVEL:level} +\| %{PYTHONLOGGER:name}:%{LOGURUFUNCTION:function}:%{NONNEGINT:line:int} - %{GREEDYDATA:message}
+
+# Serilog's files (the documentation of Serilog.Sinks.File, outputTemplate): '{Timestamp} [{Level:u3}] {Message:lj}'.
+SERILOGLEVEL=(?:VRB|DBG|INF|WRN|ERR|FTL)
+SERILOG=%{TIMESTAMP_ISO8601:timestamp} \[%{SERILOGLEVEL:level}\] %{GREEDYDATA:message}
 "##;

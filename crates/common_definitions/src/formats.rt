@@ -13,7 +13,7 @@ pub struct LineFormat {
 }
 
 /// The formats of lines. Of several names for one format, one is here.
-static LINE_FORMATS: [LineFormat; 76] = [
+static LINE_FORMATS: [LineFormat; 80] = [
     LineFormat {
         name: "SYSLOGLINE",
         needs: Some(
@@ -159,6 +159,11 @@ static LINE_FORMATS: [LineFormat; 76] = [
         example: "2026-03-07\t04:05:06\tLAX1\t392\t192.0.2.17\tGET\td111111abcdef8.cloudfront.net\t/index.html\t200\t-\tcurl/8.5.0\t-\t-\tHit\tSOX4xwn4XV6Q4rgb7XiVGOHms_BGlTAC4KyHmureZmBNrjGdRLiNIQ==\td111111abcdef8.cloudfront.net\thttps\t23\t0.001\t-\tTLSv1.2\tECDHE-RSA-AES128-GCM-SHA256\tHit",
     },
     LineFormat {
+        name: "VPC_FLOW_LOG",
+        needs: None,
+        example: "2 123456789012 eni-1235b8ca123456789 192.0.2.17 198.51.100.4 51234 443 6 20 4249 1772856306 1772856366 ACCEPT OK",
+    },
+    LineFormat {
         name: "CISCOLINE",
         needs: None,
         example: "<166>Mar  7 2026 04:05:06 fw1 : %ASA-6-302013: Built outbound TCP connection 17 for outside:203.0.113.9/443 (203.0.113.9/443) to inside:192.0.2.17/51234 (198.51.100.7/51234)",
@@ -284,6 +289,11 @@ static LINE_FORMATS: [LineFormat; 76] = [
         example: "2026-03-07T04:05:06.123+01:00  INFO 2201 --- [           main] o.a.c.c.C.[Tomcat].[localhost].[/]       : Initializing Spring embedded WebApplicationContext",
     },
     LineFormat {
+        name: "JVMLOG",
+        needs: None,
+        example: "[0.123s][info][gc,start    ] GC(0) Pause Young (Normal) (G1 Evacuation Pause)",
+    },
+    LineFormat {
         name: "ELASTICSEARCHLOG",
         needs: None,
         example: "[2026-03-07T04:05:06,123][INFO ][o.e.n.Node               ] [node-1] started",
@@ -344,6 +354,11 @@ static LINE_FORMATS: [LineFormat; 76] = [
         example: "2026-03-07 04:05:06,618 - payments - DEBUG - accepted",
     },
     LineFormat {
+        name: "LOGURULOG",
+        needs: None,
+        example: "2026-03-07 04:05:06.123 | INFO     | __main__:<module>:3 - accepted",
+    },
+    LineFormat {
         name: "GUNICORNLOG",
         needs: None,
         example: "[2026-03-07 04:05:06 +0000] [2201] [INFO] Listening at: http://127.0.0.1:8000 (2201)",
@@ -372,6 +387,11 @@ static LINE_FORMATS: [LineFormat; 76] = [
         name: "RUBY_LOGGER",
         needs: None,
         example: "I, [2026-03-07T04:05:06.123456 #2201]  INFO -- worker: started",
+    },
+    LineFormat {
+        name: "SERILOG",
+        needs: None,
+        example: "2026-03-07 04:05:06.123 +01:00 [INF] Now listening on: http://127.0.0.1:5000",
     },
     LineFormat {
         name: "PHPERRORLOG",

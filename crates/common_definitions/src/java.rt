@@ -49,4 +49,9 @@ JENKINSLOG=%{TIMESTAMP_ISO8601:timestamp} \[id=%{NONNEGINT:id:int}\]\t%{LOGLEVEL
 # The server of Minecraft (its configuration of log4j): '[%d{HH:mm:ss}] [%t/%level]: %msg'. Forge writes the logger before the colon.
 MINECRAFTTHREAD=[^\[\]]+
 MINECRAFTLOG=\[%{TIME:timestamp}\] \[%{MINECRAFTTHREAD:thread}/%{LOGLEVEL:level}\](?: \[%{MINECRAFTTHREAD:logger}\])?: %{GREEDYDATA:message}
+
+# The JVM's own log (JEP 158, "Unified JVM Logging", and the option -Xlog of java): with its default decorations, uptime, level and tags,
+# and also with the time before them.
+JVMTAGS=[a-z]+(?:,[a-z]+)*
+JVMLOG=(?:\[%{TIMESTAMP_ISO8601:timestamp}\])?\[%{NUMBER:uptime:float}s\]\[%{LOGLEVEL:level} *\]\[%{JVMTAGS:tags} *\] %{GREEDYDATA:message}
 "##;
