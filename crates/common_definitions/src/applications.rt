@@ -1,4 +1,4 @@
-//! The logs of programs in Go, Python and Ruby, of Kubernetes, and in the form of logfmt.
+//! The logs of programs in Go, PHP, Python, Ruby, .NET and Erlang, of Kubernetes, and in the form of logfmt.
 
 pub const APPLICATIONS: &str = r##"
 # klog, which Kubernetes uses, and glog: Lmmdd hh:mm:ss.uuuuuu threadid file:line] message (the comment of klog.go). The

@@ -1,4 +1,5 @@
-//! The logs of Java: stack traces, Tomcat, and the usual layouts of log4j, Logback and Spring Boot.
+//! The logs of Java: stack traces, Tomcat, the usual layouts of log4j, Logback and Spring Boot, the JVM, and programs such as
+//! Elasticsearch and Kafka.
 
 pub const JAVA: &str = r##"
 # Names and stack traces (java.lang.StackTraceElement.toString).
