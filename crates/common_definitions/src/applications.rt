@@ -64,14 +64,15 @@ PHPFPMLEVEL=(?:DEBUG|NOTICE|WARNING|ERROR|ALERT)
 PHPFPMPOOL=[^\s\[\]]+
 PHPFPMLOG=\[%{PHPDATE:timestamp}\] %{PHPFPMLEVEL:level}: (?:\[pool %{PHPFPMPOOL:pool}\] )?%{GREEDYDATA:message}
 
-# Monolog's class LineFormatter, which Symfony and Laravel use: '[%datetime%] %channel%.%level_name%: %message% %context% %extra%'. The
-# context and the extra data are JSON. They have no key if they are empty, and Laravel leaves them out then.
+# Monolog's class LineFormatter, which Symfony and Laravel use: '[%datetime%] %channel%.%level_name%: %message% %context% %extra%'.
+# The context and the extra data are JSON. They have no key if they are empty, and Laravel leaves them out then.
 MONOLOGCHANNEL=[0-9A-Za-z_.-]+
 MONOLOGLEVEL=(?:DEBUG|INFO|NOTICE|WARNING|ERROR|CRITICAL|ALERT|EMERGENCY)
 MONOLOGJSON=(?:\{".+?\}|\[[^\[\]]+\])
 MONOLOGLOG=\[%{TIMESTAMP_ISO8601:timestamp}\] %{MONOLOGCHANNEL:channel}\.%{MONOLOGLEVEL:level}: %{DATA:message}(?: (?:\[\]|%{MONOLOGJSON:context}))?(?: (?:\[\]|%{MONOLOGJSON:extra}))? *(?m:$)
 
-# Celery's worker (its documentation, worker_log_format and worker_task_log_format): a task's own messages have its name and identifier.
+# Celery's worker (its documentation, worker_log_format and worker_task_log_format). Messages of a task itself have its name and
+# identifier.
 CELERYNAME=[^\s\[\]]+
 CELERYTASK=%{CELERYNAME:task_name}\[%{UUID:task_id}\]
 CELERYLOG=\[%{TIMESTAMP_ISO8601:timestamp}: %{PYTHONLEVEL:level}/%{CELERYNAME:process}\] (?:%{CELERYTASK}: )?%{GREEDYDATA:message}

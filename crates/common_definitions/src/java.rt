@@ -36,8 +36,8 @@ ELASTICSEARCHLOG=\[%{TIMESTAMP_ISO8601:timestamp}\]\[%{LOGLEVEL:level} *\]\[%{EL
 KAFKALOGGER=%{JAVANAME}(?:\.%{JAVANAME})+
 KAFKALOG=\[%{TIMESTAMP_ISO8601:timestamp}\] %{LOGLEVEL:level} %{GREEDYDATA:message} \(%{KAFKALOGGER:logger}(?::%{NONNEGINT:line:int})?\)
 
-# ZooKeeper (its conf/log4j.properties and conf/logback.xml): '%d{ISO8601} [myid:%X{myid}] - %-5p [%t:%C{1}@%L] - %m'. A server alone
-# has no myid.
+# ZooKeeper (its conf/log4j.properties and conf/logback.xml): '%d{ISO8601} [myid:%X{myid}] - %-5p [%t:%C{1}@%L] - %m'. A server
+# alone has no myid.
 ZOOKEEPERLOG=%{TIMESTAMP_ISO8601:timestamp} \[myid:%{NONNEGINT:myid:int}?\] - %{LOGLEVEL:level} +\[%{DATA:thread}:%{JAVACLASS:class}@%{NONNEGINT:line:int}\] - %{GREEDYDATA:message}
 
 # Cassandra (its conf/logback.xml): '%-5level [%thread] %date{ISO8601} %F:%L - %msg'.
@@ -51,8 +51,8 @@ JENKINSLOG=%{TIMESTAMP_ISO8601:timestamp} \[id=%{NONNEGINT:id:int}\]\t%{LOGLEVEL
 MINECRAFTTHREAD=[^\[\]]+
 MINECRAFTLOG=\[%{TIME:timestamp}\] \[%{MINECRAFTTHREAD:thread}/%{LOGLEVEL:level}\](?: \[%{MINECRAFTTHREAD:logger}\])?: %{GREEDYDATA:message}
 
-# The JVM's own log (JEP 158, "Unified JVM Logging", and the option -Xlog of java): with its default decorations, uptime, level and tags,
-# and also with the time before them.
+# The JVM's own log (JEP 158, "Unified JVM Logging", and the option -Xlog of java): with its default decorations, uptime, level and
+# tags, and also with the time before them.
 JVMTAGS=[a-z]+(?:,[a-z]+)*
 JVMLOG=(?:\[%{TIMESTAMP_ISO8601:timestamp}\])?\[%{NUMBER:uptime:float}s\]\[%{LOGLEVEL:level} *\]\[%{JVMTAGS:tags} *\] %{GREEDYDATA:message}
 "##;

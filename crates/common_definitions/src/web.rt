@@ -75,8 +75,8 @@ SQUID3=%{NUMBER:timestamp:float} +%{INT:duration:int} %{IPORHOST:client_address}
 # requests since the start, the router, the server's URL and the duration. A router or a server that is `-` has no key.
 TRAEFIKACCESS=%{HTTPD_COMBINEDLOG} %{NONNEGINT:request_count:int} "(?:-|%{INQUOTES:router_name})" "(?:-|%{INQUOTES:service_url})" %{NONNEGINT:duration_ms:int}ms
 
-# The log of IIS in the W3C extended format, with the fields that are chosen by default, in their order (IIS's documentation, "W3C
-# Logging"). IIS 7 has no cs(Referer). A field that is `-` has no key.
+# The log of IIS in the W3C extended format, with the fields that are chosen by default, in their order (IIS's "Configuration
+# Reference", logExtFileFlags of logFile). IIS 7 has no cs(Referer). A field that is `-` has no key.
 IISREQUEST=%{IP:s_ip} %{HTTPMETHOD:cs_method} %{NOTSPACE:cs_uri_stem} (?:-|%{NOTSPACE:cs_uri_query}) %{PORT:s_port:int} (?:-|%{NOTSPACE:cs_username}) %{IP:c_ip}
 IISRESULT=%{HTTPSTATUS:sc_status:int} %{NONNEGINT:sc_substatus:int} %{NONNEGINT:sc_win32_status:int} %{NONNEGINT:time_taken:int}
 IISACCESS=%{TIMESTAMP_ISO8601:timestamp} %{IISREQUEST} (?:-|%{NOTSPACE:cs_user_agent})(?: (?:-|%{NOTSPACE:cs_referer}))? %{IISRESULT}
