@@ -299,8 +299,8 @@ CASES = [
          rows((4, 5, "groklog '^%{SYSLOGLINE}$' log"), (2, 10, "groklog '^%{PAMLINE}$' log"))
          + "these patterns match 4 of 4 lines (2 + 2):\ngroklog -e '^%{PAMLINE}$' -e '^%{SYSLOGLINE}$' log\n"),
     Case("a level after a slash", "what is before it is the thread",
-         "[06:25:01] [Server thread/INFO]: bob joined\n[06:25:02] [Worker-1/WARN]: can't keep up\n[06:25:03] [Chat Thread - #1/INFO]: hello\n",
-         proposal(3, r"groklog '^\[%{TIME:timestamp}\] \[%{DATA:thread}/%{LOGLEVEL:level}\]: %{GREEDYDATA:message}$' log")),
+         "06:25:01 [Server thread/INFO]: bob joined\n06:25:02 [Worker-1/WARN]: can't keep up\n06:25:03 [Chat Thread - #1/INFO]: hello\n",
+         proposal(3, r"groklog '^%{TIME:timestamp} \[%{DATA:thread}/%{LOGLEVEL:level}\]: %{GREEDYDATA:message}$' log")),
     Case("a level after a dot", "what is before it is the channel",
          "[06:25:01] app.INFO: bob joined 1\n[06:25:02] security.DEBUG: 2\n[06:25:03] php.WARNING: a b c\n",
          proposal(3, r"groklog '^\[%{TIME:timestamp}\] %{WORD:channel}\.%{LOGLEVEL:level}: %{GREEDYDATA:message}$' log")),

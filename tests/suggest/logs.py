@@ -95,7 +95,7 @@ def web(rng):
     user = rng.choice(["-", "-", word(rng)])
     agent = rng.choice(["Mozilla/5.0+(Windows+NT+10.0)", "curl/8.5.0", "-"])
     return (f"2026-03-07 {clock(rng)} 10.0.0.7 {rng.choice(['GET', 'POST', 'HEAD'])} /{word(rng)}/{word(rng)} {query} 443 {user} "
-            f"{address(rng)} {agent} - {rng.choice([200, 304, 404, 500])} 0 0 {rng.randint(1, 9000)}")
+            f"{address(rng)} {agent} - {rng.choice([200, 304, 404, 500])} {rng.randint(1, 9000)}")
 
 
 def servicing(rng):
@@ -118,7 +118,7 @@ def balancer(rng):
     host = rng.choice([address(rng), address(rng), "2001:db8::5"])
     return (f"{host} - {rng.choice(['-', word(rng)])} [07/Mar/2026:{clock(rng)} +0000] \"GET /{word(rng)} HTTP/1.1\" "
             f"{rng.choice([200, 404])} {rng.randint(0, 9999)} \"-\" \"{rng.choice(['curl/8.5.0', 'Mozilla/5.0 (X11; Linux)'])}\" "
-            f"{rng.randint(1, 9999)} \"{word(rng)}@docker\" \"http://{address(rng)}:80\" {rng.randint(0, 900)}ms")
+            f"{rng.randint(1, 9999)} {rng.randint(0, 900)}ms \"{word(rng)}@docker\" \"http://{address(rng)}:80\"")
 
 
 def traces(rng):

@@ -1,4 +1,4 @@
-//! The access logs of Amazon Web Services.
+//! The access logs of Amazon Web Services, and its flow logs.
 
 pub const CLOUD: &str = r##"
 # Server access logs of Amazon S3 (its User Guide, "Amazon S3 server access log format"). A field that is `-` has no key.
@@ -37,4 +37,12 @@ CLOUDFRONT_HEADERS=(?:-|%{CLOUDFRONT_FIELD:referrer})\t(?:-|%{CLOUDFRONT_FIELD:a
 CLOUDFRONT_RESULT=%{CLOUDFRONT_FIELD:x_edge_result_type}\t%{CLOUDFRONT_FIELD:x_edge_request_id}\t%{CLOUDFRONT_FIELD:x_host_header}\t%{CLOUDFRONT_FIELD:cs_protocol}\t(?:-|%{NONNEGINT:cs_bytes:int})\t(?:-|%{NUMBER:time_taken:float})
 CLOUDFRONT_SECURITY=(?:-|%{CLOUDFRONT_FIELD:x_forwarded_for})\t(?:-|%{CLOUDFRONT_FIELD:ssl_protocol})\t(?:-|%{CLOUDFRONT_FIELD:ssl_cipher})\t%{CLOUDFRONT_FIELD:x_edge_response_result_type}
 CLOUDFRONT_ACCESS_LOG=%{CLOUDFRONT_TIME:timestamp}\t%{CLOUDFRONT_FIELD:x_edge_location}\t%{CLOUDFRONT_REQUEST}\t%{CLOUDFRONT_HEADERS}\t%{CLOUDFRONT_RESULT}\t%{CLOUDFRONT_SECURITY}(?:\t%{GREEDYDATA:more})?
+
+# Flow logs of Amazon VPC in their default format ("Flow log records"). A field that is `-` has no key. `start` and `end` are seconds
+# since 1970.
+VPCFLOWINTERFACE=eni-[0-9a-f]+
+VPCFLOWACTION=(?:ACCEPT|REJECT)
+VPCFLOWSTATUS=(?:OK|NODATA|SKIPDATA)
+VPCFLOWENDS=(?:-|%{IP:srcaddr}) (?:-|%{IP:dstaddr}) (?:-|%{PORT:srcport:int}) (?:-|%{PORT:dstport:int}) (?:-|%{NONNEGINT:protocol:int}) (?:-|%{NONNEGINT:packets:int}) (?:-|%{NONNEGINT:bytes:int})
+VPC_FLOW_LOG=%{NONNEGINT:version:int} %{NOTSPACE:account_id} %{VPCFLOWINTERFACE:interface_id} %{VPCFLOWENDS} %{NONNEGINT:start:int} %{NONNEGINT:end:int} (?:-|%{VPCFLOWACTION:action}) %{VPCFLOWSTATUS:log_status}
 "##;

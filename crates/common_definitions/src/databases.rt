@@ -35,4 +35,25 @@ MONGO3_SEVERITY=(?:[FEWI]|D[1-5]?)
 MONGO3_COMPONENT=(?:-|[A-Z_]+)
 MONGO3_CONTEXT=[^\]]*
 MONGO3_LOG=%{TIMESTAMP_ISO8601:timestamp} %{MONGO3_SEVERITY:severity} +%{MONGO3_COMPONENT:component} +(?:\[%{MONGO3_CONTEXT:context}\] +)?%{GREEDYDATA:message}
+
+# The error log of MariaDB (its documentation, "Error Log"), with the time, the thread and the level. An hour of one digit has a
+# blank before it.
+MARIADBTIME=%{DATE_ISO8601} +%{TIME}
+MARIADBLEVEL=(?:Note|Warning|ERROR)
+MARIADBERROR=%{MARIADBTIME:timestamp} %{NONNEGINT:thread:int} \[%{MARIADBLEVEL:level}\] %{GREEDYDATA:message}
+
+# The log of PgBouncer (its source, log_socket_prefix, and lib/usual/logging.c of libusual). Messages on a client (C) or a server (S)
+# have the database, the user and the address. A client of a Unix socket has its process in the place of the address.
+PGBOUNCERLEVEL=(?:NOISE|DEBUG|LOG|WARNING|ERROR|FATAL)
+PGBOUNCERSOCKET=[CS]-0x[0-9a-f]+
+PGBOUNCERNAME=[^\s/@]+
+PGBOUNCERHOST=(?:%{IPV4}|\[%{IPV6}\]|unix\([0-9]+\))
+PGBOUNCERPEER=%{PGBOUNCERSOCKET:socket}: %{PGBOUNCERNAME:database}/%{PGBOUNCERNAME:user}@%{PGBOUNCERHOST:host}:%{PORT:port:int}
+PGBOUNCERLOG=%{POSTGRESQLTIME:timestamp} \[%{NONNEGINT:pid:int}\] %{PGBOUNCERLEVEL:level} (?:%{PGBOUNCERPEER} )?%{GREEDYDATA:message}
+
+# The error log of Microsoft SQL Server, ERRORLOG (its documentation, "View the SQL Server error log"). `process` is what its viewer
+# shows as the source: a session (spid), or a part of the server.
+MSSQLTIME=%{DATE_ISO8601} %{HOUR2}:%{MINUTE}:[0-5][0-9]\.[0-9]{2}
+MSSQLPROCESS=(?:spid[0-9]+s?|Server|Logon|Backup)
+MSSQLLOG=%{MSSQLTIME:timestamp} %{MSSQLPROCESS:process}  +%{GREEDYDATA:message}
 "##;

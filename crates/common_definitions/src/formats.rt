@@ -13,7 +13,7 @@ pub struct LineFormat {
 }
 
 /// The formats of lines. Of several names for one format, one is here.
-static LINE_FORMATS: [LineFormat; 55] = [
+static LINE_FORMATS: [LineFormat; 80] = [
     LineFormat {
         name: "SYSLOGLINE",
         needs: Some(
@@ -119,6 +119,26 @@ static LINE_FORMATS: [LineFormat; 55] = [
         example: "1772856306.123    217 192.0.2.17 TCP_MISS/200 3456 GET http://www.example.com/ alice HIER_DIRECT/198.51.100.4 text/html",
     },
     LineFormat {
+        name: "TRAEFIKACCESS",
+        needs: None,
+        example: r#"192.0.2.17 - alice [07/Mar/2026:04:05:06 +0000] "GET /a?b=c HTTP/2.0" 200 2326 "https://www.example.com/" "curl/8.5.0" 82 "web@docker" "http://198.51.100.4:80" 14ms"#,
+    },
+    LineFormat {
+        name: "IISACCESS",
+        needs: None,
+        example: "2026-03-07 04:05:06 198.51.100.4 GET /app/default.htm id=7 443 alice 192.0.2.17 Mozilla/5.0+(Windows+NT+10.0;+Win64;+x64) https://www.example.com/ 200 0 0 17",
+    },
+    LineFormat {
+        name: "ENVOYACCESS",
+        needs: None,
+        example: r#"[2026-03-07T04:05:06.123Z] "GET /a?b=c HTTP/1.1" 200 - 0 512 6 4 "192.0.2.17" "curl/8.5.0" "4b0a2c3d-0000-4000-8000-012345678901" "www.example.com" "198.51.100.4:80""#,
+    },
+    LineFormat {
+        name: "UWSGILOG",
+        needs: None,
+        example: "[pid: 2201|app: 0|req: 7/12] 192.0.2.17 (alice) {41 vars in 671 bytes} [Sat Mar  7 04:05:06 2026] GET /a?b=c => generated 21 bytes in 3 msecs (HTTP/1.1 200) 2 headers in 71 bytes (1 switches on core 0)",
+    },
+    LineFormat {
         name: "S3_ACCESS_LOG",
         needs: None,
         example: r#"79a59df900b949e5 DOC-EXAMPLE-BUCKET1 [07/Mar/2026:04:05:06 +0000] 192.0.2.17 79a59df900b949e5 3E57427F3EXAMPLE REST.GET.OBJECT a.txt "GET /a.txt HTTP/1.1" 200 - 113 2662992 70 10 "-" "curl/8.5.0" -"#,
@@ -137,6 +157,11 @@ static LINE_FORMATS: [LineFormat; 55] = [
         name: "CLOUDFRONT_ACCESS_LOG",
         needs: None,
         example: "2026-03-07\t04:05:06\tLAX1\t392\t192.0.2.17\tGET\td111111abcdef8.cloudfront.net\t/index.html\t200\t-\tcurl/8.5.0\t-\t-\tHit\tSOX4xwn4XV6Q4rgb7XiVGOHms_BGlTAC4KyHmureZmBNrjGdRLiNIQ==\td111111abcdef8.cloudfront.net\thttps\t23\t0.001\t-\tTLSv1.2\tECDHE-RSA-AES128-GCM-SHA256\tHit",
+    },
+    LineFormat {
+        name: "VPC_FLOW_LOG",
+        needs: None,
+        example: "2 123456789012 eni-1235b8ca123456789 192.0.2.17 198.51.100.4 51234 443 6 20 4249 1772856306 1772856366 ACCEPT OK",
     },
     LineFormat {
         name: "CISCOLINE",
@@ -199,9 +224,19 @@ static LINE_FORMATS: [LineFormat; 55] = [
         example: r#"2026-03-07 04:05:06.123 UTC [2201] app@orders ERROR:  duplicate key value violates unique constraint "orders_pkey""#,
     },
     LineFormat {
+        name: "PGBOUNCERLOG",
+        needs: None,
+        example: "2026-03-07 04:05:06.123 UTC [2201] LOG C-0x55d3ad8a6a70: orders/app@192.0.2.17:51234 login attempt: db=orders user=app tls=no",
+    },
+    LineFormat {
         name: "MYSQLERROR",
         needs: None,
         example: "2026-03-07T04:05:06.123456Z 8 [Warning] [MY-010055] [Server] IP address '192.0.2.5' could not be resolved",
+    },
+    LineFormat {
+        name: "MARIADBERROR",
+        needs: None,
+        example: "2026-03-07  4:05:06 12 [Warning] Aborted connection 12 to db: 'orders' user: 'app' host: '192.0.2.7' (Got timeout reading communication packets)",
     },
     LineFormat {
         name: "REDISLOG",
@@ -222,6 +257,11 @@ static LINE_FORMATS: [LineFormat; 55] = [
         name: "MONGO3_LOG",
         needs: None,
         example: "2026-03-07T04:05:06.123+0100 I NETWORK  [listener] connection accepted from 192.0.2.17:60866 #17 (1 connection now open)",
+    },
+    LineFormat {
+        name: "MSSQLLOG",
+        needs: None,
+        example: "2026-03-07 04:05:06.12 spid51      Starting up database 'orders'.",
     },
     LineFormat {
         name: "CATALINALOG",
@@ -247,6 +287,41 @@ static LINE_FORMATS: [LineFormat; 55] = [
         name: "SPRINGBOOTLOG",
         needs: None,
         example: "2026-03-07T04:05:06.123+01:00  INFO 2201 --- [           main] o.a.c.c.C.[Tomcat].[localhost].[/]       : Initializing Spring embedded WebApplicationContext",
+    },
+    LineFormat {
+        name: "JVMLOG",
+        needs: None,
+        example: "[0.123s][info][gc,start    ] GC(0) Pause Young (Normal) (G1 Evacuation Pause)",
+    },
+    LineFormat {
+        name: "ELASTICSEARCHLOG",
+        needs: None,
+        example: "[2026-03-07T04:05:06,123][INFO ][o.e.n.Node               ] [node-1] started",
+    },
+    LineFormat {
+        name: "KAFKALOG",
+        needs: None,
+        example: "[2026-03-07 04:05:06,123] INFO [KafkaServer id=1] started (kafka.server.KafkaServer)",
+    },
+    LineFormat {
+        name: "ZOOKEEPERLOG",
+        needs: None,
+        example: "2026-03-07 04:05:06,123 [myid:1] - INFO  [main:QuorumPeerConfig@169] - Reading configuration from: /etc/zookeeper/conf/zoo.cfg",
+    },
+    LineFormat {
+        name: "CASSANDRALOG",
+        needs: None,
+        example: "INFO  [main] 2026-03-07 04:05:06,123 StorageService.java:650 - Cassandra version: 4.1.3",
+    },
+    LineFormat {
+        name: "JENKINSLOG",
+        needs: None,
+        example: "2026-03-07 04:05:06.123+0000 [id=28]\tINFO\thudson.WebAppMain$3#run: Jenkins is fully up and running",
+    },
+    LineFormat {
+        name: "MINECRAFTLOG",
+        needs: None,
+        example: r#"[04:05:06] [Server thread/INFO]: Done (5.123s)! For help, type "help""#,
     },
     LineFormat {
         name: "KLOG",
@@ -279,9 +354,29 @@ static LINE_FORMATS: [LineFormat; 55] = [
         example: "2026-03-07 04:05:06,618 - payments - DEBUG - accepted",
     },
     LineFormat {
+        name: "LOGURULOG",
+        needs: None,
+        example: "2026-03-07 04:05:06.123 | INFO     | __main__:<module>:3 - accepted",
+    },
+    LineFormat {
         name: "GUNICORNLOG",
         needs: None,
         example: "[2026-03-07 04:05:06 +0000] [2201] [INFO] Listening at: http://127.0.0.1:8000 (2201)",
+    },
+    LineFormat {
+        name: "CELERYLOG",
+        needs: None,
+        example: "[2026-03-07 04:05:06,123: INFO/MainProcess] Connected to amqp://guest@198.51.100.4:5672//",
+    },
+    LineFormat {
+        name: "AIRFLOWLOG",
+        needs: None,
+        example: "[2026-03-07T04:05:06.123+0000] {taskinstance.py:1730} INFO - Marking task as SUCCESS",
+    },
+    LineFormat {
+        name: "HOMEASSISTANTLOG",
+        needs: None,
+        example: "2026-03-07 04:05:06.123 INFO (MainThread) [homeassistant.core] Starting Home Assistant",
     },
     LineFormat {
         name: "RAILS3",
@@ -292,6 +387,36 @@ static LINE_FORMATS: [LineFormat; 55] = [
         name: "RUBY_LOGGER",
         needs: None,
         example: "I, [2026-03-07T04:05:06.123456 #2201]  INFO -- worker: started",
+    },
+    LineFormat {
+        name: "SERILOG",
+        needs: None,
+        example: "2026-03-07 04:05:06.123 +01:00 [INF] Now listening on: http://127.0.0.1:5000",
+    },
+    LineFormat {
+        name: "PHPERRORLOG",
+        needs: None,
+        example: "[07-Mar-2026 04:05:06 UTC] PHP Warning:  Undefined variable $a in /srv/www/index.php on line 12",
+    },
+    LineFormat {
+        name: "PHPFPMLOG",
+        needs: None,
+        example: "[07-Mar-2026 04:05:06] NOTICE: fpm is running, pid 2201",
+    },
+    LineFormat {
+        name: "MONOLOGLOG",
+        needs: None,
+        example: r#"[2026-03-07T04:05:06.123456+00:00] security.DEBUG: Checking for authenticator support. {"authenticators":3} []"#,
+    },
+    LineFormat {
+        name: "HCLOG",
+        needs: None,
+        example: "2026-03-07T04:05:06.123Z [INFO]  agent: Synced node info",
+    },
+    LineFormat {
+        name: "RABBITMQLOG",
+        needs: None,
+        example: "2026-03-07 04:05:06.123456+00:00 [info] <0.684.0> accepting AMQP connection <0.684.0> (192.0.2.17:51234 -> 198.51.100.4:5672)",
     },
 ];
 

@@ -70,4 +70,30 @@ HAPROXYTCP=%{SYSLOGBASE} %{HAPROXYTCPBASE}
 SQUID3STATUS=[0-9]{3}
 SQUID3RESULT=[A-Z_]+
 SQUID3=%{NUMBER:timestamp:float} +%{INT:duration:int} %{IPORHOST:client_address} %{SQUID3RESULT:cache_result}/%{SQUID3STATUS:status_code:int} %{NONNEGINT:bytes:int} %{HTTPMETHOD:request_method} %{NOTSPACE:url} (?:-|%{NOTSPACE:user}) %{SQUID3RESULT:hierarchy_code}/(?:-|%{NOTSPACE:server}) (?:-|%{NOTSPACE:content_type})
+
+# The access log of Traefik in its format `common` (its documentation, "Access Logs"): the combined format, and then the number of
+# requests since the start, the router, the server's URL and the duration. A router or a server that is `-` has no key.
+TRAEFIKACCESS=%{HTTPD_COMBINEDLOG} %{NONNEGINT:request_count:int} "(?:-|%{INQUOTES:router_name})" "(?:-|%{INQUOTES:service_url})" %{NONNEGINT:duration_ms:int}ms
+
+# The log of IIS in the W3C extended format, with the fields that are chosen by default, in their order (IIS's "Configuration
+# Reference", logExtFileFlags of logFile). IIS 7 has no cs(Referer). A field that is `-` has no key.
+IISREQUEST=%{IP:s_ip} %{HTTPMETHOD:cs_method} %{NOTSPACE:cs_uri_stem} (?:-|%{NOTSPACE:cs_uri_query}) %{PORT:s_port:int} (?:-|%{NOTSPACE:cs_username}) %{IP:c_ip}
+IISRESULT=%{HTTPSTATUS:sc_status:int} %{NONNEGINT:sc_substatus:int} %{NONNEGINT:sc_win32_status:int} %{NONNEGINT:time_taken:int}
+IISACCESS=%{TIMESTAMP_ISO8601:timestamp} %{IISREQUEST} (?:-|%{NOTSPACE:cs_user_agent})(?: (?:-|%{NOTSPACE:cs_referer}))? %{IISRESULT}
+
+# The access log of Envoy in its default format (its documentation, "Access logging", "Default format string"). A value that is `-`
+# has no key. A connection of TCP has no request, and its status is 0.
+ENVOYREQUEST=(?:-|%{HTTPMETHOD:method}) (?:-|%{NOTSPACE:path}) (?:-|%{NOTSPACE:protocol})
+ENVOYRESULT=%{NONNEGINT:response_code:int} (?:-|%{NOTSPACE:response_flags}) %{NONNEGINT:bytes_received:int} %{NONNEGINT:bytes_sent:int} %{NONNEGINT:duration:int} (?:-|%{NONNEGINT:upstream_service_time:int})
+ENVOYHEADERS="(?:-|%{INQUOTES:x_forwarded_for})" "(?:-|%{INQUOTES:user_agent})" "(?:-|%{INQUOTES:request_id})" "(?:-|%{INQUOTES:authority})"
+ENVOYACCESS=\[%{TIMESTAMP_ISO8601:timestamp}\] "%{ENVOYREQUEST}" %{ENVOYRESULT} %{ENVOYHEADERS} "(?:-|%{INQUOTES:upstream_host})"
+
+# The log of requests of uWSGI (its documentation, "Formatting uWSGI requests logs", and its source core/logging.c), with the names
+# that it has for its parts. `req` has the requests of the application and of all.
+UWSGIUSER=[^()]+
+UWSGIHEAD=pid: %{NONNEGINT:pid:int}\|app: %{INT:app:int}\|req: %{NONNEGINT:app_requests:int}/%{NONNEGINT:requests:int}
+UWSGIREQUEST=%{IP:addr}? \(%{UWSGIUSER:user}?\) \{%{NONNEGINT:vars:int} vars in %{NONNEGINT:pktsize:int} bytes\} \[%{TIMESTAMP_CTIME:timestamp}\] %{HTTPMETHOD:method} %{NOTSPACE:uri}
+UWSGIRESULT=generated %{NONNEGINT:rsize:int} bytes in %{NONNEGINT:msecs:int} msecs(?: via (?:sendfile|route|offload)\(\))? \(%{NOTSPACE:proto} %{HTTPSTATUS:status:int}\)
+UWSGICOUNTS=%{NONNEGINT:headers:int} headers in %{NONNEGINT:hsize:int} bytes \(%{NONNEGINT:switches:int} switches on core %{NONNEGINT:core:int}\)
+UWSGILOG=\[%{UWSGIHEAD}\] %{UWSGIREQUEST} => %{UWSGIRESULT} %{UWSGICOUNTS}
 "##;
