@@ -11,7 +11,7 @@ POSTGRESQLAPPLICATION=[^,]*
 POSTGRESQL=%{POSTGRESQLTIME:timestamp} \[%{NONNEGINT:pid:int}\]:?(?: \[%{NONNEGINT:line:int}-[0-9]+\])?(?: %{POSTGRESQLCLIENT})? %{POSTGRESQLLEVEL:level}: +%{GREEDYDATA:message}
 
 # The error log of MySQL 8 (its Reference Manual, "Error Log Output Format").
-MYSQLLEVEL=(?:System|Error|Warning|Note)
+MYSQLLEVEL=(?:System|ERROR|Error|Warning|Note)
 MYSQLCODE=MY-[0-9]+
 MYSQLERROR=%{TIMESTAMP_ISO8601:timestamp} %{NONNEGINT:thread:int} \[%{MYSQLLEVEL:level}\] \[%{MYSQLCODE:code}\] \[%{NOTSPACE:subsystem}\] %{GREEDYDATA:message}
 
