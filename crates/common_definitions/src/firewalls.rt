@@ -134,10 +134,11 @@ FAIL2BANACTION=(?:Found|Ban|Unban|Restore Ban|Increase Ban|Ignore)
 FAIL2BANADDRESS=%{FAIL2BANACTION:action} %{IP:ip}(?:(?: -)? %{GREEDYDATA:details})?
 FAIL2BAN=%{TIMESTAMP_ISO8601:timestamp} %{FAIL2BANLOGGER:logger} *\[%{NONNEGINT:pid:int}\]: %{LOGLEVEL:level} +(?:\[%{FAIL2BANJAIL:jail}\] )?(?:%{FAIL2BANADDRESS}|%{GREEDYDATA:message})
 
-# The logs of FortiGate (FortiOS Log Message Reference). `pairs` is what follows the fields that each line has.
+# The logs of FortiGate (FortiOS Log Message Reference). `pairs` is what follows the fields that each line has. `eventtime` stays a text,
+# since it has more digits than many programs keep in a number.
 FORTIGATEVALUE=[^\s"]+
 FORTIGATEHEAD=(?:<%{SYSLOGPRIORITY:syslog_pri:int}>)?date=%{DATE_ISO8601:date} time=%{TIME:time}(?: devname="?%{FORTIGATEVALUE:devname}"? devid="?%{FORTIGATEVALUE:devid}"?)?
-FORTIGATETIME= eventtime=%{NONNEGINT:eventtime:int}(?: tz="?%{FORTIGATEVALUE:tz}"?)?
+FORTIGATETIME= eventtime=%{NONNEGINT:eventtime}(?: tz="?%{FORTIGATEVALUE:tz}"?)?
 FORTIGATEKIND=logid="?%{FORTIGATEVALUE:logid}"? type="?%{FORTIGATEVALUE:type}"? subtype="?%{FORTIGATEVALUE:subtype}"?(?: eventtype="?%{FORTIGATEVALUE:eventtype}"?)? level="?%{LOGLEVEL:level}"?
 FORTIGATE=%{FORTIGATEHEAD}%{FORTIGATETIME}? %{FORTIGATEKIND} (?:vd="?%{FORTIGATEVALUE:vd}"? )?%{LOGFMTPAIRS:pairs}
 

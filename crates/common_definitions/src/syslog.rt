@@ -73,7 +73,7 @@ IPTABLESLINE=%{SYSLOGBASE} (?:\[ *[0-9]+\.[0-9]+\] )?%{DATA:prefix}%{IPTABLES}.*
 # The commands that sudo logs, under the names of the manual (man sudoers, "LOG FORMAT"). `reason` is why a command was refused.
 SUDOREASON=[^;=]+
 SUDOPLACE=(?:HOST=%{NOTSPACE:host} ; )?(?:TTY=%{NOTSPACE:ttyname} ; )?(?:CHROOT=%{DATA:chroot} ; )?PWD=%{DATA:cwd} ;
-SUDOTARGET=USER=%{NOTSPACE:runasuser} ; (?:GROUP=%{NOTSPACE:runasgroup} ; )?(?:TSID=%{NOTSPACE:logid} ; )?(?:ENV=%{DATA:env_vars} ; )?COMMAND=%{GREEDYDATA:command}
+SUDOTARGET=USER=%{NOTSPACE:runasuser} ; (?:GROUP=%{NOTSPACE:runasgroup} ; )?(?:TSID=%{NOTSPACE:logid} ; )?(?:ENV=%{DATA:env_vars}(?: ;)? )?COMMAND=%{GREEDYDATA:command}
 SUDO=%{NOTSPACE:username} : (?:%{SUDOREASON:reason} ; )?%{SUDOPLACE} %{SUDOTARGET}
 SUDOLINE=%{SYSLOGBASE} +%{SUDO}
 
