@@ -94,8 +94,8 @@ BRO_FILES=%{BROFILEHEAD}\t%{BROFILESIZES}\t(?:-|%{NOTSPACE:parent_fuid})\t(?:-|%
 
 # The lines of syslog of Postfix: clients (smtpd), messages in the queue (cleanup, qmgr) and deliveries (smtp, lmtp, local, pipe), under
 # the names that Postfix uses (postconf(5): syslog_name, enable_long_queue_ids, delay_logging_resolution_limit, and its
-# SMTPD_POLICY_README for those of the client). An address that is empty and a relay that is `none` have no key. Any other line of
-# Postfix has a `message`.
+# SMTPD_POLICY_README for those of the client). An address that is empty or `unknown` and a relay that is `none` have no key. Any
+# other line of Postfix has a `message`.
 POSTFIXPROGRAM=postfix[0-9A-Za-z-]*(?:/[0-9A-Za-z-]+)+
 POSTFIXBASE=%{SYSLOGTIME:timestamp} %{SYSLOGHOST:logsource} %{POSTFIXPROGRAM:program}\[%{NONNEGINT:pid:int}\]:
 POSTFIXQUEUEID=(?:[0-9A-F]{6,}|[0-9B-DF-HJ-NP-TV-Zb-df-hj-np-tv-z]{10,})
