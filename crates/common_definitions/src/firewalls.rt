@@ -1,5 +1,5 @@
-//! The logs of firewalls: Cisco ASA and FTD, Juniper (Junos and ScreenOS), Shorewall, FortiGate and PAN-OS, the alerts of Snort and
-//! Suricata, and fail2ban.
+//! The logs of firewalls: Cisco ASA and FTD, Juniper (Junos and ScreenOS), Shorewall, FortiGate, PAN-OS and Windows, the alerts of
+//! Snort and Suricata, and fail2ban.
 
 pub const FIREWALLS: &str = r##"
 # Cisco ASA and FTD ("Cisco Secure Firewall ASA Series Syslog Messages"): the head of a line with the tag of its message, the
@@ -153,4 +153,16 @@ PANOSPOLICY=%{PANOSVALUE:rule}?,%{PANOSVALUE:srcuser}?,%{PANOSVALUE:dstuser}?,%{
 PANOSSESSION=%{NONNEGINT:sessionid:int},%{NONNEGINT:repeatcnt:int},%{PORT:sport:int},%{PORT:dport:int},%{PORT:natsport:int},%{PORT:natdport:int},%{PANOSVALUE:flags}?,%{PANOSVALUE:proto},%{PANOSVALUE:action}
 PANOSCOUNTS=%{NONNEGINT:bytes:int},%{NONNEGINT:bytes_sent:int},%{NONNEGINT:bytes_received:int},%{NONNEGINT:packets:int},%{TIMESTAMP_SLASHES:start},%{NONNEGINT:elapsed:int},%{PANOSVALUE:category}?
 PANOSTRAFFIC=(?:%{SYSLOGBASE2} )?%{PANOSHEAD},%{PANOSADDRESSES},%{PANOSPOLICY},%{PANOSSESSION},%{PANOSCOUNTS}(?:,.*)?
+
+# The log of Windows' firewall, pfirewall.log (Microsoft's documentation, "Interpreting the Windows Firewall log"), under the names of
+# its line `#Fields:`. Newer versions write a process at the end. A field that is `-` has no key.
+WINFIREWALLACTION=(?:ALLOW|DROP|OPEN|CLOSE|OPEN-INBOUND|INFO-EVENTS-LOST)
+WINFIREWALLPROTOCOL=[0-9A-Za-z-]+
+WINFIREWALLADDRESS=[0-9A-Fa-f.:]+
+WINFIREWALLFLAGS=[A-Z]+
+WINFIREWALLPATH=(?:SEND|RECEIVE|FORWARD|UNKNOWN)
+WINFIREWALLENDS=(?:-|%{WINFIREWALLADDRESS:src-ip}) (?:-|%{WINFIREWALLADDRESS:dst-ip}) (?:-|%{PORT:src-port:int}) (?:-|%{PORT:dst-port:int}) (?:-|%{NONNEGINT:size:int})
+WINFIREWALLTCP=(?:-|%{WINFIREWALLFLAGS:tcpflags}) (?:-|%{NONNEGINT:tcpsyn:int}) (?:-|%{NONNEGINT:tcpack:int}) (?:-|%{NONNEGINT:tcpwin:int})
+WINFIREWALLREST=(?:-|%{NONNEGINT:icmptype:int}) (?:-|%{NONNEGINT:icmpcode:int}) (?:-|%{NOTSPACE:info}) (?:-|%{WINFIREWALLPATH:path})(?: (?:-|%{NONNEGINT:pid:int}))?
+WINFIREWALL=%{DATE_ISO8601:date} %{TIME:time} %{WINFIREWALLACTION:action} %{WINFIREWALLPROTOCOL:protocol} %{WINFIREWALLENDS} %{WINFIREWALLTCP} %{WINFIREWALLREST}
 "##;

@@ -13,7 +13,7 @@ pub struct LineFormat {
 }
 
 /// The formats of lines. Of several names for one format, one is here.
-static LINE_FORMATS: [LineFormat; 71] = [
+static LINE_FORMATS: [LineFormat; 72] = [
     LineFormat {
         name: "SYSLOGLINE",
         needs: Some(
@@ -192,6 +192,11 @@ static LINE_FORMATS: [LineFormat; 71] = [
         name: "PANOSTRAFFIC",
         needs: None,
         example: "Mar  7 04:05:06 fw1 1,2026/03/07 04:05:06,001801000001,TRAFFIC,end,2305,2026/03/07 04:05:05,192.0.2.17,203.0.113.9,198.51.100.7,203.0.113.9,allow-web,example\\alice,,ssl,vsys1,trust,untrust,ethernet1/2,ethernet1/1,forward-all,2026/03/07 04:05:06,4711,1,51234,443,40001,443,0x400053,tcp,allow,5120,1024,4096,20,2026/03/07 04:04:51,15,business-and-economy,0",
+    },
+    LineFormat {
+        name: "WINFIREWALL",
+        needs: None,
+        example: "2026-03-07 04:05:06 DROP TCP 203.0.113.9 192.0.2.17 51234 22 60 S 305419896 0 64240 - - - RECEIVE",
     },
     LineFormat {
         name: "BIND9",
