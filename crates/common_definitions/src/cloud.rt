@@ -38,13 +38,12 @@ CLOUDFRONT_RESULT=%{CLOUDFRONT_FIELD:x_edge_result_type}\t%{CLOUDFRONT_FIELD:x_e
 CLOUDFRONT_SECURITY=(?:-|%{CLOUDFRONT_FIELD:x_forwarded_for})\t(?:-|%{CLOUDFRONT_FIELD:ssl_protocol})\t(?:-|%{CLOUDFRONT_FIELD:ssl_cipher})\t%{CLOUDFRONT_FIELD:x_edge_response_result_type}
 CLOUDFRONT_ACCESS_LOG=%{CLOUDFRONT_TIME:timestamp}\t%{CLOUDFRONT_FIELD:x_edge_location}\t%{CLOUDFRONT_REQUEST}\t%{CLOUDFRONT_HEADERS}\t%{CLOUDFRONT_RESULT}\t%{CLOUDFRONT_SECURITY}(?:\t%{GREEDYDATA:more})?
 
-# Flow logs of Amazon VPC in their default format, version 2 (its User Guide, "Flow log records"), under the names of Athena's table.
-# A field that is `-` has no key.
+# Flow logs of Amazon VPC in their default format, version 2 (its User Guide, "Flow log records"). A field that is `-` has no key.
 VPC_FLOW_ACCOUNT=(?:[0-9]{12}|unknown)
 VPC_FLOW_ADDRESS=[0-9A-Fa-f.:]+
 VPC_FLOW_ACTION=(?:ACCEPT|REJECT)
 VPC_FLOW_STATUS=(?:OK|NODATA|SKIPDATA)
 VPC_FLOW_ENDS=(?:-|%{VPC_FLOW_ADDRESS:srcaddr}) (?:-|%{VPC_FLOW_ADDRESS:dstaddr}) (?:-|%{PORT:srcport:int}) (?:-|%{PORT:dstport:int})
 VPC_FLOW_COUNTS=(?:-|%{NONNEGINT:protocol:int}) (?:-|%{NONNEGINT:packets:int}) (?:-|%{NONNEGINT:bytes:int}) %{NONNEGINT:start:int} %{NONNEGINT:end:int}
-VPC_FLOW_LOG=2 %{VPC_FLOW_ACCOUNT:account_id} (?:-|%{NOTSPACE:interface_id}) %{VPC_FLOW_ENDS} %{VPC_FLOW_COUNTS} (?:-|%{VPC_FLOW_ACTION:action}) %{VPC_FLOW_STATUS:log_status}
+VPC_FLOW_LOG=2 %{VPC_FLOW_ACCOUNT:account-id} (?:-|%{NOTSPACE:interface-id}) %{VPC_FLOW_ENDS} %{VPC_FLOW_COUNTS} (?:-|%{VPC_FLOW_ACTION:action}) %{VPC_FLOW_STATUS:log-status}
 "##;
