@@ -1,4 +1,4 @@
-//! The access logs of Amazon Web Services.
+//! The access logs of Amazon Web Services, and the flow logs of its VPC.
 
 pub const CLOUD: &str = r##"
 # Server access logs of Amazon S3 (its User Guide, "Amazon S3 server access log format"). A field that is `-` has no key.
