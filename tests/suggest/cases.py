@@ -34,12 +34,12 @@ def proposal(count, command, of=None, unit="lines", shares=None):
     return f"no definition matches more than half of the {of} {unit}\n{what}:\n{command}\n"
 
 
-FAIL2BAN = """\
-2026-11-28 06:25:05,899 fail2ban.filter         [1234]: INFO    [sshd] Found 192.0.2.10 - 2026-11-28 06:25:05
-2026-11-28 06:25:06,001 fail2ban.actions        [1234]: NOTICE  [sshd] Ban 192.0.2.10
-2026-11-28 06:35:06,120 fail2ban.actions        [1234]: NOTICE  [sshd] Unban 192.0.2.10
-2026-11-28 06:40:11,310 fail2ban.filter         [1234]: INFO    [nginx-http-auth] Found 198.51.100.7 - 2026-11-28 06:40:11
-2026-11-28 06:41:00,002 fail2ban.jail           [1234]: INFO    Jail 'sshd' started
+WATCHDOG = """\
+2026-11-28 06:25:05,899 watchdog.filter         [1234]: INFO    [sshd] Found 192.0.2.10 - 2026-11-28 06:25:05
+2026-11-28 06:25:06,001 watchdog.actions        [1234]: NOTICE  [sshd] Ban 192.0.2.10
+2026-11-28 06:35:06,120 watchdog.actions        [1234]: NOTICE  [sshd] Unban 192.0.2.10
+2026-11-28 06:40:11,310 watchdog.filter         [1234]: INFO    [nginx-http-auth] Found 198.51.100.7 - 2026-11-28 06:40:11
+2026-11-28 06:41:00,002 watchdog.jail           [1234]: INFO    Jail 'sshd' started
 """
 SQUID = "1764311105.12{}    217 192.0.2.17 TCP_MISS/200 3456 GET http://www.example.com/ alice HIER_DIRECT/198.51.100.4 text/html\n"
 KLOG = "I1128 06:25:0{}.123456    2201 controller.go:123] Starting controller {}\n"
@@ -73,7 +73,7 @@ LETTERS = "-D 'A=(?<n>[0-9]+) [ab]' -D 'B=(?<n>[0-9]+) (?<k>[bc])'"
 THREE = "-D 'A=(?<a>[0-9]+) [xy]' -D 'X=(?<a>[0-9]+) (?<x>x)' -D 'Y=(?<a>[0-9]+) (?<y>y)'"
 
 CASES = [
-    Case("a time, a level and no host", "a level after a time isn't a host", FAIL2BAN, proposal(
+    Case("a time, a level and no host", "a level after a time isn't a host", WATCHDOG, proposal(
         5, r"groklog '^%{TIMESTAMP_ISO8601:timestamp} %{NOTSPACE:logger} +\[%{INT:pid:int}\]: %{LOGLEVEL:level} +%{GREEDYDATA:message}$' log")),
     Case("several formats in one log", "one command with a pattern for each, also for the lines of no known format",
          "".join(SQUID.format(n) for n in range(6)) + "".join(KLOG.format(n, n) for n in range(6))
@@ -291,8 +291,8 @@ CASES = [
          "version port bytes action\n2 443 840 ACCEPT\n2 80 12 REJECT\n3 22 9 ACCEPT\n",
          proposal(3, "groklog '^%{INT:version:int} %{INT:port:int} %{INT:bytes:int} %{NOTSPACE:action}$' log", of=4)),
     Case("messages that begin alike after the head of syslog", "a pattern goes on in them",
-         "".join(f"Nov 28 06:25:0{n} web1 slapd[12]: conn={n} {what}\n" for n, what in enumerate(["op=2 UNBIND", "fd=14 closed", "op=0 RESULT"])),
-         rows((3, 6, "groklog '^%{SYSLOGBASE} conn=%{INT:conn:int} %{GREEDYDATA:message}$' log"), (3, 5, "groklog '^%{SYSLOGLINE}$' log"))),
+         "".join(f"Nov 28 06:25:0{n} web1 slapd[12]: link={n} {what}\n" for n, what in enumerate(["op=2 UNBIND", "fd=14 closed", "op=0 RESULT"])),
+         rows((3, 6, "groklog '^%{SYSLOGBASE} link=%{INT:link:int} %{GREEDYDATA:message}$' log"), (3, 5, "groklog '^%{SYSLOGLINE}$' log"))),
     Case("a format that finds more in some lines of another", "one command has both, the one that finds more first",
          "".join(f"Nov 28 06:25:0{n} web1 sshd[12]: pam_unix(sshd:session): session opened for user bob(uid=1001) by (uid=0)\n" for n in (1, 2))
          + "Nov 28 06:25:03 web1 systemd[1]: Started session 3\nNov 28 06:25:04 web1 kernel: eth0 up\n",

@@ -105,7 +105,7 @@ def servicing(rng):
 def packages(rng):
     name = f"{word(rng)}:{rng.choice(['amd64', 'all'])} {rng.randint(0, 9)}.{rng.randint(0, 99)}-{rng.randint(1, 9)}"
     state = rng.choice(["installed", "unpacked", "half-configured"])
-    what = rng.choice([f"status {state} {name}", f"install {name} <none>", f"configure {name} <none>", f"trigproc {name}"])
+    what = rng.choice([f"state {state} {name}", f"fetch {name} <none>", f"register {name} <none>", f"cleanup {name}"])
     return f"2026-03-07 {clock(rng)} {what}"
 
 

@@ -1,4 +1,5 @@
-//! The logs of firewalls: Cisco ASA and FTD, Juniper (Junos and ScreenOS), and Shorewall.
+//! The logs of firewalls: Cisco ASA and FTD, Juniper (Junos and ScreenOS), Shorewall, FortiGate, PAN-OS and Windows, the alerts of
+//! Snort and Suricata, and fail2ban.
 
 pub const FIREWALLS: &str = r##"
 # Cisco ASA and FTD ("Cisco Secure Firewall ASA Series Syslog Messages"): the head of a line with the tag of its message, the
@@ -113,4 +114,55 @@ SHOREWALLDEVICES=IN=%{IPTABLESDEVICE:nf_in_interface}? +OUT=%{IPTABLESDEVICE:nf_
 SHOREWALLIP=SRC=%{IPTABLESADDRESS:nf_src_ip} DST=%{IPTABLESADDRESS:nf_dst_ip} LEN=%{NONNEGINT:nf_len:int} TOS=%{IPTABLESHEX:nf_tos} PREC=%{IPTABLESHEX:nf_prec} TTL=%{NONNEGINT:nf_ttl:int} ID=%{NONNEGINT:nf_id:int}
 SHOREWALLPORTS= SPT=%{NONNEGINT:nf_src_port:int} DPT=%{NONNEGINT:nf_dst_port:int}
 SHOREWALL=%{SYSLOGTIMESTAMP:timestamp} %{SYSLOGHOST:nf_host} kernel:.*Shorewall:%{SHOREWALLNAME:nf_action1}?:%{SHOREWALLNAME:nf_action2}?:.*?%{SHOREWALLDEVICES} .*?%{SHOREWALLIP}.*? PROTO=%{NOTSPACE:nf_protocol}%{SHOREWALLPORTS}?.*
+
+# The alerts of Snort in its format alert_fast (Snort Users Manual, "alert_fast"), and the fast.log of Suricata (Suricata User Guide,
+# "Line based alerts log"). Names of both ends are those of Suricata's EVE. A classification that is `(null)` has no key.
+SNORTTIME=%{MONTHNUM2}/%{MONTHDAY2}(?:/(?:%{YEAR4}|[0-9]{2}))?-%{TIME}
+SNORTACTION=w?Drop
+SNORTCLASS=[^\[\]]+
+SNORTPROTO=[^{}]+
+SNORTRULE=\[\*\*\] \[%{NONNEGINT:gid:int}:%{NONNEGINT:sid:int}:%{NONNEGINT:rev:int}\] "?%{DATA:msg}"? \[\*\*\]
+SNORTRATING=(?:\[Classification: (?:\(null\)|%{SNORTCLASS:classification})\] )?\[Priority: %{NONNEGINT:priority:int}\]
+SNORTENDS=%{IP:src_ip}(?::%{PORT:src_port:int})? -> %{IP:dest_ip}(?::%{PORT:dest_port:int})?
+SNORTALERT=%{SNORTTIME:timestamp} +(?:\[%{SNORTACTION:action}\] )?%{SNORTRULE} %{SNORTRATING} \{%{SNORTPROTO:proto}\} %{SNORTENDS}
+
+# The log of fail2ban (its source fail2ban/server/server.py for the head, filter.py and actions.py for what is done with an address).
+# `details` is the time of what was found, or the rest of the line.
+FAIL2BANLOGGER=fail2ban\.[0-9A-Za-z_.]+
+FAIL2BANJAIL=[^\s\[\]]+
+FAIL2BANACTION=(?:Found|Ban|Unban|Restore Ban|Increase Ban|Ignore)
+FAIL2BANADDRESS=%{FAIL2BANACTION:action} %{IP:ip}(?:(?: -)? %{GREEDYDATA:details})?
+FAIL2BAN=%{TIMESTAMP_ISO8601:timestamp} %{FAIL2BANLOGGER:logger} *\[%{NONNEGINT:pid:int}\]: %{LOGLEVEL:level} +(?:\[%{FAIL2BANJAIL:jail}\] )?(?:%{FAIL2BANADDRESS}|%{GREEDYDATA:message})
+
+# The logs of FortiGate (FortiOS Log Message Reference). `pairs` is what follows the fields that each line has. `eventtime` stays a text,
+# since it has more digits than many programs keep in a number.
+FORTIGATEVALUE=[^\s"]+
+FORTIGATEHEAD=(?:<%{SYSLOGPRIORITY:syslog_pri:int}>)?date=%{DATE_ISO8601:date} time=%{TIME:time}(?: devname="?%{FORTIGATEVALUE:devname}"? devid="?%{FORTIGATEVALUE:devid}"?)?
+FORTIGATETIME= eventtime=%{NONNEGINT:eventtime}(?: tz="?%{FORTIGATEVALUE:tz}"?)?
+FORTIGATEKIND=logid="?%{FORTIGATEVALUE:logid}"? type="?%{FORTIGATEVALUE:type}"? subtype="?%{FORTIGATEVALUE:subtype}"?(?: eventtype="?%{FORTIGATEVALUE:eventtype}"?)? level="?%{LOGLEVEL:level}"?
+FORTIGATE=%{FORTIGATEHEAD}%{FORTIGATETIME}? %{FORTIGATEKIND} (?:vd="?%{FORTIGATEVALUE:vd}"? )?%{LOGFMTPAIRS:pairs}
+
+# The traffic log of Palo Alto's PAN-OS (PAN-OS Administrator's Guide, "Traffic Log Fields") up to the category, in a line of syslog
+# or alone. A field that is empty has no key.
+PANOSVALUE=(?:"(?:[^"]|"")*"|[^,"]+)
+PANOSSUBTYPE=(?:start|end|drop|deny)
+PANOSADDRESS=[0-9A-Fa-f.:]+
+PANOSHEAD=1,%{TIMESTAMP_SLASHES:receive_time},%{PANOSVALUE:serial}?,TRAFFIC,%{PANOSSUBTYPE:subtype},[0-9]*,%{TIMESTAMP_SLASHES:time_generated}
+PANOSADDRESSES=%{PANOSADDRESS:src},%{PANOSADDRESS:dst},%{PANOSADDRESS:natsrc}?,%{PANOSADDRESS:natdst}?
+PANOSPOLICY=%{PANOSVALUE:rule}?,%{PANOSVALUE:srcuser}?,%{PANOSVALUE:dstuser}?,%{PANOSVALUE:app}?,%{PANOSVALUE:vsys}?,%{PANOSVALUE:from}?,%{PANOSVALUE:to}?,%{PANOSVALUE:inbound_if}?,%{PANOSVALUE:outbound_if}?,%{PANOSVALUE:logset}?,%{PANOSVALUE}?
+PANOSSESSION=%{NONNEGINT:sessionid:int},%{NONNEGINT:repeatcnt:int},%{PORT:sport:int},%{PORT:dport:int},%{PORT:natsport:int},%{PORT:natdport:int},%{PANOSVALUE:flags}?,%{PANOSVALUE:proto},%{PANOSVALUE:action}
+PANOSCOUNTS=%{NONNEGINT:bytes:int},%{NONNEGINT:bytes_sent:int},%{NONNEGINT:bytes_received:int},%{NONNEGINT:packets:int},%{TIMESTAMP_SLASHES:start},%{NONNEGINT:elapsed:int},%{PANOSVALUE:category}?
+PANOSTRAFFIC=(?:%{SYSLOGBASE2} )?%{PANOSHEAD},%{PANOSADDRESSES},%{PANOSPOLICY},%{PANOSSESSION},%{PANOSCOUNTS}(?:,.*)?
+
+# The log of Windows' firewall, pfirewall.log (Microsoft's documentation, "Interpreting the Windows Firewall log"), under the names of
+# its line `#Fields:`. Newer versions write a process at the end. A field that is `-` has no key.
+WINFIREWALLACTION=(?:ALLOW|DROP|OPEN|CLOSE|OPEN-INBOUND|INFO-EVENTS-LOST)
+WINFIREWALLPROTOCOL=[0-9A-Za-z-]+
+WINFIREWALLADDRESS=[0-9A-Fa-f.:]+
+WINFIREWALLFLAGS=[A-Z]+
+WINFIREWALLPATH=(?:SEND|RECEIVE|FORWARD|UNKNOWN)
+WINFIREWALLENDS=(?:-|%{WINFIREWALLADDRESS:src-ip}) (?:-|%{WINFIREWALLADDRESS:dst-ip}) (?:-|%{PORT:src-port:int}) (?:-|%{PORT:dst-port:int}) (?:-|%{NONNEGINT:size:int})
+WINFIREWALLTCP=(?:-|%{WINFIREWALLFLAGS:tcpflags}) (?:-|%{NONNEGINT:tcpsyn:int}) (?:-|%{NONNEGINT:tcpack:int}) (?:-|%{NONNEGINT:tcpwin:int})
+WINFIREWALLREST=(?:-|%{NONNEGINT:icmptype:int}) (?:-|%{NONNEGINT:icmpcode:int}) (?:-|%{NOTSPACE:info}) (?:-|%{WINFIREWALLPATH:path})(?: (?:-|%{NONNEGINT:pid:int}))?
+WINFIREWALL=%{DATE_ISO8601:date} %{TIME:time} %{WINFIREWALLACTION:action} %{WINFIREWALLPROTOCOL:protocol} %{WINFIREWALLENDS} %{WINFIREWALLTCP} %{WINFIREWALLREST}
 "##;

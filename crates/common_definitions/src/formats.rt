@@ -13,7 +13,7 @@ pub struct LineFormat {
 }
 
 /// The formats of lines. Of several names for one format, one is here.
-static LINE_FORMATS: [LineFormat; 80] = [
+static LINE_FORMATS: [LineFormat; 96] = [
     LineFormat {
         name: "SYSLOGLINE",
         needs: Some(
@@ -59,9 +59,24 @@ static LINE_FORMATS: [LineFormat; 80] = [
         example: "Mar  7 04:15:01 db1 CRON[20911]: (root) CMD (/usr/local/bin/backup)",
     },
     LineFormat {
+        name: "SUDOLINE",
+        needs: None,
+        example: "Mar  7 04:06:31 web-07 sudo:    alice : TTY=pts/1 ; PWD=/home/alice ; USER=root ; COMMAND=/usr/bin/systemctl restart nginx",
+    },
+    LineFormat {
         name: "IPTABLESLINE",
         needs: None,
         example: "Mar  7 04:05:09 web-07 kernel: [ 8123.456789] [UFW BLOCK] IN=eth0 OUT= MAC=52:54:00:12:34:56:52:54:00:65:43:21:08:00 SRC=203.0.113.9 DST=192.0.2.1 LEN=60 TOS=0x00 PREC=0x00 TTL=52 ID=61266 DF PROTO=TCP SPT=51234 DPT=22 WINDOW=64240 RES=0x00 SYN URGP=0",
+    },
+    LineFormat {
+        name: "AUDITLOG",
+        needs: None,
+        example: r#"type=USER_LOGIN msg=audit(1772856306.123:456): pid=2210 uid=0 auid=1000 ses=4 msg='op=login id=1000 exe="/usr/sbin/sshd" hostname=192.0.2.17 addr=192.0.2.17 terminal=/dev/pts/1 res=success'"#,
+    },
+    LineFormat {
+        name: "DPKGLOG",
+        needs: None,
+        example: "2026-03-07 04:05:06 upgrade libc6:amd64 2.36-9+deb12u9 2.36-9+deb12u10",
     },
     LineFormat {
         name: "COMMONAPACHELOG",
@@ -179,14 +194,79 @@ static LINE_FORMATS: [LineFormat; 80] = [
         example: "Mar  7 04:05:09 fw1 kernel: Shorewall:net2fw:DROP:IN=eth0 OUT= MAC=52:54:00:12:34:56:52:54:00:65:43:21:08:00 SRC=203.0.113.9 DST=192.0.2.1 LEN=60 TOS=0x00 PREC=0x00 TTL=52 ID=61266 DF PROTO=TCP SPT=51234 DPT=22 WINDOW=64240 RES=0x00 SYN URGP=0",
     },
     LineFormat {
+        name: "SNORTALERT",
+        needs: None,
+        example: "03/07-04:05:06.123456  [**] [1:2100498:7] GPL ATTACK_RESPONSE id check returned root [**] [Classification: Potentially Bad Traffic] [Priority: 2] {TCP} 203.0.113.9:80 -> 192.0.2.17:51234",
+    },
+    LineFormat {
+        name: "FAIL2BAN",
+        needs: None,
+        example: "2026-03-07 04:05:06,123 fail2ban.actions        [2201]: NOTICE  [sshd] Ban 203.0.113.9",
+    },
+    LineFormat {
+        name: "FORTIGATE",
+        needs: None,
+        example: r#"date=2026-03-07 time=04:05:06 devname="fw1" devid="FGT60E0000000001" eventtime=1772856306123456789 tz="+0100" logid="0000000013" type="traffic" subtype="forward" level="notice" vd="root" srcip=192.0.2.17 srcport=51234 dstip=203.0.113.9 dstport=443 action="close""#,
+    },
+    LineFormat {
+        name: "PANOSTRAFFIC",
+        needs: None,
+        example: "Mar  7 04:05:06 fw1 1,2026/03/07 04:05:06,001801000001,TRAFFIC,end,2305,2026/03/07 04:05:05,192.0.2.17,203.0.113.9,198.51.100.7,203.0.113.9,allow-web,example\\alice,,ssl,vsys1,trust,untrust,ethernet1/2,ethernet1/1,forward-all,2026/03/07 04:05:06,4711,1,51234,443,40001,443,0x400053,tcp,allow,5120,1024,4096,20,2026/03/07 04:04:51,15,business-and-economy,0",
+    },
+    LineFormat {
+        name: "WINFIREWALL",
+        needs: None,
+        example: "2026-03-07 04:05:06 DROP TCP 203.0.113.9 192.0.2.17 51234 22 60 S 305419896 0 64240 - - - RECEIVE",
+    },
+    LineFormat {
         name: "BIND9",
         needs: None,
         example: "07-Mar-2026 04:05:06.123 queries: info: client @0x7f8b1c0a 192.0.2.17#51234 (www.example.com): query: www.example.com IN A +E(0)K (198.51.100.1)",
     },
     LineFormat {
+        name: "DNSMASQLINE",
+        needs: None,
+        example: "Mar  7 04:05:06 gw dnsmasq[2201]: query[A] www.example.com from 192.0.2.17",
+    },
+    LineFormat {
+        name: "COREDNS",
+        needs: None,
+        example: r#"[INFO] 192.0.2.17:51234 - 4711 "A IN www.example.com. udp 41 false 512" NOERROR qr,rd,ra 82 0.000123456s"#,
+    },
+    LineFormat {
+        name: "UNBOUND",
+        needs: None,
+        example: "[1772856306] unbound[2201:0] info: 192.0.2.17 www.example.com. A IN NOERROR 0.000000 1 49",
+    },
+    LineFormat {
+        name: "XFERLOG",
+        needs: None,
+        example: "Sat Mar  7 04:05:06 2026 1 192.0.2.17 1024 /srv/ftp/pub/a.txt b _ o r alice ftp 0 * c",
+    },
+    LineFormat {
         name: "EXIM",
         needs: None,
         example: "2026-03-07 04:05:06 1tqLmA-0002Xx-1A <= alice@example.com H=mail.example.com [192.0.2.17] P=esmtps S=1024",
+    },
+    LineFormat {
+        name: "POSTFIXLINE",
+        needs: None,
+        example: "Mar  7 04:05:06 mail postfix/smtp[2201]: 3F6F490C56: to=<bob@example.com>, relay=mx.example.com[198.51.100.4]:25, delay=1.2, delays=0.1/0/0.4/0.7, dsn=2.0.0, status=sent (250 2.0.0 Ok: queued as F5A86F7CF0)",
+    },
+    LineFormat {
+        name: "DOVECOTLOGIN",
+        needs: None,
+        example: "Mar  7 04:05:06 mail dovecot: imap-login: Login: user=<alice>, method=PLAIN, rip=192.0.2.17, lip=198.51.100.1, mpid=2201, TLS, session=<k2mSEBTi1a7AAAIR>",
+    },
+    LineFormat {
+        name: "SLAPDLINE",
+        needs: None,
+        example: r#"Mar  7 04:05:06 ldap1 slapd[2201]: conn=1017 op=1 SRCH base="dc=example,dc=com" scope=2 deref=0 filter="(uid=alice)""#,
+    },
+    LineFormat {
+        name: "DHCPDLINE",
+        needs: None,
+        example: "Mar  7 04:05:06 gw dhcpd[2201]: DHCPACK on 192.0.2.50 to 52:54:00:12:34:56 (laptop-3) via eth0",
     },
     LineFormat {
         name: "NAGIOSSTATELINE",

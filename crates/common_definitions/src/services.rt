@@ -1,4 +1,5 @@
-//! The logs of services of a network: BIND, Exim, Nagios and Zeek.
+//! The logs of services of a network: BIND, Exim, Nagios, Zeek, Postfix, Dovecot, OpenLDAP, dhcpd, dnsmasq, CoreDNS, Unbound and
+//! the transfers of FTP.
 
 pub const SERVICES: &str = r##"
 # The queries that BIND 9 logs (its Administrator Reference Manual, logging, the category "queries").
@@ -90,4 +91,102 @@ BRO_HTTP=%{BROHEAD}\t%{BROHTTPREQUEST}\t%{BROHTTPRESULT}\t%{BROHTTPCLIENT}\t%{BR
 BROFILEHEAD=%{NUMBER:ts:float}\t%{NOTSPACE:fuid}\t(?:-|%{IP:tx_hosts})\t(?:-|%{IP:rx_hosts})\t(?:-|%{NOTSPACE:conn_uids})\t(?:-|%{BROFIELD:source})\t%{NONNEGINT:depth:int}\t(?:-|%{BROFIELD:analyzers})\t(?:-|%{BROFIELD:mime_type})\t(?:-|%{BROFIELD:filename})
 BROFILESIZES=(?:-|%{NUMBER:duration:float})\t(?:-|%{BROBOOL:local_orig})\t(?:-|%{BROBOOL:is_orig})\t%{NONNEGINT:seen_bytes:int}\t(?:-|%{NONNEGINT:total_bytes:int})\t%{NONNEGINT:missing_bytes:int}\t%{NONNEGINT:overflow_bytes:int}\t%{BROBOOL:timedout}
 BRO_FILES=%{BROFILEHEAD}\t%{BROFILESIZES}\t(?:-|%{NOTSPACE:parent_fuid})\t(?:-|%{BROFIELD:md5})\t(?:-|%{BROFIELD:sha1})\t(?:-|%{BROFIELD:sha256})\t(?:-|%{BROFIELD:extracted})
+
+# The lines of syslog of Postfix: clients (smtpd), messages in the queue (cleanup, qmgr) and deliveries (smtp, lmtp, local, pipe), under
+# the names that Postfix uses (postconf(5): syslog_name, enable_long_queue_ids, delay_logging_resolution_limit, and its
+# SMTPD_POLICY_README for those of the client). An address that is empty or `unknown` and a relay that is `none` have no key. Any
+# other line of Postfix has a `message`.
+POSTFIXPROGRAM=postfix[0-9A-Za-z-]*(?:/[0-9A-Za-z-]+)+
+POSTFIXBASE=%{SYSLOGTIME:timestamp} %{SYSLOGHOST:logsource} %{POSTFIXPROGRAM:program}\[%{NONNEGINT:pid:int}\]:
+POSTFIXQUEUEID=(?:[0-9A-F]{6,}|[0-9B-DF-HJ-NP-TV-Zb-df-hj-np-tv-z]{10,})
+POSTFIXADDRESS=[^<>]+
+POSTFIXVALUE=[^\s,]+
+POSTFIXHOST=[^\s\[\]]+
+POSTFIXCLIENT=%{POSTFIXHOST:client_name}\[(?:unknown|%{IP:client_address})\](?::%{PORT:client_port:int})?
+POSTFIXEVENT=(?:(?:dis)?connect|(?:lost connection|timeout|too many errors) after [A-Z-]+(?: \([0-9]+ bytes\))?|(?:milter-)?reject: [A-Z-]+)
+POSTFIXCOUNTS=[a-z]+=[0-9/]+(?: [a-z]+=[0-9/]+)*
+POSTFIXSASL=, sasl_method=%{POSTFIXVALUE:sasl_method}(?:, sasl_username=%{POSTFIXVALUE:sasl_username})?
+POSTFIXSESSION=(?:%{POSTFIXEVENT:event} from |client=)%{POSTFIXCLIENT}(?:%{POSTFIXSASL}| %{POSTFIXCOUNTS:pairs}|: %{GREEDYDATA:details})?
+POSTFIXENVELOPE=from=<%{POSTFIXADDRESS:from}?>, size=%{NONNEGINT:size:int}, nrcpt=%{NONNEGINT:nrcpt:int} \(queue active\)
+POSTFIXDELAYS=[0-9.]+(?:/[0-9.]+){3}
+POSTFIXDSN=[245]\.[0-9]{1,3}\.[0-9]{1,3}
+POSTFIXSTATUS=[a-z]+
+POSTFIXRECIPIENT=to=<%{POSTFIXADDRESS:to}>(?:, orig_to=<%{POSTFIXADDRESS:orig_to}>)?, relay=(?:none|%{POSTFIXVALUE:relay})(?:, conn_use=%{NONNEGINT:conn_use:int})?
+POSTFIXDELIVERY=%{POSTFIXRECIPIENT}, delay=%{NUMBER:delay:float}, delays=%{POSTFIXDELAYS:delays}, dsn=%{POSTFIXDSN:dsn}, status=%{POSTFIXSTATUS:status} \(%{GREEDYDATA:reason}\)
+POSTFIXID=message-id=<%{POSTFIXADDRESS:message-id}>
+POSTFIXLINE=%{POSTFIXBASE} (?:(?:NOQUEUE|%{POSTFIXQUEUEID:queue_id}): )?(?:%{POSTFIXDELIVERY}|%{POSTFIXENVELOPE}|%{POSTFIXID}|%{POSTFIXSESSION}|%{GREEDYDATA:message})
+
+# The logins of Dovecot (its documentation, "login_log_format_elements"), in a log of its own and in syslog. A user that is empty has
+# no key.
+DOVECOTSERVICE=[a-z0-9]+-login
+DOVECOTVALUE=[^<>]+
+DOVECOTWORD=[^\s,]+
+DOVECOTSECURED=(?:secured|TLS[^,]*)
+DOVECOTADDRESSES=rip=%{IP:rip}, lip=%{IPTABLESADDRESS:lip}
+DOVECOTELEMENTS=(?:user=<%{DOVECOTVALUE:user}?>, )?(?:method=%{DOVECOTWORD:method}, )?%{DOVECOTADDRESSES}(?:, mpid=%{NONNEGINT:mpid:int})?(?:, %{DOVECOTSECURED:secured})?(?:, session=<%{DOVECOTVALUE:session}>)?
+DOVECOTLOGIN=%{SYSLOGTIME:timestamp} (?:%{SYSLOGHOST:logsource} %{PROG:program}(?:\[%{NONNEGINT:pid:int}\])?: )?%{DOVECOTSERVICE:service}: (?:%{LOGLEVEL:level}: )?%{DATA:event}: %{DOVECOTELEMENTS}
+
+# The lines of syslog of slapd, OpenLDAP's server, at its level `stats` (man slapd.conf, loglevel; the OpenLDAP Administrator's
+# Guide). Times of an operation are there since version 2.5.
+SLAPDPEER=(?:IP=\[?%{IP:clientip}\]?:%{PORT:clientport:int}|PATH=%{NOTSPACE:path})
+SLAPDLISTENER=[^()]+
+SLAPDCONNECTION=fd=%{NONNEGINT:fd:int} (?:ACCEPT from %{SLAPDPEER} \(%{SLAPDLISTENER:listener}\)|%{GREEDYDATA:message})
+SLAPDTIMES= qtime=%{NUMBER:qtime:float} etime=%{NUMBER:etime:float}
+SLAPDTEXT=.+
+SLAPDRESULT=(?:tag=%{NONNEGINT:tag:int}|oid=%{NOTSPACE:oid}?) err=%{NONNEGINT:err:int}%{SLAPDTIMES}?(?: nentries=%{NONNEGINT:nentries:int})? text=%{SLAPDTEXT:text}?
+SLAPDSEARCH=base="%{INQUOTES:base}" scope=%{NONNEGINT:scope:int} deref=%{NONNEGINT:deref:int} filter="%{INQUOTES:filter}"
+SLAPDBIND= (?:method=%{NONNEGINT:method:int}|mech=%{NOTSPACE:mech}(?: bind_ssf=%{NONNEGINT:bind_ssf:int})? ssf=%{NONNEGINT:ssf:int})
+SLAPDENTRY=dn="%{INQUOTES:dn}"%{SLAPDBIND}?
+SLAPDOPERATION=(?:SEARCH RESULT|[A-Z]+)
+SLAPDREQUEST=op=%{NONNEGINT:op:int} %{SLAPDOPERATION:operation}(?: (?:%{SLAPDRESULT}|%{SLAPDSEARCH}|%{SLAPDENTRY}|%{GREEDYDATA:details}))?
+SLAPD=conn=%{INT:conn:int} (?:%{SLAPDCONNECTION}|%{SLAPDREQUEST})
+SLAPDLINE=%{SYSLOGBASE} %{SLAPD}
+
+# The requests of clients and the answers that ISC's dhcpd logs (man dhcpd; its source server/dhcp.c).
+DHCPDTYPE=DHCP(?:DISCOVER|OFFER|REQUEST|DECLINE|ACK|NAK|RELEASE|INFORM)
+DHCPDNAME=[^()]+
+DHCPDVIA=[^\s:]+
+DHCPDADDRESS=(?:on|for|of|from) %{IPV4:ip}(?: \(%{IPV4:server}\))?
+DHCPDCLIENT=(?:to|from) %{COMMONMAC:mac}(?: \(%{DHCPDNAME:hostname}\))?
+DHCPD=%{DHCPDTYPE:type}(?: %{DHCPDADDRESS})?(?: %{DHCPDCLIENT})? via %{DHCPDVIA:via}(?:(?: |: )%{GREEDYDATA:message})?
+DHCPDLINE=%{SYSLOGBASE} %{DHCPD}
+
+# The queries that dnsmasq logs (man dnsmasq, --log-queries, also with `extra`), in syslog and in a log of its own, which has no host.
+DNSMASQPROGRAM=dnsmasq
+DNSMASQBASE=%{SYSLOGTIME:timestamp} (?:%{SYSLOGHOST:logsource} )?%{DNSMASQPROGRAM:program}(?:\[%{NONNEGINT:pid:int}\])?:
+DNSMASQEXTRA=%{NONNEGINT:serial:int} %{IPTABLESADDRESS:requestor}/%{PORT:port:int}
+DNSMASQACTION=[^\s\[\]]+
+DNSMASQTYPE=[^\s\[\]]+
+DNSMASQ=%{DNSMASQACTION:action}(?:\[%{DNSMASQTYPE:type}\])? %{NOTSPACE:name} (?:from %{IP:client}|to %{NOTSPACE:server}|is %{GREEDYDATA:answer})
+DNSMASQLINE=%{DNSMASQBASE} (?:%{DNSMASQEXTRA} )?%{DNSMASQ}
+
+# The queries that CoreDNS logs (its plugin `log`, the format `common`, which is the default one). A field that is `-` has no key.
+COREDNSCLIENT=\[?%{IP:remote}\]?:%{PORT:port:int}
+COREDNSBOOL=(?:true|false)
+COREDNSQUERY=%{NONNEGINT:id:int} "%{WORD:type} %{WORD:class} %{NOTSPACE:name} %{WORD:proto} %{NONNEGINT:size:int} %{COREDNSBOOL:do} %{NONNEGINT:bufsize:int}"
+COREDNSANSWER=(?:-|%{WORD:rcode}) (?:-|%{NOTSPACE:rflags}) %{NONNEGINT:rsize:int} %{NUMBER:duration:float}s
+COREDNS=(?:%{TIMESTAMP_ISO8601:timestamp} )?\[%{LOGLEVEL:level}\] %{COREDNSCLIENT} - %{COREDNSQUERY} %{COREDNSANSWER}
+
+# The log of Unbound, in a file and in syslog (man unbound.conf: log-queries, log-replies, log-tag-queryreply, log-time-ascii). A line is
+# the answer to a query, a query, or another message. A thread has a hexadecimal number.
+UNBOUNDLEVEL=(?:fatal error|error|warning|notice|info|debug|query|reply)
+UNBOUNDTHREAD=[0-9a-f]+
+UNBOUNDSOURCE=(?:\[%{NONNEGINT:epoch:int}\]|%{SYSLOGTIME:timestamp}(?: %{SYSLOGHOST:logsource})?) %{PROG:program}(?:(?:\[[0-9]+\])?: )?
+UNBOUNDBASE=%{UNBOUNDSOURCE}\[%{NONNEGINT:pid:int}:%{UNBOUNDTHREAD:thread}\] %{UNBOUNDLEVEL:level}:
+UNBOUNDCODE=[A-Z0-9]+
+UNBOUNDCACHED=[01]
+UNBOUNDREPLY=%{UNBOUNDCODE:rcode} %{NUMBER:time:float} %{UNBOUNDCACHED:cached:int} %{NONNEGINT:size:int}
+UNBOUNDQUERY=%{IP:client} %{NOTSPACE:name} %{UNBOUNDCODE:type} %{UNBOUNDCODE:class}(?: %{UNBOUNDREPLY})?
+UNBOUND=%{UNBOUNDBASE} (?:%{UNBOUNDQUERY}|%{GREEDYDATA:message})
+
+# The transfers that wu-ftpd, ProFTPD and vsftpd log (man xferlog). An action that is `_` and a user that is `*` have no key.
+XFERLOGACTION=[CUT]+
+XFERLOGFILE=%{NONNEGINT:file_size:int} %{NOTSPACE:filename} %{XFERLOGTYPE:transfer_type} (?:_|%{XFERLOGACTION:special_action_flag}) %{XFERLOGDIRECTION:direction}
+XFERLOGTYPE=[ab]
+XFERLOGDIRECTION=[oid]
+XFERLOGMODE=[agr]
+XFERLOGMETHOD=[01]
+XFERLOGSTATUS=[ci]
+XFERLOGUSER=%{XFERLOGMODE:access_mode} %{NOTSPACE:username} %{NOTSPACE:service_name} %{XFERLOGMETHOD:authentication_method:int} (?:\*|%{NOTSPACE:authenticated_user_id})
+XFERLOG=%{TIMESTAMP_CTIME:timestamp} %{NONNEGINT:transfer_time:int} %{IPORHOST:remote_host} %{XFERLOGFILE} %{XFERLOGUSER} %{XFERLOGSTATUS:completion_status}
 "##;

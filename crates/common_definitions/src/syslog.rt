@@ -1,4 +1,4 @@
-//! Lines of syslog and of the journal, and the messages of PAM, cron and the kernel's firewall.
+//! Lines of syslog and of the journal, the messages of PAM, cron, sudo and the kernel's firewall, and the logs of auditd and dpkg.
 
 pub const SYSLOG: &str = r##"
 # Names of programs. PROG has no blanks. PROGRAM also has further words, if these begin with a capital, a digit or a bracket,
@@ -69,4 +69,26 @@ IPTABLESTCP=(?:SEQ=[0-9]+ ACK=[0-9]+ )?WINDOW=%{NONNEGINT:window:int} RES=%{IPTA
 IPTABLESICMP=TYPE=%{NONNEGINT:type:int} CODE=%{NONNEGINT:code:int}
 IPTABLES=%{IPTABLESDEVICES} +%{IPTABLESIP}(?: %{IPTABLESPORTS}(?: %{IPTABLESTCP})?| %{IPTABLESICMP})?
 IPTABLESLINE=%{SYSLOGBASE} (?:\[ *[0-9]+\.[0-9]+\] )?%{DATA:prefix}%{IPTABLES}.*
+
+# The commands that sudo logs, under the names of the manual (man sudoers, "LOG FORMAT"). `reason` is why a command was refused.
+SUDOREASON=[^;=]+
+SUDOPLACE=(?:HOST=%{NOTSPACE:host} ; )?(?:TTY=%{NOTSPACE:ttyname} ; )?(?:CHROOT=%{DATA:chroot} ; )?PWD=%{DATA:cwd} ;
+SUDOTARGET=USER=%{NOTSPACE:runasuser} ; (?:GROUP=%{NOTSPACE:runasgroup} ; )?(?:TSID=%{NOTSPACE:logid} ; )?(?:ENV=%{DATA:env_vars}(?: ;)? )?COMMAND=%{GREEDYDATA:command}
+SUDO=%{NOTSPACE:username} : (?:%{SUDOREASON:reason} ; )?%{SUDOPLACE} %{SUDOTARGET}
+SUDOLINE=%{SYSLOGBASE} +%{SUDO}
+
+# The records of the Linux audit daemon (man auditd.conf: name_format, log_format; man ausearch for the serial number).
+AUDITTYPE=(?:[A-Z0-9_]+|UNKNOWN\[[0-9]+\])
+AUDITLOG=(?:node=%{NOTSPACE:node} )?type=%{AUDITTYPE:type} msg=audit\(%{NUMBER:timestamp:float}:%{NONNEGINT:serial:int}\):(?: %{GREEDYDATA:pairs})?
+
+# The log of dpkg (man dpkg, --log). A version that is `<none>` has no key.
+DPKGVALUE=[^\s<>]+
+DPKGTYPE=(?:archives|packages)
+DPKGSTATE=(?:not-installed|config-files|half-installed|unpacked|half-configured|triggers-awaited|triggers-pending|installed)
+DPKGACTION=(?:install|upgrade|configure|trigproc|disappear|remove|purge)
+DPKGDECISION=(?:install|keep)
+DPKGSTARTUP=startup %{DPKGTYPE:type} %{DPKGVALUE:command}
+DPKGCONFFILE=conffile %{NOTSPACE:filename} %{DPKGDECISION:decision}
+DPKGPACKAGE=(?:status %{DPKGSTATE:state}|%{DPKGACTION:action}) %{DPKGVALUE:pkg} (?:<none>|%{DPKGVALUE:installed_version})(?: (?:<none>|%{DPKGVALUE:available_version}))?
+DPKGLOG=%{TIMESTAMP_ISO8601:timestamp} (?:%{DPKGSTARTUP}|%{DPKGCONFFILE}|%{DPKGPACKAGE})
 "##;
