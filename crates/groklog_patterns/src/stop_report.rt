@@ -141,8 +141,8 @@ impl ReportWriter {
         }
     }
 
-    /// Appends the fields that the beginning found, except those of the groups in `open`, which it
-    /// didn't come to the end of.
+    /// Appends the fields that the beginning found, except those of the groups in `open`, whose end it
+    /// didn't reach.
     fn push_fields(
         &mut self,
         stopped: StoppedLine<'_, '_, '_>,

@@ -9,7 +9,7 @@
 //! let lines = ["12 user bob", "7 user eve"];
 //! let sample = SampleLines { lines: &lines, firsts: &["12 user bob"] };
 //! let advice = advise(alloc, &library, formats, sample)?;
-//! // advice.together[0].text is ^%{INT:number:int} user %{WORD:word}$, for 2 lines
+//! // advice.combined[0].text is ^%{INT:number:int} user %{WORD:word}$, for 2 lines
 //! ```
 //!
 //! Where a call has no section `# Errors`, its error is a failed allocation.
