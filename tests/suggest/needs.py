@@ -8,7 +8,7 @@ from harness import ROOT, Wrong
 
 FORMATS = os.path.join(ROOT, "crates", "common_definitions", "src", "formats.rt")
 TABLE = os.path.join(ROOT, "tests", "suggest", "needs.rows")
-FORMAT = re.compile(r'name: "(\w+)",\s+needs: Some\(\s*r?"(.*?)",?\s*\),\n')
+FORMAT = re.compile(r'"(\w+)" => (?:\{\s*)?Some\(\s*r?"(.*?)",?\s*\)[,\s]')
 
 
 def patterns():
@@ -16,7 +16,7 @@ def patterns():
     with open(FORMATS, encoding="utf-8") as file:
         text = file.read()
     found = dict(FORMAT.findall(text))
-    if len(found) != text.count("needs: Some("):
+    if len(found) != text.count("=> Some(") + text.count("=> {"):
         raise Wrong(f"{FORMATS} has another form than this script reads")
     return found
 

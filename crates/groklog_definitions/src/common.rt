@@ -39,7 +39,7 @@ fn push_formats(alloc: Global, lines: &mut String) -> Result<(), AllocError> {
     lines.push_str(
         "# The formats of whole lines, each with an example; after them come all definitions.\n#\n",
     )?;
-    for format in line_formats() {
+    for format in &line_formats(alloc)? {
         let LineFormat { name, example, .. } = *format;
         lines.push_str(format!(in alloc; "# {name:<21}  {example}\n")?.as_str())?;
     }

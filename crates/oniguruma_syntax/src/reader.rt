@@ -95,17 +95,20 @@ fn read_trimmed<'a>(alloc: Global, text: &'a str) -> Result<Option<Placeholder<'
                 range,
                 name,
                 alias,
+                extract,
                 ..
             },
         ) if range.end == trimmed.len() => {
             let (_, words) = split_after(whole, 2);
             let (name, rest) = split_after(words, name.len());
             let (_, rest) = split_after(rest, 1);
+            let (alias, rest) = split_after(rest, alias.len());
+            let (_, rest) = split_after(rest, 1);
             Ok(Some(Placeholder {
                 text: whole,
                 name,
-                alias: split_after(rest, alias.len()).0,
-                extract: "",
+                alias,
+                extract: split_after(rest, extract.len()).0,
                 definition: "",
                 is_trimmed: true,
             }))

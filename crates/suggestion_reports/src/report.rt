@@ -158,7 +158,7 @@ fn formats_of<'a>(alloc: Global, library: &Library<'a>) -> Result<Vec<Format<'a>
             needs: None,
         })?;
     }
-    for format in line_formats() {
+    for format in &line_formats(alloc)? {
         formats.push(Format {
             name: format.name,
             needs: format.needs,

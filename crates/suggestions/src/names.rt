@@ -284,14 +284,24 @@ fn name_before<'l>(columns: &[Column<'l>], index: usize) -> Option<&'l str> {
     word_at(columns, mark?.checked_sub(1))
 }
 
+fn is_number_at(columns: &[Column<'_>], index: Option<usize>) -> bool {
+    at(columns, index).is_some_and(|column| column.is_number())
+}
+
 /// Returns the literal word before the column at `index`, with a blank between them, if it says what the column has. The unit
-/// of a number, as in `12ms 3`, doesn't.
+/// of a number, as in `12ms 3` and `12 ms 3`, doesn't.
 fn word_before<'l>(columns: &[Column<'l>], index: usize) -> Option<&'l str> {
-    let is_unit = at(columns, index.checked_sub(3)).is_some_and(|before| before.is_number());
-    if is_unit || !is_blank_at(columns, index.checked_sub(1)) {
+    let before = index.checked_sub(3);
+    if is_number_at(columns, before) || !is_blank_at(columns, index.checked_sub(1)) {
         return None;
     }
-    telling(word_at(columns, index.checked_sub(2)))
+    let word = telling(word_at(columns, index.checked_sub(2)))?;
+    let is_after_number = is_blank_at(columns, before)
+        && is_number_at(columns, index.checked_sub(4));
+    if is_after_number && unit_key(word).is_some() {
+        return None;
+    }
+    Some(word)
 }
 
 /// Returns the literal word after the column at `index`, with a blank between them, if it says what the column has.
