@@ -597,4 +597,43 @@ CASES = [
            proposal(2, r"groklog '^\(%{INT:number:int}"
                        + "".join(f" %{{INT:number{n}:int}}" for n in range(2, min(count, 50) + 1)) + end + "$' log"))
       for count, end, why in [(50, "", "each of them gets a column"), (51, "%{GREEDYDATA:message}", "the last two are a message")]),
+    Case("a value that one line lacks", "it is empty there", "id= user 5\nid=7 user 6\nid=a-b user 7\n",
+         proposal(3, "groklog '^id=%{DATA:id} user %{INT:user:int}$' log")),
+    Case("a value that one line lacks, after others", "it is empty there",
+         "up 06:25:01 by= for 3 s\nup 06:25:02 by=7 for 4 s\nup 06:25:03 by=a-b for 5 s\n",
+         proposal(3, "groklog '^up %{TIME:timestamp} by=%{DATA:by} for %{INT:duration_s:int} s$' log")),
+    Case("a last value between semicolons that one line lacks", "it is empty there", "1;2;3;x-y\n4;5;6;\n7;8;9;z\n",
+         "each line has 4 values, which mlr reads, too:\nmlr --icsv --ifs ';' --implicit-csv-header --ojson cat log\n"
+         + proposal(3, "groklog '^%{INT:number:int};%{INT:number2:int};%{INT:number3:int};%{DATA:field}$' log")),
+    Case("brackets with nothing in them in one line", "what they have is empty there",
+         "".join(f"06:25:0{n} [{name}] done {n}\n" for n, name in enumerate(["", "bob", "eve smith"], 1)),
+         proposal(3, r"groklog '^%{TIME:timestamp} \[%{DATA:field}\] done %{INT:done:int}$' log")),
+    Case("a name after a known format that is a key of it", "no key comes twice",
+         "".join(COMBINED.format(n, n, n) + f" bytes={n * 100} ms={n}\n" for n in range(1, 5)),
+         rows((4, 13, "groklog '^%{COMBINEDAPACHELOG} bytes=%{INT:bytes2:int} ms=%{INT:ms:int}$' log"))),
+    *(Case(f"the names {names[0]}, {names[1]} and {names[2]}", "no key comes twice",
+           "".join(" ".join(f"{name}={n * m}" for m, name in enumerate(names, 2)) + "\n" for n in (1, 2)),
+           proposal(2, "groklog '^" + " ".join(f"{name}=%{{INT:{key}:int}}" for name, key in zip(names, keys)) + "$' log"))
+      for names, keys in [(["a", "a", "a"], ["a", "a2", "a3"]), (["a", "a", "a2"], ["a", "a2", "a22"]), (["a2", "a", "a"], ["a2", "a", "a3"])]),
+    Case("a header of two lines before events", "it is an event of its own, and those after it are events all the same",
+         "Log opened\nby door control\n" + "".join(f"06:25:{n} ERROR a\n  more\n" for n in range(10, 20)),
+         "the lines are parts of 11 events\n" + proposal(
+             10, r"groklog --start '^%{TIME}' '^%{TIME:timestamp} %{LOGLEVEL:level} a(?:\n(?<more>(?s:.*)))?$' log", of=11, unit="events")),
+    Case("a header of three lines and a blank one before events", "it is an event of its own, and those after it are events all the same",
+         "Log opened\nby door control\nversion two\n\n" + "".join(f"06:25:{n} ERROR a\n  more\n" for n in range(10, 20)),
+         "the lines are parts of 11 events\n" + proposal(
+             10, r"groklog --start '^%{TIME}' '^%{TIME:timestamp} %{LOGLEVEL:level} a(?:\n(?<more>(?s:.*)))?$' log", of=11, unit="events")),
+    Case("a header that begins with words in capitals before events", "it is an event of its own, and those after it are events all the same",
+         "LOG opened\nLOG of doors\n" + "".join(f"06:25:{n} ERROR a\n  more\n" for n in range(10, 20)),
+         "the lines are parts of 11 events\n" + proposal(
+             10, r"groklog --start '^%{TIME}' '^%{TIME:timestamp} %{LOGLEVEL:level} a(?:\n(?<more>(?s:.*)))?$' log", of=11, unit="events")),
+    Case("one line that ends in a carriage return, with --crlf", "the command has it, so the line matches",
+         DOOR.format(1, 1).replace("\n", "\r\n") + DOOR.format(2, 2) + DOOR.format(3, 3),
+         proposal(3, "groklog --crlf '^door %{INT:door:int} opened by card %{INT:card:int}$' log"), words=["--crlf", "log"]),
+    Case("events whose lines end in carriage returns, with --crlf", "the command has it",
+         "".join(f"06:25:0{n} ERROR a\r\n  more\r\n" for n in range(3)), "the lines are parts of 3 events\n" + proposal(
+             3, r"groklog --crlf --start '^%{TIME}' '^%{TIME:timestamp} %{LOGLEVEL:level} a(?:\n(?<more>(?s:.*)))?$' log", unit="events"),
+         words=["--crlf", "log"]),
+    Case("a unit after a blank, before a number", "it names no number", "took 12 ms 3 done\ntook 13 ms 4 done\n",
+         proposal(2, "groklog '^took %{INT:took:int} ms %{INT:number:int} done$' log")),
 ]
