@@ -138,6 +138,7 @@ DEFINITION = {
     "%%%{A}": "[%][%]%{A}",
     "%{A?}": "%{A}",
     "%{A:a?}%{B:b?}": "%{A:a}%{B:b}",
+    "%{A:a:int?}%{B::float?}": "%{A:a:int}%{B::float}",
     r"%{A:v=x}%{B:w=\y}": "an escape that has no form for the engine at 14..16",
     "(?x)[ #] a": "(?:[ #]a)",
     r"(?x)a\ b": "(?:a b)",
