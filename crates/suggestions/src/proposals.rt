@@ -13,7 +13,7 @@ use std::alloc::{AllocError, Global};
 /// How many patterns are proposed at most.
 const MOST_PATTERNS: usize = 3;
 
-/// How many forms of lines a pattern is sought for at most. Not each of them has one.
+/// For how many forms of lines a pattern is sought at most. Not each of them has one.
 const MOST_FORMS: usize = 6;
 
 /// How many lines are aligned at most, the first ones. The patterns that are made from them are tried on
@@ -221,6 +221,28 @@ fn next_candidate<'l>(
     best_candidate(library, view, &template, lines)
 }
 
+/// Returns the best candidate for the first of `MOST_FORMS` forms that has one, and sets the lines of those before it aside.
+fn first_candidate<'l>(
+    library: &Library<'_>,
+    view: &LineView<'l>,
+    cutter: &mut Cutter<'_>,
+    left: &mut Vec<&'l str>,
+) -> Result<Option<Candidate>, AllocError>
+    ensures { IfOk result (λ found. IfSome found (λ candidate. 0 < candidate.fit.lines)) }
+{
+    for _ in 0..MOST_FORMS {
+        if left.is_empty() {
+            break;
+        }
+        let next = next_candidate(library, view, cutter, left)?;
+        if let Some(candidate) = next {
+            return Ok(Some(candidate));
+        }
+        *left = set_aside(view, cutter, left)?;
+    }
+    Ok(None)
+}
+
 fn push_fitting(proposals: &mut Vec<Proposal>, proposal: Proposal) -> Result<(), AllocError>
     requires { 0 < proposal.fit.lines }
     ensures len { OnOk result (vec_len proposals.new ≡ vec_len proposals.old + 1) }
@@ -231,7 +253,7 @@ fn push_fitting(proposals: &mut Vec<Proposal>, proposal: Proposal) -> Result<(),
 }
 
 /// Proposes patterns for lines, or for events of several lines, in this view. Each is for those that the patterns before
-/// it don't fit. Lines of one form that have no pattern are set aside. There are none if the lines have nothing in common.
+/// it don't fit. There are none if the lines have nothing in common.
 pub(crate) fn propose<'l>(
     recognizer: &Recognizer<'_, '_>,
     view: &LineView<'l>,
@@ -244,15 +266,12 @@ pub(crate) fn propose<'l>(
     let mut cutter = Cutter::new(alloc, recognizer.search(alloc)?);
     let mut proposals = Vec::new(alloc);
     let mut left = Vec::from_slice(alloc, lines)?;
-    'forms: for _ in 0..MOST_FORMS {
-        let is_enough = left.len() <= lines.len() / LINES_FOR_ONE_LEFT;
-        if is_enough || proposals.len() >= MOST_PATTERNS {
-            break;
-        }
-        let next = next_candidate(recognizer.library, view, &mut cutter, &left)?;
+    'patterns: while proposals.len() < MOST_PATTERNS
+        && left.len() > lines.len() / LINES_FOR_ONE_LEFT
+    {
+        let next = first_candidate(recognizer.library, view, &mut cutter, &mut left)?;
         let Some(candidate) = next else {
-            left = set_aside(view, &mut cutter, &left)?;
-            continue;
+            break;
         };
         left = candidate.unfit_lines(alloc, &left)?;
         let Candidate { text, fit, .. } = candidate;
