@@ -7,6 +7,7 @@ A script imports this from the folder above its own. Python looks in the script'
 import concurrent.futures
 import functools
 import itertools
+import multiprocessing
 import os
 import resource
 import subprocess
@@ -155,18 +156,33 @@ def beside(tests):
 
 
 def attempt(test):
-    """Runs a test, and returns it with what it returned, or with why it failed."""
+    """Runs a test, and returns what it returned, and why it failed, or None."""
     try:
-        return test, test(), None
+        return test(), None
     except FAILURES as wrong:
-        return test, None, failure(wrong)
+        return None, failure(wrong)
+
+
+def take_neighbours(tests):
+    """Begins a process that runs some of these tests."""
+    global neighbours
+    neighbours = tests
+
+
+def attempt_neighbour(number):
+    return attempt(neighbours[number])
 
 
 def attempts(tests):
-    """Runs these tests, and yields in their order what `attempt` returns. Neighbours that are `beside` one another run several at a time."""
-    with concurrent.futures.ThreadPoolExecutor(os.cpu_count()) as pool:
-        for is_beside, group in itertools.groupby(tests, lambda test: getattr(test, "is_beside", False)):
-            yield from (pool.map if is_beside else map)(attempt, group)
+    """Runs these tests, and yields each of them with what `attempt` returns, in their order. Neighbours that are `beside` one another run
+    several at a time, in processes of their own, since only one thread of a process runs Python at a time."""
+    for is_beside, group in itertools.groupby(tests, lambda test: getattr(test, "is_beside", False)):
+        group = list(group)
+        if is_beside:
+            with multiprocessing.get_context("fork").Pool(os.cpu_count(), take_neighbours, (group,)) as pool:
+                yield from zip(group, pool.imap(attempt_neighbour, range(len(group))))
+        else:
+            yield from ((test, attempt(test)) for test in group)
 
 
 def name_of(test):
@@ -180,7 +196,7 @@ def main(tests, least=1):
     failure."""
     word = sys.argv[1] if len(sys.argv) > 1 else ""
     passed = failed = 0
-    for test, figures, wrong in attempts([test for test in tests if word in name_of(test)]):
+    for test, (figures, wrong) in attempts([test for test in tests if word in name_of(test)]):
         if wrong is None:
             passed += 1
             print(f"{name_of(test)}: as it should be" + (f" ({figures})" if figures else ""), flush=True)
